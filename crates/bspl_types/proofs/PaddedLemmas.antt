@@ -1,0 +1,14 @@
+-- What is written over the front of blank cells is padded.
+use Rattle.std.proofs.Common.{◌≡◌, ◌≤◌, ℕ, List, ◌++◌, length, drop, replicate, arith, length-append, length-drop, ap, ◌∙◌, sym}
+use Rattle.std.proofs.lemmas.List.{drop-replicate, length-replicate}
+use Rattle.std.proofs.Math.Seq.{drop-append_seam}
+use Rattle.bspl_types.specs.Padded.{IsPadded}
+
+-- so many items at the front, and blanks where nothing was written
+pub front_is_padded : {X : Type 0} (room : ℕ) (blank : X) (n : ℕ) (items : List X) → length items ≡ n → n ≤ room → IsPadded room blank n (items ++ drop n (replicate room blank))
+front_is_padded room blank n items is_long fits =
+    record {
+      few = fits;
+      all = grind (arith, length-append, length-drop, length-replicate);
+      rest = ap (λ k. drop k (items ++ drop n (replicate room blank))) (sym is_long) ∙ drop-append_seam items (drop n (replicate room blank)) ∙ drop-replicate n room blank;
+    }

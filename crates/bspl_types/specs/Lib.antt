@@ -1,0 +1,13 @@
+pub mod Adornment
+pub mod Admission
+pub mod Expansion
+pub mod History
+pub mod Instance
+pub mod KeyAgrees
+pub mod Knowledge
+pub mod Name
+pub mod Padded
+pub mod Parts
+pub mod Pieces
+pub mod Shape
+pub mod Value

@@ -1,0 +1,58 @@
+-- What holds of every expansion: its numbers name what exists, its names are names and apart, its counts are within the limits.
+use Rattle.std.specs.Prelude.{◌≡◌, ◌≢◌, ℕ, ◌<◌, ◌≤◌, Bool, false, List, map, length, take, drop, Option, Some, None, IsTrue}
+use Rattle.std.specs.List.{All, AllPairs, filter, enumerate_from}
+use Rattle.bspl_types.specs.declared.limits.TheConstants.{ROLE_LIMIT, PARAM_LIMIT, KEY_LIMIT, CARRIED_LIMIT, MESSAGE_LIMIT}
+use Rattle.bspl_types.specs.declared.protocol.Adornment.{Adornment}
+use Rattle.bspl_types.specs.declared.protocol.Message.{Message}
+use Rattle.bspl_types.specs.declared.protocol.ParamInfo.{ParamInfo}
+use Rattle.bspl_types.specs.Adornment.{has_value}
+use Rattle.bspl_types.specs.Name.{is_name}
+
+-- each has a name, and no two have one name
+pub record AreNamed {X : Type 0} (name : X → List ℕ) (items : List X) : Type 0 where
+  pub named : All (λ x. IsTrue (is_name (name x))) items
+  pub apart : AllPairs (λ x y. name x ≢ name y) items
+
+-- public, and adorned `in` or `out`
+abbrev pub may_be_key : Option Adornment → Bool
+may_be_key None = false
+may_be_key (Some adornment) = has_value adornment
+
+-- exactly the first so many parameters are public, and only those adorned `in` or `out` are marked as keys
+pub record IsDeclared (public : ℕ) (params : List ParamInfo) : Type 0 where
+  pub some_public : 0 < public
+  pub within : public ≤ length params
+  pub public_adorned : All (λ p. p.adornment ≢ None) (take public params)
+  pub private_bare : All (λ p. p.adornment ≡ None) (drop public params)
+  pub keys_bound : All (λ p. IsTrue p.key → IsTrue (may_be_key p.adornment)) params
+
+-- the places of the parameters that are marked as keys, in order
+abbrev pub key_places : List ParamInfo → List ℕ
+key_places params = map (λ (place, _). place) (filter (λ (_, p). p.key) (enumerate_from 0 params))
+
+-- its roles and parameters exist, and it carries at least one parameter and not too many
+pub record IsMessageOf (roles params : ℕ) (m : Message) : Type 0 where
+  pub known_sender : m.sender < roles
+  pub known_receiver : m.receiver < roles
+  pub known_params : All (λ c. c.param < params) m.carried
+  pub some : 0 < length m.carried
+  pub few : length m.carried ≤ CARRIED_LIMIT
+
+-- there are not too many of each
+pub record IsWithinLimits (roles params keys messages : ℕ) : Type 0 where
+  pub few_roles : roles ≤ ROLE_LIMIT
+  pub few_params : params ≤ PARAM_LIMIT
+  pub few_keys : keys ≤ KEY_LIMIT
+  pub few_messages : messages ≤ MESSAGE_LIMIT
+
+-- a well-formed expansion
+pub record IsShape (name : List ℕ) (roles : List (List ℕ)) (params : List ParamInfo) (public : ℕ) (keys : List ℕ) (messages : List Message) : Type 0 where
+  pub named : IsTrue (is_name name)
+  pub role_names : AreNamed (λ name. name) roles
+  pub some_role : 0 < length roles
+  pub param_names : AreNamed (λ p. p.name) params
+  pub message_names : AreNamed (λ m. m.name) messages
+  pub declared : IsDeclared public params
+  pub key_list : keys ≡ key_places params
+  pub each_message : All (IsMessageOf (length roles) (length params)) messages
+  pub counts : IsWithinLimits (length roles) (length params) (length keys) (length messages)

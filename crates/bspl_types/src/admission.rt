@@ -1,0 +1,50 @@
+ghost use Rattle.std.specs.Prelude.{◌≡◌, ◌↔◌, IsTrue, IfOk};
+ghost use Rattle.bspl_types.specs.Admission.{IsAdmitted};
+
+use super::expanded::Expanded;
+use super::memory::{Duplicate, NoMemory};
+use std::marker::Model;
+
+/// A protocol that was admitted. Contracts see its expansion.
+#[derive(Drop)]
+pub struct Admitted {
+    expanded: Expanded,
+}
+
+impl Model for Admitted {
+    ghost use Rattle.bspl_types.specs.declared.expanded.Expanded.{Expanded as Protocol};
+    ghost use Rattle.bspl_types.specs.Admission.{IsAdmitted};
+
+    ghost Value = { Protocol };
+
+    ghost view = { λ a. a.expanded };
+
+    ghost invariant = { λ a. IsAdmitted a.expanded };
+}
+
+impl Admitted {
+    /// Admits the expansion. The test for this is `is_admitted`.
+    pub fn seal(expanded: Expanded) -> Admitted
+        requires { IsAdmitted expanded }
+        ensures { result ≡ expanded }
+    {
+        Admitted { expanded }
+    }
+
+    /// What was admitted.
+    pub fn expanded(&self) -> &Expanded
+        ensures same { result.now ≡ self.now }
+        ensures admitted { IsAdmitted self.now }
+    {
+        &self.expanded
+    }
+
+    /// An equal value with memory of its own.
+    pub fn copy(&self) -> Result<Admitted, NoMemory>
+        ensures { IfOk result (λ other. other ≡ self.now) }
+    {
+        Ok(Admitted {
+            expanded: self.expanded.copy()?,
+        })
+    }
+}

@@ -1,0 +1,81 @@
+ghost use Rattle.std.specs.Prelude.{◌≡◌, ◌≢◌, ◌↔◌, IsTrue};
+ghost use Rattle.std.specs.List.{All, AllPairs, Any, position};
+ghost use Rattle.std.specs.Str.{bytes_eq};
+ghost use Rattle.bspl_types.specs.Name.{is_name};
+ghost use Rattle.bspl_types.specs.Shape.{AreNamed};
+
+use super::list::Seq;
+use super::names::is_name;
+use super::protocol::{Message, ParamInfo};
+
+/// What has a name of its own.
+pub trait Named {
+    ghost use Rattle.std.specs.Prelude.{List, ℕ};
+
+    ghost name: { Self → List ℕ };
+
+    /// The bytes of its name.
+    fn name(&self) -> &[u8]
+        ensures { result.now ≡ name self.now };
+}
+
+impl Named for Seq<u8> {
+    ghost name = { λ text. text };
+
+    fn name(&self) -> &[u8] {
+        self.as_slice()
+    }
+}
+
+impl Named for ParamInfo {
+    ghost name = { λ p. p.name };
+
+    fn name(&self) -> &[u8] {
+        self.name.as_slice()
+    }
+}
+
+impl Named for Message {
+    ghost name = { λ m. m.name };
+
+    fn name(&self) -> &[u8] {
+        self.name.as_slice()
+    }
+}
+
+/// Whether each has a name, and no two have one name.
+pub fn are_named<T: Named>(items: &[T]) -> bool
+    ensures { IsTrue result ↔ AreNamed T.name items.now }
+{
+    have_names(items) && have_own_names(items)
+}
+
+/// The place of the first that has the name.
+pub fn place_of<T: Named>(items: &[T], name: &[u8]) -> Option<usize>
+    ensures { result ≡ position (λ x. bytes_eq (T.name x) name.now) items.now }
+{
+    items.iter().position(|x| x.name() == name)
+}
+
+fn have_names<T: Named>(items: &[T]) -> bool
+    ensures { IsTrue result ↔ All (λ x. IsTrue (is_name (T.name x))) items.now }
+{
+    items.iter().all(|x| is_name(x.name()))
+}
+
+fn have_own_names<T: Named>(items: &[T]) -> bool
+    ensures { IsTrue result ↔ AllPairs (λ x y. T.name x ≢ T.name y) items.now }
+{
+    for (place, item) in items.iter().enumerate() {
+        if has_name(&items[..place], item.name()) {
+            return false;
+        }
+    }
+    true
+}
+
+fn has_name<T: Named>(items: &[T], name: &[u8]) -> bool
+    ensures { IsTrue result ↔ Any (λ x. T.name x ≡ name.now) items.now }
+{
+    items.iter().any(|x| x.name() == name)
+}

@@ -1,0 +1,190 @@
+use super::{
+    Admitted, Adornment, Carried, Duplicate, Event, Expanded, Instance, Key, Message, Name,
+    NoMemory, ParamInfo, Seq, Value, Values, is_admitted, place_of,
+};
+use std::alloc::Global;
+use std::process::Abort;
+use std::test::Fail;
+
+/// A name, the adornment and whether it is a key.
+type Declared<'a> = (&'a [u8], Option<Adornment>, bool);
+
+/// A name, the sender, the receiver and what it carries.
+type Schema<'a> = (&'a [u8], u32, u32, &'a [Carried]);
+
+/// Roles, parameters, how many of these are public, and messages.
+type Parts<'a> = (&'a [&'a [u8]], &'a [Declared<'a>], u32, &'a [Schema<'a>]);
+
+const OUT_ID: Carried = Carried {
+    param: 0,
+    adornment: Adornment::Out,
+};
+
+const NIL_ID: Carried = Carried {
+    param: 0,
+    adornment: Adornment::Nil,
+};
+
+const OUT_ITEM: Carried = Carried {
+    param: 1,
+    adornment: Adornment::Out,
+};
+
+const ID: Declared = (b"ID", Some(Adornment::Out), true);
+
+const ITEM: Declared = (b"item", Some(Adornment::In), false);
+
+const HIDDEN: Declared = (b"hidden", None, false);
+
+const AB: &[&[u8]] = &[b"A", b"B"];
+
+const EIGHT: &[&[u8]] = &[b"A", b"B", b"C", b"D", b"E", b"F", b"G", b"H"];
+
+const NINE: &[&[u8]] = &[b"A", b"B", b"C", b"D", b"E", b"F", b"G", b"H", b"I"];
+
+/// Role A sends ping to role B; it produces the key ID.
+const SCHEMA: Schema = (b"ping", 0, 1, &[OUT_ID]);
+
+const PING: &[Schema] = &[SCHEMA];
+
+/// Parts, and whether the protocol is admitted, or nothing where they are not well formed.
+const ROWS: &[(Parts, Option<bool>)] = &[
+    ((AB, &[ID], 1, PING), Some(true)),
+    ((EIGHT, &[ID], 1, PING), Some(true)),
+    ((AB, &[ID, ITEM], 2, PING), Some(true)),
+    ((AB, &[ID, HIDDEN], 1, PING), Some(true)),
+    ((AB, &[ID], 1, &[]), Some(true)),
+    ((AB, &[ITEM], 1, PING), Some(false)),
+    ((AB, &[ITEM, ID], 2, PING), Some(false)),
+    ((AB, &[ID], 1, &[(b"m", 1, 1, &[OUT_ID])]), Some(false)),
+    (
+        (AB, &[ID], 1, &[(b"m", 0, 1, &[OUT_ID, OUT_ID])]),
+        Some(false),
+    ),
+    ((AB, &[ID], 1, &[(b"m", 0, 1, &[NIL_ID])]), Some(false)),
+    (
+        (AB, &[ID, ITEM], 2, &[(b"m", 0, 1, &[OUT_ITEM])]),
+        Some(false),
+    ),
+    ((&[b"A", b"A"], &[ID], 1, PING), None),
+    ((&[b"A", b"role"], &[ID], 1, PING), None),
+    ((NINE, &[ID], 1, PING), None),
+    ((AB, &[(b"ID", Some(Adornment::Nil), true)], 1, PING), None),
+    ((AB, &[(b"ID", None, true)], 1, PING), None),
+    ((AB, &[ID, ITEM], 1, PING), None),
+    ((AB, &[ID, ID], 2, PING), None),
+    ((AB, &[ID], 0, PING), None),
+    ((AB, &[ID], 2, PING), None),
+    ((AB, &[ID], 1, &[(b"m", 0, 2, &[OUT_ID])]), None),
+    ((AB, &[ID], 1, &[(b"m", 0, 1, &[OUT_ITEM])]), None),
+    ((AB, &[ID], 1, &[(b"m", 0, 1, &[])]), None),
+    ((AB, &[ID], 1, &[SCHEMA, SCHEMA]), None),
+];
+
+const SEVEN: Value = Value::Number(7);
+
+const OTHER: Value = Value::Number(8);
+
+/// Instances that do not fit the protocol of ping alone: the message, the key and the values.
+const MISFITS: &[(u32, &[Value], &[Value])] = &[
+    (1, &[SEVEN], &[SEVEN]),
+    (0, &[OTHER], &[SEVEN]),
+    (0, &[SEVEN, SEVEN], &[SEVEN]),
+    (0, &[SEVEN], &[OTHER]),
+    (0, &[SEVEN], &[SEVEN, SEVEN]),
+    (0, &[SEVEN], &[]),
+];
+
+fn name(alloc: Global, text: &[u8]) -> Result<Name, NoMemory> {
+    Seq::from_slice(alloc, text)
+}
+
+fn assemble(alloc: Global, parts: Parts) -> Result<Option<Expanded>, NoMemory> {
+    let mut roles = Seq::new(alloc);
+    for role in parts.0 {
+        roles.push(name(alloc, role)?)?;
+    }
+    let mut params = Seq::new(alloc);
+    for (text, adornment, key) in parts.1 {
+        params.push(ParamInfo {
+            name: name(alloc, text)?,
+            adornment: *adornment,
+            key: *key,
+        })?;
+    }
+    let mut messages = Seq::new(alloc);
+    for (text, sender, receiver, carried) in parts.3 {
+        messages.push(Message {
+            name: name(alloc, text)?,
+            sender: *sender,
+            receiver: *receiver,
+            carried: Seq::from_slice(alloc, carried)?,
+        })?;
+    }
+    let protocol = name(alloc, b"Ping")?;
+    Expanded::assemble(alloc, protocol, roles, params, parts.2, messages)
+}
+
+/// Whether the protocol is admitted; nothing where the parts are not well formed.
+fn admits(alloc: Global, parts: Parts) -> Result<Option<bool>, NoMemory> {
+    let Some(x) = assemble(alloc, parts)? else {
+        return Ok(None);
+    };
+    if !is_admitted(&x) {
+        return Ok(Some(false));
+    }
+    let copy = Admitted::seal(x).copy()?;
+    Ok(Some(is_admitted(copy.expanded())))
+}
+
+#[test]
+fn protocols_are_refused_or_admitted(rt: HostRuntime) -> Result<(), Fail> {
+    for (row, (parts, want)) in ROWS.iter().enumerate() {
+        let answer = admits(rt.alloc(), *parts)?;
+        assert_eq!(rt; answer, *want, "the parts in row {row}");
+    }
+    Ok(())
+}
+
+#[test]
+fn parts_have_their_places(rt: HostRuntime) -> Result<(), Fail> {
+    let parts: Parts = (AB, &[ITEM, ID], 2, PING);
+    let x = assemble(rt.alloc(), parts)?.ok_or("the parts are refused")?;
+    assert_eq!(rt; x.keys.as_slice(), [1].as_slice());
+    assert_eq!(rt; place_of(x.roles.as_slice(), b"B"), Some(1));
+    assert_eq!(rt; place_of(x.params.as_slice(), b"ID"), Some(1));
+    assert_eq!(rt; place_of(x.messages.as_slice(), b"pong"), None);
+    Ok(())
+}
+
+/// The instance, where there is room for its key and values.
+fn instance(message: u32, key: &[Value], values: &[Value]) -> Option<Instance> {
+    if key.is_empty() || key.len() > 4 || values.len() > 16 {
+        return None;
+    }
+    Some(Instance {
+        message,
+        key: Key::of(key),
+        values: Values::of(values),
+    })
+}
+
+fn none_fits(rt: &impl Abort, x: &Expanded, ping: &Instance) -> Result<(), Fail> {
+    for (row, (message, key, values)) in MISFITS.iter().enumerate() {
+        let other = instance(*message, key, values).ok_or("there is no room")?;
+        assert!(rt; !other.fits(x), "the instance in row {row}");
+        assert!(rt; !other.same(ping), "the instance in row {row}");
+    }
+    Ok(())
+}
+
+#[test]
+fn instances_fit_their_protocol(rt: HostRuntime) -> Result<(), Fail> {
+    let parts: Parts = (AB, &[ID], 1, PING);
+    let x = assemble(rt.alloc(), parts)?.ok_or("the parts are refused")?;
+    let ping = instance(0, &[SEVEN], &[SEVEN]).ok_or("there is no room")?;
+    assert!(rt; ping.fits(&x) && ping.same(&ping));
+    assert_eq!(rt; Event::Emit(ping).role(&x), 0);
+    assert_eq!(rt; Event::Receive(ping).role(&x), 1);
+    none_fits(&rt, &x, &ping)
+}

@@ -1,0 +1,119 @@
+ghost use Rattle.std.specs.Prelude.{◌≡◌, ◌≢◌, ◌↔◌, ◌<◌, ◌^◌, length, IsTrue, IfOk, None};
+ghost use Rattle.std.specs.List.{All};
+ghost use Rattle.bspl_types.specs.Shape.{IsDeclared, IsMessageOf, IsShape, IsWithinLimits, key_places, may_be_key};
+
+use super::limits::{CARRIED_LIMIT, KEY_LIMIT, MESSAGE_LIMIT, PARAM_LIMIT, ROLE_LIMIT};
+use super::memory::NoMemory;
+use super::named::are_named;
+use super::names::is_name;
+use super::protocol::{Adornment, Carried, Message, ParamInfo};
+use super::{Name, NumberList, Seq};
+use std::alloc::Global;
+
+/// Whether an expansion may have these parts, of which `keys` are the places of the keys.
+pub fn is_well_formed(
+    name: &[u8],
+    roles: &[Name],
+    params: &[ParamInfo],
+    public: u32,
+    keys: &[u32],
+    messages: &[Message],
+) -> bool
+    requires { keys.now ≡ key_places params.now }
+    ensures { IsTrue result ↔ IsShape name.now roles.now params.now public keys.now messages.now }
+{
+    let role_count = roles.len();
+    let param_count = params.len();
+    // The limits come first, since names are compared pair by pair.
+    is_within_limits(role_count, param_count, keys.len(), messages.len())
+        && role_count > 0
+        && is_name(name)
+        && are_named(roles)
+        && are_named(params)
+        && are_named(messages)
+        && is_declared(public as usize, params)
+        && are_messages_of(role_count, param_count, messages)
+}
+
+/// Whether exactly the first so many parameters are public, and the keys are among those that bind.
+fn is_declared(public: usize, params: &[ParamInfo]) -> bool
+    ensures { IsTrue result ↔ IsDeclared public params.now }
+{
+    if public == 0 || params.len() < public {
+        return false;
+    }
+    let (first, rest) = params.split_at(public);
+    are_adorned(first) && are_bare(rest) && may_be_keys(params)
+}
+
+fn are_adorned(params: &[ParamInfo]) -> bool
+    ensures { IsTrue result ↔ All (λ p. p.adornment ≢ None) params.now }
+{
+    params.iter().all(|p| p.adornment.is_some())
+}
+
+fn are_bare(params: &[ParamInfo]) -> bool
+    ensures { IsTrue result ↔ All (λ p. p.adornment ≡ None) params.now }
+{
+    params.iter().all(|p| p.adornment.is_none())
+}
+
+fn may_be_keys(params: &[ParamInfo]) -> bool
+    ensures { IsTrue result ↔ All (λ p. IsTrue p.key → IsTrue (may_be_key p.adornment)) params.now }
+{
+    params.iter().all(|p| !p.key || may_be_key(p.adornment))
+}
+
+fn may_be_key(adornment: Option<Adornment>) -> bool
+    ensures { result ≡ may_be_key adornment }
+{
+    match adornment {
+        None => false,
+        Some(adornment) => adornment.has_value(),
+    }
+}
+
+/// The places of the parameters that are marked as keys.
+pub fn key_places(alloc: Global, params: &[ParamInfo]) -> Result<NumberList, NoMemory>
+    requires { length params.now < 2 ^ 32 }
+    ensures { IfOk result (λ keys. keys ≡ key_places params.now) }
+{
+    let mut keys = Seq::new(alloc);
+    for (place, p) in params.iter().enumerate() {
+        if p.key {
+            keys.push(place as u32)?;
+        }
+    }
+    Ok(keys)
+}
+
+/// Whether each message has its roles and parameters among so many, and carries as many as it may.
+fn are_messages_of(roles: usize, params: usize, messages: &[Message]) -> bool
+    ensures { IsTrue result ↔ All (IsMessageOf roles params) messages.now }
+{
+    messages.iter().all(|m| is_message_of(roles, params, m))
+}
+
+fn is_message_of(roles: usize, params: usize, m: &Message) -> bool
+    ensures { IsTrue result ↔ IsMessageOf roles params m.now }
+{
+    let carried = m.carried.as_slice();
+    (m.sender as usize) < roles
+        && (m.receiver as usize) < roles
+        && have_places(params, carried)
+        && !carried.is_empty()
+        && carried.len() <= CARRIED_LIMIT
+}
+
+fn have_places(params: usize, carried: &[Carried]) -> bool
+    ensures { IsTrue result ↔ All (λ c. c.param < params) carried.now }
+{
+    carried.iter().all(|c| (c.param as usize) < params)
+}
+
+/// Whether there are not too many of each.
+fn is_within_limits(roles: usize, params: usize, keys: usize, messages: usize) -> bool
+    ensures { IsTrue result ↔ IsWithinLimits roles params keys messages }
+{
+    roles <= ROLE_LIMIT && params <= PARAM_LIMIT && keys <= KEY_LIMIT && messages <= MESSAGE_LIMIT
+}
