@@ -1,0 +1,14 @@
+-- When a count of faults says that something failed.
+use Rattle.std.specs.Prelude.{◌≡◌, ℕ, ◌+◌, ◌<◌, ◌⊎◌, min}
+
+-- the last value of a counter of 64 bits
+abbrev pub last_count : ℕ
+last_count = 18446744073709551615
+
+-- the count after one more, which stands still at its last value
+abbrev pub count_after : ℕ → ℕ
+count_after n = min (n + 1) last_count
+
+-- the count rose, or stands at its last value
+abbrev pub Rose : ℕ → ℕ → Type 0
+Rose old new = (old < new) ⊎ (new ≡ last_count)

@@ -1,0 +1,17 @@
+//! Where bytes come from and go to, and how a whole text is read and written.
+#![tactic(auto)]
+
+mod memory;
+mod plain;
+mod reading;
+mod schedule;
+mod standard;
+#[cfg(test)]
+mod tests;
+mod writing;
+
+pub use memory::{MemSink, MemSource};
+pub use plain::{PlainSink, PlainSource};
+pub use reading::{Failed, ReadRefusal, Source, read_all};
+pub use standard::{StdSink, StdSource};
+pub use writing::{Sink, Trouble, WriteRefusal, write_all};
