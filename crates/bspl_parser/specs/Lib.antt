@@ -1,0 +1,14 @@
+pub mod Grammar
+pub mod Judgement
+pub mod Naming
+pub mod PhraseReading
+pub mod Plain
+pub mod Reading
+pub mod Scanning
+pub mod Sign
+pub mod Spelling
+pub mod Symbol
+pub mod Token
+pub mod TokenReading
+pub mod Tokens
+pub use Rattle.bspl_types.specs.Name

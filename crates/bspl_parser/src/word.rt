@@ -1,0 +1,15 @@
+ghost use Rattle.std.specs.Prelude.{IsTrue};
+ghost use Rattle.bspl_types.specs.Name.{is_name};
+
+use bspl_types::{Name, Seq};
+
+/// A name, and the place of its first byte in the text.
+#[derive(Drop)]
+pub struct Word {
+    pub text: Name,
+    pub offset: u64,
+    pub ghost named: { IsTrue (is_name text) },
+}
+
+/// Names in reading order.
+pub type WordList = Seq<Word>;
