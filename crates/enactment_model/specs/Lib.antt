@@ -1,0 +1,10 @@
+pub mod Conflict
+pub mod Legal
+pub mod Producers
+pub mod Projection
+pub mod Safety
+pub use Rattle.bspl_types.specs.Admission
+pub use Rattle.bspl_types.specs.Expansion
+pub use Rattle.bspl_types.specs.History
+pub use Rattle.bspl_types.specs.Instance
+pub use Rattle.bspl_types.specs.Knowledge
