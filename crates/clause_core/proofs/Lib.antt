@@ -1,0 +1,6 @@
+pub mod Members
+pub mod LiteralLemmas
+pub mod ClauseLemmas
+pub mod ResolventLemmas
+pub mod MergeLemmas
+pub mod DistinctLemmas

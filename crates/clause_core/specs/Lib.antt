@@ -1,0 +1,6 @@
+pub mod Literal
+pub mod Clause
+pub mod Resolvent
+pub mod Assignment
+pub mod Propagation
+pub mod Adding

@@ -1,0 +1,77 @@
+ghost use Rattle.std.specs.Prelude.{◌≡◌, IfOk, IsTrue, ◌↔◌, Contains};
+ghost use Rattle.clause_core.specs.Clause.{IsAscending, HasExactly, VariablesExist};
+
+use super::distinct::distinct;
+use super::literal::Lit;
+use bspl_types::{Duplicate, NoMemory, Seq};
+use std::alloc::Global;
+use std::marker::Model;
+
+/// A disjunction of literals, each of them once, in ascending order.
+#[derive(Drop)]
+pub struct Clause {
+    lits: Seq<Lit>,
+}
+
+pub type ClauseList = Seq<Clause>;
+
+impl Model for Clause {
+    ghost use Rattle.std.specs.Prelude.{List};
+    ghost use Rattle.clause_core.specs.declared.literal.Lit.{Lit};
+    ghost use Rattle.clause_core.specs.Clause.{IsAscending};
+
+    ghost Value = { List Lit };
+
+    ghost view = { λ c. c.lits };
+
+    ghost invariant = { λ c. IsAscending c.lits };
+}
+
+impl Clause {
+    /// The clause with exactly these literals, in any order, repeated or not.
+    pub fn of(alloc: Global, lits: &[Lit]) -> Result<Clause, NoMemory>
+        ensures { IfOk result (λ clause. HasExactly clause lits.now) }
+    {
+        let mut sorted = Vec::from_slice(alloc, lits)?;
+        sorted.sort_unstable_by_key(|lit| lit.rank());
+        Ok(Clause {
+            lits: distinct(alloc, sorted.as_slice())?,
+        })
+    }
+
+    /// The clause of literals that ascend already.
+    pub(crate) fn ascending(lits: Seq<Lit>) -> Clause
+        requires { IsAscending lits }
+        ensures { result ≡ lits }
+    {
+        Clause { lits }
+    }
+
+    pub fn lits(&self) -> &[Lit]
+        ensures same { result.now ≡ self.now }
+        ensures ascending { IsAscending self.now }
+    {
+        self.lits.as_slice()
+    }
+
+    pub fn has(&self, lit: Lit) -> bool
+        ensures { IsTrue result ↔ Contains self.now lit }
+    {
+        self.lits.as_slice().iter().any(|l| *l == lit)
+    }
+
+    /// Whether each variable of the clause is one of those from 1 to `vars`.
+    pub fn is_over(&self, vars: u32) -> bool
+        ensures { IsTrue result ↔ VariablesExist vars self.now }
+    {
+        self.lits().iter().all(|l| 0 < l.var && l.var <= vars)
+    }
+}
+
+impl Duplicate for Clause {
+    fn copy(&self) -> Result<Clause, NoMemory> {
+        Ok(Clause {
+            lits: self.lits.copy()?,
+        })
+    }
+}

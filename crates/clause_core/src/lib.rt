@@ -1,0 +1,20 @@
+//! Clauses over numbered variables, what an assignment satisfies, and resolution.
+#![tactic(auto)]
+
+mod assignment;
+mod clause;
+mod distinct;
+mod formula;
+mod laws;
+mod literal;
+mod merging;
+mod resolution;
+#[cfg(test)]
+mod tests;
+
+pub use assignment::Assignment;
+pub use clause::{Clause, ClauseList};
+pub use formula::Formula;
+pub use laws::{equal_members, resolvents_agree, resolvents_follow};
+pub use literal::Lit;
+pub use resolution::{ResolveRefusal, resolve};

@@ -1,0 +1,36 @@
+ghost use Rattle.std.specs.Prelude.{◌≡◌, ℕ, Bool, ◌↔◌};
+ghost use Rattle.clause_core.specs.Literal.{rank, negated, MakesTrue};
+
+use bspl_types::{Duplicate, NoMemory};
+
+/// A variable, counted from 1, or its negation.
+#[derive(Clone, Copy, Debug, PartialEq, Eq)]
+pub struct Lit {
+    pub var: u32,
+    pub positive: bool,
+}
+
+impl Lit {
+    pub fn negation(self) -> Lit
+        ensures exact { result ≡ negated self }
+        ensures opposite { (v : ℕ → Bool) → MakesTrue v result ↔ ¬ MakesTrue v self }
+    {
+        Lit {
+            var: self.var,
+            positive: !self.positive,
+        }
+    }
+
+    /// The literal's place in the order that clauses keep.
+    pub fn rank(self) -> u64
+        ensures { result ≡ rank self }
+    {
+        2 * u64::from(self.var) + u64::from(self.positive)
+    }
+}
+
+impl Duplicate for Lit {
+    fn copy(&self) -> Result<Lit, NoMemory> {
+        Ok(*self)
+    }
+}
