@@ -1,0 +1,12 @@
+pub mod Fields
+pub mod FirstBad
+pub mod Links
+pub mod Numerals
+pub mod OneAnswer
+pub mod Pivots
+pub mod Readings
+pub mod ResolutionLemmas
+pub mod RightLines
+pub mod Separators
+pub mod Spellings
+pub mod WritingLemmas

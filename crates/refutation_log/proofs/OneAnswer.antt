@@ -1,0 +1,147 @@
+-- A text is the spelling of one log, or has one first fault, and not both.
+use Rattle.std.proofs.Common.{◌≡◌, ◌≢◌, ℕ, ◌<◌, List, [], ◌∷◌, ◌++◌, length, drop, Result, Ok, Err, refl, sym, ap, subst, ◌∙◌, inl, inr, arith}
+use Rattle.std.specs.Prelude.{MatchResult}
+use Rattle.std.specs.List.{flat_map}
+use Rattle.std.proofs.lemmas.Bool.{cases_order}
+use Rattle.std.proofs.lemmas.List.{append_assoc, append-nil, get_or_push, length_push, same_from_push}
+use Rattle.std.proofs.lemmas.List.Elements.{recursion_from_All}
+use Rattle.refutation_log.specs.declared.refusal.LogRefusal.{LogRefusal}
+use Rattle.refutation_log.specs.declared.refusal.LogRefusal.TheVariants.{Form, Number, NoMemory}
+use Rattle.refutation_log.specs.declared.refutation.Kind.{Kind}
+use Rattle.refutation_log.specs.declared.refutation.Chain.{Chain}
+use Rattle.refutation_log.specs.declared.refutation.Log.{Log}
+use Rattle.refutation_log.specs.LogText.{StepInRange, LogInRange, IsTextOf, header_line, step_line, end_line, log_text}
+use Rattle.refutation_log.specs.Refusal.{Line, lines_of, HasNoEnd, HasForm, HasBadNumber, IsMisformed, IsMisnumbered, IsFirstBad, IsRefused, Answers}
+use Rattle.refutation_log.proofs.Spellings.{same_from_step_lines, same_from_header_line}
+use Rattle.refutation_log.proofs.RightLines.{front_lines, lines-front, whole_right}
+
+-- ---- two cuts of one list
+
+-- the longer front goes on with the rest of the shorter one
+overlap : (a b c d : List Line) → a ++ b ≡ c ++ d → length a < length c → (x : Line) × (xs : List Line) × (ys : List Line) × (b ≡ x ∷ xs) × (c ≡ a ++ x ∷ ys)
+overlap a b [] d e short = absurd (omega arith)
+overlap [] b (y ∷ c) d e short = (y, c ++ d, c, e, refl)
+overlap (x ∷ a) b (y ∷ c) d e short =
+    let rest = overlap a b c d (ap (drop 1) e) (omega arith) in
+    let tails : c ≡ a ++ rest.0 ∷ rest.2 = rest.4 in
+    let heads : y ≡ x = cc in
+    (rest.0, rest.1, rest.2, rest.3, cc)
+
+same_cut : (a b c d : List Line) → a ++ b ≡ c ++ d → length a ≡ length c → (a ≡ c) × (b ≡ d)
+same_cut [] b [] d e same = (refl, e)
+same_cut [] b (y ∷ c) d e same = absurd (omega arith)
+same_cut (x ∷ a) b [] d e same = absurd (omega arith)
+same_cut (x ∷ a) b (y ∷ c) d e same =
+    let rest = same_cut a b c d (ap (drop 1) e) (omega arith) in
+    let heads : x ≡ y = cc in
+    let tails : a ≡ c = rest.0 in
+    (cc, rest.1)
+
+-- ---- one fault
+
+-- a line that is bad in this way is not right
+abbrev Excludes : (List Line → List Line → Type 0) → Type 0
+Excludes IsBad = (before after : List Line) (line : Line) → IsBad before (line ∷ after) → HasForm before line → (HasBadNumber line → ⊥) → ⊥
+
+misformed_excludes : Excludes IsMisformed
+misformed_excludes = λ before after line bad form good. bad form
+
+misnumbered_excludes : Excludes IsMisnumbered
+misnumbered_excludes = λ before after line bad form good. good bad.1
+
+none_before : (A B : List Line → List Line → Type 0) (text : List ℕ) (m n : ℕ) → Excludes A → IsFirstBad A text m → IsFirstBad B text n → m < n → ⊥
+none_before A B text m n excludes first other short =
+    let next = overlap first.before first.after other.before other.after (sym first.lines ∙ other.lines) (omega (arith, first.place, other.place)) in
+    let right = other.right first.before next.2 next.0 next.4 in
+    excludes first.before next.1 next.0 (subst (A first.before) next.3 first.bad) right.0 right.1
+
+one_place : (A B : List Line → List Line → Type 0) (text : List ℕ) (m n : ℕ) → Excludes A → Excludes B → IsFirstBad A text m → IsFirstBad B text n → m ≡ n
+one_place A B text m n a_excludes b_excludes first other =
+    elim (cases_order m n) [
+      | inl same ↦ same
+      | inr differ ↦ elim differ [
+        | inl less ↦ absurd (none_before A B text m n a_excludes first other less)
+        | inr more ↦ absurd (none_before B A text n m b_excludes other first more)
+      ]
+    ]
+
+clash : (before after : List Line) → IsMisformed before after → IsMisnumbered before after → ⊥
+clash before [] form number = number
+clash before (line ∷ after) form number = form number.0
+
+one_way : (text : List ℕ) (m n : ℕ) → IsFirstBad IsMisformed text m → IsFirstBad IsMisnumbered text n → ⊥
+one_way text m n form number =
+    let place = one_place IsMisformed IsMisnumbered text m n misformed_excludes misnumbered_excludes form number in
+    let same = same_cut form.before form.after number.before number.after (sym form.lines ∙ number.lines) (omega (arith, form.place, number.place)) in
+    let moved : IsMisformed number.before number.after = subst (IsMisformed number.before) same.1 (subst (λ (ls : List Line). IsMisformed ls form.after) same.0 form.bad) in
+    clash number.before number.after moved number.bad
+
+one_refusal : (text : List ℕ) (refusal other : LogRefusal) → IsRefused text refusal → IsRefused text other → refusal ≢ NoMemory → other ≢ NoMemory → refusal ≡ other
+one_refusal text (Form m) (Form n) first second some any = ap Form (one_place IsMisformed IsMisformed text m n misformed_excludes misformed_excludes first second)
+one_refusal text (Form m) (Number n) first second some any = absurd (one_way text m n first second)
+one_refusal text (Number m) (Form n) first second some any = absurd (one_way text n m second first)
+one_refusal text (Number m) (Number n) first second some any = ap Number (one_place IsMisnumbered IsMisnumbered text m n misnumbered_excludes misnumbered_excludes first second)
+one_refusal text NoMemory other first second some any = absurd (some refl)
+one_refusal text refusal NoMemory first second some any = absurd (any refl)
+
+-- ---- no fault in the text of a log
+
+lines-log : (kind : Kind) (log : Log) → lines_of (log_text kind log) ≡ front_lines kind log.steps ++ end_line ∷ []
+lines-log kind log = ap lines_of (append_assoc (header_line kind) (flat_map step_line log.steps) end_line) ∙ lines-front kind log.steps end_line
+
+has_end : (before : List Line) → HasNoEnd (before ++ end_line ∷ []) → ⊥
+has_end before unended =
+    let last : end_line ≢ end_line = subst (λ (line : Line). line ≢ end_line) (get_or_push before end_line end_line (length before) refl) (unended (length before) end_line (omega (arith, length_push before end_line))) in
+    last refl
+
+-- what is bad beyond all lines would be a missing end
+abbrev WantsEnd : (List Line → List Line → Type 0) → Type 0
+WantsEnd IsBad = (before : List Line) → IsBad before [] → HasNoEnd before
+
+all_right : (IsBad : List Line → List Line → Type 0) → Excludes IsBad → WantsEnd IsBad → (kind : Kind) (log : Log) → LogInRange log → (before after : List Line) → front_lines kind log.steps ++ end_line ∷ [] ≡ before ++ after
+    → IsBad before after → ⊥
+all_right IsBad excludes wants kind log good before [] e bad = has_end (front_lines kind log.steps) (subst HasNoEnd (sym (append-nil before) ∙ sym e) (wants before bad))
+all_right IsBad excludes wants kind log good before (line ∷ after) e bad =
+    let right = whole_right kind log.steps (recursion_from_All StepInRange log.steps good) before after line e in
+    excludes before after line bad right.0 right.1
+
+no_fault : (text : List ℕ) (kind : Kind) (log : Log) (refusal : LogRefusal) → IsTextOf text kind log → refusal ≢ NoMemory → IsRefused text refusal → ⊥
+no_fault text kind log (Form n) is some first =
+    all_right IsMisformed misformed_excludes (λ before bad. bad) kind log is.numbers first.before first.after (sym (ap lines_of is.text ∙ lines-log kind log) ∙ first.lines) first.bad
+no_fault text kind log (Number n) is some first =
+    all_right IsMisnumbered misnumbered_excludes (λ before bad. absurd bad) kind log is.numbers first.before first.after (sym (ap lines_of is.text ∙ lines-log kind log) ∙ first.lines) first.bad
+no_fault text kind log NoMemory is some first = some refl
+
+-- ---- one log
+
+abbrev log_of : List Chain → Log
+log_of steps = record { steps = steps }
+
+same_logs : (kind other : Kind) (log another : Log) → log_text kind log ≡ log_text other another → (kind ≡ other) × (log ≡ another)
+same_logs kind other log another e =
+    let lines = sym (lines-log kind log) ∙ ap lines_of e ∙ lines-log other another in
+    let fronts : front_lines kind log.steps ≡ front_lines other another.steps = (same_from_push (front_lines kind log.steps) (front_lines other another.steps) end_line end_line lines).0 in
+    let headers : header_line kind ≡ header_line other = cc in
+    let steps : log.steps ≡ another.steps = same_from_step_lines log.steps another.steps (ap (drop 1) fronts) in
+    (same_from_header_line kind other headers, ap log_of steps)
+
+-- ---- one answer
+
+pair_of : (read : Kind × Log) (kind : Kind) (log : Log) → read.0 ≡ kind → read.1 ≡ log → read ≡ (kind, log)
+pair_of read kind log kinds logs = ap (λ (k : Kind). (k, read.1)) kinds ∙ ap (λ (l : Log). (kind, l)) logs
+
+-- what the answer says of the text
+abbrev Holds : List ℕ → Result (Kind × Log) LogRefusal → Type 0
+Holds text answer = MatchResult answer (λ read. IsTextOf text read.0 read.1) (IsRefused text)
+
+pub reads : (text : List ℕ) (r : Result (Kind × Log) LogRefusal) → Holds text r → (kind : Kind) (log : Log) → IsTextOf text kind log → Answers r (Ok (kind, log))
+reads text (Ok read) holds kind log is = let same = same_logs read.0 kind read.1 log (sym holds.text ∙ is.text) in inl (ap Ok (pair_of read kind log same.0 same.1))
+reads text (Err NoMemory) holds kind log is = inr refl
+reads text (Err (Form n)) holds kind log is = absurd (no_fault text kind log (Form n) is (λ e. cc) holds)
+reads text (Err (Number n)) holds kind log is = absurd (no_fault text kind log (Number n) is (λ e. cc) holds)
+
+pub refuses : (text : List ℕ) (r : Result (Kind × Log) LogRefusal) → Holds text r → (refusal : LogRefusal) → refusal ≢ NoMemory → IsRefused text refusal → Answers r (Err refusal)
+refuses text (Ok read) holds refusal some first = absurd (no_fault text read.0 read.1 refusal holds some first)
+refuses text (Err NoMemory) holds refusal some first = inr refl
+refuses text (Err (Form n)) holds refusal some first = inl (ap Err (one_refusal text (Form n) refusal holds first (λ e. cc) some))
+refuses text (Err (Number n)) holds refusal some first = inl (ap Err (one_refusal text (Number n) refusal holds first (λ e. cc) some))

@@ -1,0 +1,5 @@
+pub mod LogText
+pub mod Reading
+pub mod Refusal
+pub mod Resolution
+pub mod Writing

@@ -1,0 +1,70 @@
+ghost use Rattle.std.specs.Prelude.{◌≡◌, ◌≢◌, ◌+◌, ◌++◌, IfOk, IfErr, Ok, Err};
+ghost use Rattle.std.specs.List.{flat_map};
+ghost use Rattle.refutation_log.specs.declared.refutation.Kind.{Kind};
+ghost use Rattle.refutation_log.specs.declared.refutation.Log.{Log};
+ghost use Rattle.refutation_log.specs.declared.refusal.LogRefusal.{LogRefusal};
+ghost use Rattle.refutation_log.specs.LogText.{LogInRange, IsTextOf, header_line, step_line, end_line};
+ghost use Rattle.refutation_log.specs.Refusal.{IsRefused, Answers};
+
+use super::header::kind_of;
+use super::parts::cut;
+use super::refusal::LogRefusal;
+use super::refutation::{ChainList, Kind, Log};
+use super::steps::{Line, line_of};
+use bspl_types::Seq;
+use std::alloc::Global;
+
+/// The kind and the log whose text this is.
+pub fn read_log(alloc: Global, text: &[u8]) -> Result<(Kind, Log), LogRefusal>
+    ensures ok { IfOk result (λ read. IsTextOf text.now read.0 read.1) }
+    ensures refused { IfErr result (IsRefused text.now) }
+
+    // What has a text is read, and each refusal is given where it is due.
+    ensures reads { (kind : Kind) (log : Log) →
+        IsTextOf text.now kind log → Answers result (Ok (kind, log)) }
+    ensures refuses { (refusal : LogRefusal) → refusal ≢ LogRefusal.NoMemory →
+        IsRefused text.now refusal → Answers result (Err refusal) }
+{
+    log_of(alloc, text)
+}
+
+fn log_of(alloc: Global, text: &[u8]) -> Result<(Kind, Log), LogRefusal>
+    ensures ok { IfOk result (λ read. IsTextOf text.now read.0 read.1) }
+    ensures refused { IfErr result (IsRefused text.now) }
+{
+    let (line, rest) = cut(text, b'\n');
+    let Some(rest) = rest else {
+        return Err(LogRefusal::Form { line: 1 });
+    };
+    let Some(kind) = kind_of(line) else {
+        return Err(LogRefusal::Form { line: 1 });
+    };
+    let log = log_after(alloc, rest)?;
+    Ok((kind, log))
+}
+
+/// The log of a text from its second line on.
+fn log_after(alloc: Global, text: &[u8]) -> Result<Log, LogRefusal>
+    ensures ok { IfOk result
+        (λ log. LogInRange log × (text.now ≡ flat_map step_line log.steps ++ end_line)) }
+    ensures refused { IfErr result
+        (λ refusal. (kind : Kind) → IsRefused (header_line kind ++ text.now) refusal) }
+{
+    let mut steps = Seq::new(alloc);
+    let mut place = 2;
+    let mut rest = text;
+    loop {
+        let (line, after) = cut(rest, b'\n');
+        let Some(after) = after else {
+            return Err(LogRefusal::Form { line: place });
+        };
+        match line_of(alloc, line) {
+            Ok(Line::Step(step)) => steps.push(step)?,
+            Ok(Line::End) if after.is_empty() => return Ok(Log { steps }),
+            Ok(Line::End) => return Err(LogRefusal::Form { line: place + 1 }),
+            Err(flaw) => return Err(flaw.at(place)),
+        }
+        place += 1;
+        rest = after;
+    }
+}

@@ -1,0 +1,106 @@
+ghost use Rattle.std.specs.Prelude.{◌≡◌, [], ◌∷◌, All, Some};
+ghost use Rattle.std.specs.List.{flat_map, join_with_byte};
+ghost use Rattle.std.specs.Option.{option_copied};
+ghost use Rattle.refutation_log.specs.LogText.{LinkInRange, StepInRange, numeral, link_fields, step_fields};
+ghost use Rattle.refutation_log.specs.Reading.{IsReading, parts_in, body_of, LineInRange};
+
+use super::flaw::Flaw;
+use super::numbers::{number_of, pivot_of};
+use super::parts::cut;
+use super::refutation::{Chain, Link, LinkList};
+use bspl_types::Seq;
+use std::alloc::Global;
+
+/// A line after the header.
+#[derive(Drop)]
+pub enum Line {
+    Step(Chain),
+    End,
+}
+
+pub fn line_of(alloc: Global, line: &[u8]) -> Result<Line, Flaw>
+    ensures { IsReading body_of LineInRange line.now result }
+{
+    if line == b"end".as_slice() {
+        return Ok(Line::End);
+    }
+    Ok(Line::Step(step_of(alloc, line)?))
+}
+
+fn step_of(alloc: Global, line: &[u8]) -> Result<Chain, Flaw>
+    ensures { IsReading (λ step. join_with_byte 32 (step_fields step))
+        StepInRange line.now result }
+{
+    let (name, fields) = cut(line, b' ');
+    if name != b"step".as_slice() {
+        return Err(Flaw::Form);
+    }
+    match fields {
+        None => Err(Flaw::Form),
+        Some(fields) => chain_of(alloc, fields),
+    }
+}
+
+/// The step with these fields after its name. A bad number is told only where the rest has its
+/// form.
+fn chain_of(alloc: Global, fields: &[u8]) -> Result<Chain, Flaw>
+    ensures { IsReading (λ step. numeral step.first ∷ flat_map link_fields step.links)
+        StepInRange (parts_in 32 (Some fields.now)) result }
+{
+    let (first, links) = cut(fields, b' ');
+    match number_of(first) {
+        Ok(first) => Ok(Chain {
+            first,
+            links: links_of(alloc, links)?,
+        }),
+        Err(Flaw::Number) => {
+            links_of(alloc, links)?;
+            Err(Flaw::Number)
+        }
+        Err(flaw) => Err(flaw),
+    }
+}
+
+/// The links with these fields. A bad number does not end the search for a bad form.
+fn links_of(alloc: Global, fields: Option<&[u8]>) -> Result<LinkList, Flaw>
+    ensures { IsReading (flat_map link_fields) (All LinkInRange)
+        (parts_in 32 (option_copied fields.entry)) result }
+{
+    let mut links = Seq::new(alloc);
+    let mut in_range = true;
+    let mut left = fields;
+    while let Some(pairs) = left {
+        let (pivot, after) = cut(pairs, b' ');
+        let Some(after) = after else {
+            return Err(Flaw::Form);
+        };
+        let (clause, rest) = cut(after, b' ');
+        match link_of(pivot, clause) {
+            Ok(link) => links.push(link)?,
+            Err(Flaw::Number) => in_range = false,
+            Err(flaw) => return Err(flaw),
+        }
+        left = rest;
+    }
+    if in_range {
+        Ok(links)
+    } else {
+        Err(Flaw::Number)
+    }
+}
+
+fn link_of(pivot: &[u8], clause: &[u8]) -> Result<Link, Flaw>
+    ensures { IsReading link_fields LinkInRange (pivot.now ∷ clause.now ∷ []) result }
+{
+    match pivot_of(pivot) {
+        Ok(pivot) => Ok(Link {
+            pivot,
+            clause: number_of(clause)?,
+        }),
+        Err(Flaw::Number) => {
+            number_of(clause)?;
+            Err(Flaw::Number)
+        }
+        Err(flaw) => Err(flaw),
+    }
+}
