@@ -1,0 +1,9 @@
+-- What the walk along the links of a chain keeps.
+use Rattle.std.proofs.Common.{◌++◌, take, unwrap_or}
+use Rattle.refutation_log.specs.Resolution.{Folds}
+use Rattle.log_checker.proofs.chains.chain_clause.Given as goal
+
+-- the links that were passed fold to the clause so far
+abbrev pub invariant-loop-place : goal.invariant-loop-place
+invariant-loop-place l =
+    Folds (l.formula ++ l.derived) l.first (take l.place l.chain.links) (unwrap_or l.folded l.first)

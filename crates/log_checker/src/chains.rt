@@ -1,0 +1,67 @@
+ghost use Rattle.std.specs.Prelude.{◌≡◌, ◌++◌, IfOk, IfErr, unwrap_or};
+ghost use Rattle.refutation_log.specs.Resolution.{Derives};
+ghost use Rattle.log_checker.specs.Stops.{ResolvesTo, LinkStops, ChainStops};
+
+use super::numbering::numbered;
+use super::refusal::Fault;
+use bspl_types::Duplicate;
+use clause_core::{Clause, ResolveRefusal, resolve};
+use refutation_log::{Chain, Link};
+use std::alloc::Global;
+
+/// The clause that the chain derives from the formula's clauses and the derived ones.
+pub fn chain_clause(
+    alloc: Global,
+    formula: &[Clause],
+    derived: &[Clause],
+    chain: &Chain,
+) -> Result<Clause, Fault>
+    ensures ok { IfOk result (Derives (formula.now ++ derived.now) chain.now) }
+    ensures err { IfErr result (ChainStops (formula.now ++ derived.now) chain.now) }
+{
+    let Some(first) = numbered(formula, derived, chain.first) else {
+        return Err(Fault::NoClause);
+    };
+    let mut folded: Option<Clause> = None;
+    for (place, link) in chain.links.as_slice().iter().enumerate() {
+        let clause = so_far(first, &folded);
+        let resolvent = link_resolvent(alloc, formula, derived, clause, *link, place as u64 + 1)?;
+        folded = Some(resolvent);
+    }
+    match folded {
+        Some(clause) => Ok(clause),
+        None => Ok(first.copy()?),
+    }
+}
+
+/// The chain's first clause, until a link was folded.
+fn so_far<'a>(first: &'a Clause, folded: &'a Option<Clause>) -> &'a Clause
+    ensures { result.now ≡ unwrap_or folded.now first.now }
+{
+    match folded {
+        Some(clause) => clause,
+        None => first,
+    }
+}
+
+/// The resolvent of a clause with that of the link, the chain's link of this number.
+fn link_resolvent(
+    alloc: Global,
+    formula: &[Clause],
+    derived: &[Clause],
+    clause: &Clause,
+    link: Link,
+    number: u64,
+) -> Result<Clause, Fault>
+    ensures ok { IfOk result (ResolvesTo (formula.now ++ derived.now) clause.now link) }
+    ensures err { IfErr result (LinkStops (formula.now ++ derived.now) clause.now link number) }
+{
+    let Some(other) = numbered(formula, derived, link.clause) else {
+        return Err(Fault::NoClause);
+    };
+    match resolve(alloc, clause, link.pivot, other) {
+        Ok(resolvent) => Ok(resolvent),
+        Err(ResolveRefusal::NoPivot) => Err(Fault::NoPivot { link: number }),
+        Err(ResolveRefusal::NoMemory) => Err(Fault::NoMemory),
+    }
+}

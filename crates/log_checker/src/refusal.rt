@@ -1,0 +1,44 @@
+use bspl_types::NoMemory;
+
+/// Why a log is not accepted. Steps and links count from 1.
+#[derive(Clone, Copy, Debug, PartialEq, Eq)]
+pub enum Reject {
+    /// The step names a number that is neither of a formula clause nor of an earlier step.
+    NoClause { step: u32 },
+    /// The link's pivot is not in the clause so far, or its negation not in the link's clause.
+    NoPivot { step: u32, link: u64 },
+    /// All steps resolve, and no clause is empty.
+    NotEmpty,
+    NoMemory,
+}
+
+impl From<NoMemory> for Reject {
+    ghost use Rattle.std.specs.Prelude.{◌≡◌};
+    ghost use Rattle.log_checker.specs.declared.refusal.Reject.TheVariants as rejects;
+
+    ghost from_gives = { λ _ reject. reject ≡ rejects.NoMemory };
+
+    fn from(_error: NoMemory) -> Reject {
+        Reject::NoMemory
+    }
+}
+
+/// Why a chain has no clause.
+#[derive(Clone, Copy, Debug, PartialEq, Eq)]
+pub enum Fault {
+    NoClause,
+    /// The link counts from 1.
+    NoPivot { link: u64 },
+    NoMemory,
+}
+
+impl From<NoMemory> for Fault {
+    ghost use Rattle.std.specs.Prelude.{◌≡◌};
+    ghost use Rattle.log_checker.specs.declared.refusal.Fault.TheVariants as faults;
+
+    ghost from_gives = { λ _ fault. fault ≡ faults.NoMemory };
+
+    fn from(_error: NoMemory) -> Fault {
+        Fault::NoMemory
+    }
+}
