@@ -1,0 +1,12 @@
+pub mod EntryLemmas
+pub mod StorageLemmas
+pub mod IndexLemmas
+pub mod LiteralLemmas
+pub mod SettledLemmas
+pub mod SeenLemmas
+pub mod GrowthLemmas
+pub mod PassLemmas
+pub mod TrailLemmas
+pub mod LevelLemmas
+pub mod ChangeLemmas
+pub mod FactLemmas

@@ -1,0 +1,130 @@
+ghost use Rattle.std.specs.Prelude.{◌≡◌, ◌-◌, ◌+◌, ◌<◌, ◌≤◌, ◌++◌, [], ◌∷◌, None, Some, length, take, IfOk, slice_get};
+ghost use Rattle.sat_trail.specs.Entry.{entry_of, values_of, last_level};
+ghost use Rattle.sat_trail.specs.Storage.{StartsWith, HasRoom};
+
+use super::entry::Entry;
+use bspl_types::NoMemory;
+use clause_core::Lit;
+use std::alloc::Global;
+use std::marker::Model;
+
+/// Set literals in the order of setting. Each variable has a cell with its entry, and all memory
+/// is taken at the start.
+#[derive(Drop)]
+pub struct Entries {
+    slots: Vec<Entry>,
+    len: usize,
+    cells: Vec<Option<Entry>>,
+}
+
+impl Model for Entries {
+    ghost use Rattle.std.specs.Prelude.{◌≡◌, ◌<◌, ◌≤◌, ◌^◌, length, take};
+    ghost use Rattle.sat_trail.specs.Storage.{Assigned, IsStored};
+
+    ghost Value = { Assigned };
+
+    ghost view = { λ a. record { vars = length a.cells.items; entries = take a.len a.slots.items } };
+
+    ghost invariant = { λ a. IsStored a.slots.items a.len a.cells.items };
+}
+
+impl Entries {
+    pub fn new(alloc: Global, vars: u32) -> Result<Entries, NoMemory>
+        ensures { IfOk result (λ e. e ≡ record { vars = vars; entries = [] }) }
+    {
+        let blank = Entry {
+            lit: Lit {
+                var: 0,
+                positive: false,
+            },
+            level: 0,
+            reason: None,
+        };
+        Ok(Entries {
+            slots: vec![in alloc; blank; vars as usize]?,
+            len: 0,
+            cells: vec![in alloc; None; vars as usize]?,
+        })
+    }
+
+    pub fn vars(&self) -> u32
+        ensures { result ≡ self.now.vars }
+    {
+        self.cells.len() as u32
+    }
+
+    pub fn len(&self) -> usize
+        ensures count { result ≡ length self.now.entries }
+        ensures within { length self.now.entries ≤ self.now.vars }
+        ensures room { HasRoom self.now }
+    {
+        self.len
+    }
+
+    pub fn at(&self, i: usize) -> Entry
+        requires { i < length self.now.entries }
+        ensures place { slice_get self.now.entries i ≡ Some result }
+        ensures from_one { 0 < result.lit.var }
+        ensures exists { result.lit.var ≤ self.now.vars }
+    {
+        self.slots[i]
+    }
+
+    /// The entry that sets the variable.
+    pub fn of(&self, var: u32) -> Option<Entry>
+        requires from_one { 0 < var }
+        requires exists { var ≤ self.now.vars }
+        ensures { result ≡ entry_of self.now.entries var }
+    {
+        self.cells[var as usize - 1]
+    }
+
+    pub fn value(&self, var: u32) -> Option<bool>
+        requires from_one { 0 < var }
+        requires exists { var ≤ self.now.vars }
+        ensures { result ≡ values_of self.now.entries var }
+    {
+        self.of(var).map(|entry| entry.lit.positive)
+    }
+
+    pub fn push(&mut self, entry: Entry)
+        requires from_one { 0 < entry.lit.var }
+        requires exists { entry.lit.var ≤ self.old.vars }
+        requires no_value { values_of self.old.entries entry.lit.var ≡ None }
+        ensures { self.new ≡ record self.old { entries = self.old.entries ++ entry ∷ [] } }
+    {
+        self.slots[self.len] = entry;
+        self.len += 1;
+        self.cells[entry.lit.var as usize - 1] = Some(entry);
+    }
+
+    /// Takes the last entry out.
+    pub fn pop(&mut self)
+        requires { 0 < length self.old.entries }
+        ensures { self.new ≡ record self.old { entries = take (length self.old.entries - 1) self.old.entries } }
+    {
+        self.len -= 1;
+        let last = self.slots[self.len];
+        self.cells[last.lit.var as usize - 1] = None;
+    }
+
+    /// Takes the entries above the level out, which are the last.
+    pub fn back_to(&mut self, level: u32)
+        ensures dropped { StartsWith level self.old self.new }
+        ensures last { last_level self.new.entries ≤ level }
+    {
+        while self.last_level() > level {
+            self.pop();
+        }
+    }
+
+    /// The level of the last entry, or 0.
+    fn last_level(&self) -> u32
+        ensures { result ≡ last_level self.now.entries }
+    {
+        if self.len == 0 {
+            return 0;
+        }
+        self.slots[self.len - 1].level
+    }
+}
