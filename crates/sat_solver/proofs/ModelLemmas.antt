@@ -1,0 +1,68 @@
+-- That all variables have values, and that the values satisfy.
+use Rattle.std.proofs.Common.{◌≡◌, ℕ, suc, ◌+◌, ◌-◌, ◌<◌, ◌≤◌, Bool, false, Option, Some, None, IsSome, unwrap_or, List, [], ◌∷◌, ◌++◌, ◌⊎◌, inl, inr, length, get_or, sym, ap, refl, ◌∙◌, subst, arith}
+use Rattle.std.proofs.lemmas.Bool.{cases_eq, cases_lt}
+use Rattle.std.proofs.lemmas.List.{get_or_append_left, get_or_push, length-append}
+use Rattle.std.proofs.lemmas.List.Elements.{All-head, All-tail, All-cons}
+use Rattle.clause_core.specs.declared.literal.Lit.{Lit}
+use Rattle.clause_core.specs.Assignment.{valuation}
+use Rattle.clause_core.specs.Clause.{VariablesExist, Satisfies, SatisfiesAll}
+use Rattle.clause_core.specs.Literal.{MakesTrue}
+use Rattle.clause_core.specs.Propagation.{MakesFalse, Falsifies, IsQuiet}
+use Rattle.sat_trail.specs.Entry.{values_of}
+use Rattle.sat_trail.specs.State.{State}
+use Rattle.sat_trail.specs.Trail.{IsTrail}
+use Rattle.sat_trail.proofs.LiteralLemmas.{cases_bool}
+use Rattle.sat_solver.specs.Choice.{AllSet}
+
+-- one more variable has a value
+pub set-more : (f : ℕ → Option Bool) (place : ℕ) → ((v : ℕ) → 0 < v → v ≤ place → IsSome (f v)) → IsSome (f (place + 1)) → (v : ℕ) → 0 < v → v ≤ place + 1 → IsSome (f v)
+set-more f place set next v from_one within = elim (cases_eq v (place + 1)) [
+  | inl same ↦ subst (λ w. IsSome (f w)) (sym same) next
+  | inr other ↦ set v from_one (omega arith)
+]
+
+-- the values of the first variables, with false for what is missing
+pub record IsModel (f : ℕ → Option Bool) (values : List Bool) (place : ℕ) : Type 0 where
+  pub many : length values ≡ place
+  pub each : (k : ℕ) → k < place → get_or values k false ≡ unwrap_or (f (k + 1)) false
+
+-- one more value
+pub IsModel-push : (f : ℕ → Option Bool) (values new : List Bool) (place : ℕ) (b : Bool) → IsModel f values place → b ≡ unwrap_or (f (place + 1)) false → new ≡ values ++ b ∷ [] → IsModel f new (place + 1)
+IsModel-push f values new place b model is grows = rw grows (record {
+  many = omega (arith, model.many, length-append values (b ∷ []));
+  each = λ k within. elim (cases_lt k place) [
+    | inl before ↦ get_or_append_left values (b ∷ []) false k (omega (arith, before, model.many)) ∙ model.each k before
+    | inr last ↦
+        let same : place ≡ k = omega arith in
+        get_or_push values b false k (model.many ∙ same) ∙ is ∙ ap (λ n. unwrap_or (f (n + 1)) false) same
+  ];
+})
+
+-- a literal whose variable has a value is true under the assignment, or false
+literal-decided : (f : ℕ → Option Bool) (values : List Bool) (vars : ℕ) (l : Lit) (o : Option Bool) → IsModel f values vars → 0 < l.var → l.var ≤ vars → f l.var ≡ o → IsSome o → MakesTrue (valuation values) l ⊎ MakesFalse f l
+literal-decided f values vars l None model from_one exists is some = cc
+literal-decided f values vars l (Some b) model from_one exists is some = elim (cases_bool b l.positive) [
+  | inr opposite ↦ inr (is ∙ ap Some opposite)
+  | inl same ↦ inl (model.each (l.var - 1) (omega arith) ∙ ap (λ n. unwrap_or (f n) false) (let back : l.var - 1 + 1 ≡ l.var = omega arith in back) ∙ ap (λ o. unwrap_or o false) is ∙ same)
+]
+
+-- a clause has a true literal, or is false
+clause-decided : (f : ℕ → Option Bool) (values : List Bool) (vars : ℕ) (clause : List Lit) → IsModel f values vars → ((v : ℕ) → 0 < v → v ≤ vars → IsSome (f v)) → VariablesExist vars clause → Satisfies (valuation values) clause ⊎ Falsifies f clause
+clause-decided f values vars [] model set exist = inr (λ k d within. absurd (omega arith))
+clause-decided f values vars (l ∷ rest) model set exist =
+    elim (literal-decided f values vars l (f l.var) model (All-head (λ m. (0 < m.var) × (m.var ≤ vars)) l rest exist).0 (All-head (λ m. (0 < m.var) × (m.var ≤ vars)) l rest exist).1 refl
+    (set l.var (All-head (λ m. (0 < m.var) × (m.var ≤ vars)) l rest exist).0 (All-head (λ m. (0 < m.var) × (m.var ≤ vars)) l rest exist).1)) [
+      | inl holds ↦ inl (0, l, omega arith, refl, holds)
+      | inr fails ↦ elim (clause-decided f values vars rest model set (All-tail (λ m. (0 < m.var) × (m.var ≤ vars)) l rest exist)) [
+        | inl later ↦ inl (suc later.0, later.1, omega (arith, later.2), later.3, later.4)
+        | inr falsified ↦ inr (All-cons (MakesFalse f) l rest fails falsified)
+      ]
+    ]
+
+-- where no clause is false and all variables have values, the values satisfy
+pub SatisfiesAll-model : (t : State) (values : List Bool) → IsTrail t → IsModel (values_of t.entries) values t.vars → AllSet t → IsQuiet (values_of t.entries) t.clauses → SatisfiesAll (valuation values) t.clauses
+SatisfiesAll-model t values trail model set quiet k d within =
+    elim (clause-decided (values_of t.entries) values t.vars (get_or t.clauses k d) model set (trail.clauses_exist k d within)) [
+      | inl holds ↦ holds
+      | inr falsified ↦ absurd (quiet.no_false k d within falsified)
+    ]

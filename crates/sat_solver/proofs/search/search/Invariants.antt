@@ -1,0 +1,10 @@
+-- The trail goes on over the same clauses.
+use Rattle.std.proofs.Common.{◌-◌, length}
+use Rattle.sat_solver.specs.Search.{GoesOn}
+use Rattle.sat_solver.proofs.search.search.Given as goal
+
+abbrev pub invariant-deciding : goal.invariant-deciding
+invariant-deciding l = GoesOn l.fn.trail l.trail
+
+abbrev pub decreases-deciding : goal.decreases-deciding
+decreases-deciding l = l.trail.vars - length l.trail.entries

@@ -1,0 +1,31 @@
+-- What each outcome of the solver says of the formula.
+use Rattle.std.specs.Prelude.{◌≡◌, ℕ, ◌≤◌, List, [], length, Contains}
+use Rattle.clause_core.specs.declared.literal.Lit.{Lit}
+use Rattle.clause_core.specs.declared.formula.Formula.{Formula}
+use Rattle.clause_core.specs.Assignment.{valuation}
+use Rattle.clause_core.specs.Clause.{SatisfiesAll}
+use Rattle.refutation_log.specs.declared.refutation.Log.{Log}
+use Rattle.refutation_log.specs.Resolution.{Accepts, IsNew, DerivesAll}
+use Rattle.sat_solver.specs.declared.outcome.Outcome.{Outcome}
+use Rattle.sat_solver.specs.declared.outcome.Outcome.TheVariants.{Sat, Unsat, Budget}
+
+-- the log is accepted, new and within the budget; it has no step where the formula has an empty clause
+pub record Refutes (f : Formula) (budget : ℕ) (log : Log) : Type 0 where
+  pub accepted : Accepts f log
+  pub new : IsNew f log
+  pub within : length log.steps ≤ budget
+  pub none_needed : Contains f.clauses [] → log.steps ≡ []
+
+-- the log is new, has exactly as many steps as the budget allows, and derives no empty clause
+pub record Spends (f : Formula) (budget : ℕ) (log : Log) : Type 0 where
+  pub new : IsNew f log
+  pub spent : length log.steps ≡ budget
+  pub derived : List (List Lit)
+  pub derives : DerivesAll f.clauses log.steps derived
+  pub no_empty : ¬ Contains derived []
+
+-- the outcome is right
+abbrev pub IsOutcome : Formula → ℕ → Outcome → Type 0
+IsOutcome f budget (Sat assignment) = SatisfiesAll (valuation assignment) f.clauses
+IsOutcome f budget (Unsat log) = Refutes f budget log
+IsOutcome f budget (Budget log) = Spends f budget log

@@ -1,0 +1,13 @@
+use clause_core::Assignment;
+use refutation_log::Log;
+
+/// What a solver found out about a formula.
+#[derive(Drop)]
+pub enum Outcome {
+    /// An assignment that satisfies all clauses.
+    Sat(Assignment),
+    /// A log that ends in the empty clause.
+    Unsat(Log),
+    /// A log of as many new clauses as were allowed.
+    Budget(Log),
+}

@@ -1,0 +1,66 @@
+ghost use Rattle.std.specs.Prelude.{◌+◌, ◌^◌, ◌<◌, ◌≤◌, ◌↔◌, [], length, IfOk, IsTrue, Contains};
+ghost use Rattle.sat_solver.specs.Outcome.{IsOutcome};
+
+use super::analysis::{Derivation, refute};
+use super::effort::Effort;
+use super::learning::learn_from;
+use super::model::model;
+use super::outcome::Outcome;
+use super::search::search;
+use bspl_types::{NoMemory, Seq};
+use clause_core::{Clause, Formula};
+use refutation_log::{ChainList, Log};
+use sat_trail::Trail;
+use std::alloc::Global;
+
+/// Decides the formula by learning a clause at each conflict, as GRASP and Chaff do, with no more
+/// than `budget` conflicts.
+pub fn solve(alloc: Global, f: &Formula, budget: u32) -> Result<Outcome, NoMemory>
+    requires some { 1 ≤ budget }
+    requires few { length f.now.clauses + budget < 2 ^ 32 }
+    ensures { IfOk result (IsOutcome f.now budget) }
+{
+    let mut effort = Effort::none();
+    solve_counted(alloc, f, budget, &mut effort)
+}
+
+/// The same, and adds what was done to the counts.
+pub fn solve_counted(
+    alloc: Global,
+    f: &Formula,
+    budget: u32,
+    effort: &mut Effort,
+) -> Result<Outcome, NoMemory>
+    requires some { 1 ≤ budget }
+    requires few { length f.now.clauses + budget < 2 ^ 32 }
+    ensures { IfOk result (IsOutcome f.now budget) }
+{
+    let mut steps: ChainList = Seq::new(alloc);
+    if has_empty(f.clauses.as_slice()) {
+        return Ok(Outcome::Unsat(Log { steps }));
+    }
+    let mut trail = Trail::new(alloc, f)?;
+    let mut clauses = f.clauses.len() as u32;
+    let mut mark = clauses;
+    for _ in 0..budget {
+        let Some(number) = search(&mut trail, f.vars, clauses, &mut mark, effort) else {
+            return Ok(Outcome::Sat(model(alloc, &trail, f.vars)?));
+        };
+        if trail.level() == 0 {
+            let Derivation { chain, clause: _ } = refute(alloc, &trail, number)?;
+            steps.push(chain)?;
+            return Ok(Outcome::Unsat(Log { steps }));
+        }
+        steps.push(learn_from(alloc, &mut trail, number)?)?;
+        clauses += 1;
+        mark = clauses;
+    }
+    Ok(Outcome::Budget(Log { steps }))
+}
+
+/// Whether one of the clauses is empty.
+fn has_empty(clauses: &[Clause]) -> bool
+    ensures { IsTrue result ↔ Contains clauses.now [] }
+{
+    clauses.iter().any(|c| c.lits().is_empty())
+}
