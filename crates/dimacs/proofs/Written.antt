@@ -1,0 +1,48 @@
+-- Clauses satisfy what the written ones do, and a formula of a text has a verdict.
+use Rattle.std.proofs.Common.{ℕ, Bool, List, [], ◌∷◌, Contains}
+use Rattle.std.proofs.lemmas.List.Elements.{All-cons, All-head, All-tail}
+use Rattle.clause_core.specs.declared.literal.Lit.{Lit}
+use Rattle.clause_core.specs.declared.formula.Formula.{Formula}
+use Rattle.clause_core.specs.Clause.{Satisfies, SatisfiesAll, IsUnsatisfiable}
+use Rattle.dimacs.specs.Token.{HaveExactly, IsFormulaOf}
+use Rattle.dimacs.specs.Verdict.{IsReadWith}
+
+-- a clause is satisfied where one is whose literals it has
+satisfied_moves : (v : ℕ → Bool) (c w : List Lit) → ((l : Lit) → Contains c l → Contains w l) → Satisfies v c → Satisfies v w
+satisfied_moves v c w kept (k, l, within, is, makes) =
+    let among = kept l (k, within, is) in
+    (among.0, l, among.1, among.2, makes)
+
+-- the written clauses are satisfied where the clauses are
+written_satisfied : (v : ℕ → Bool) (clauses written : List (List Lit)) → HaveExactly clauses written → SatisfiesAll v clauses → SatisfiesAll v written
+written_satisfied v [] [] same all = all
+written_satisfied v [] (w ∷ ws) same all = absurd same
+written_satisfied v (c ∷ cs) [] same all = absurd same
+written_satisfied v (c ∷ cs) (w ∷ ws) same all =
+    All-cons (Satisfies v) w ws (satisfied_moves v c w (λ l. (same.0 l).0) (All-head (Satisfies v) c cs all)) (written_satisfied v cs ws same.1 (All-tail (Satisfies v) c cs all))
+
+-- and the other way
+clauses_satisfied : (v : ℕ → Bool) (clauses written : List (List Lit)) → HaveExactly clauses written → SatisfiesAll v written → SatisfiesAll v clauses
+clauses_satisfied v [] [] same all = all
+clauses_satisfied v [] (w ∷ ws) same all = absurd same
+clauses_satisfied v (c ∷ cs) [] same all = absurd same
+clauses_satisfied v (c ∷ cs) (w ∷ ws) same all =
+    All-cons (Satisfies v) c cs (satisfied_moves v w c (λ l. (same.0 l).1) (All-head (Satisfies v) w ws all)) (clauses_satisfied v cs ws same.1 (All-tail (Satisfies v) w ws all))
+
+-- what satisfies the formula of a text satisfies what is written there
+pub read_satisfied : (text : List ℕ) (f : Formula) (v : ℕ → Bool) → IsFormulaOf text f → SatisfiesAll v f.clauses → IsReadWith (SatisfiesAll v) text
+read_satisfied text f v is_formula all = record {
+  vars = f.vars;
+  written = is_formula.written;
+  read = is_formula.read;
+  holds = written_satisfied v f.clauses is_formula.written is_formula.same all;
+}
+
+-- where nothing satisfies the formula, nothing satisfies what is written
+pub read_unsatisfiable : (text : List ℕ) (f : Formula) → IsFormulaOf text f → IsUnsatisfiable f.clauses → IsReadWith IsUnsatisfiable text
+read_unsatisfiable text f is_formula none = record {
+  vars = f.vars;
+  written = is_formula.written;
+  read = is_formula.read;
+  holds = λ v all. none v (clauses_satisfied v f.clauses is_formula.written is_formula.same all);
+}

@@ -1,0 +1,37 @@
+/// How a call ended.
+#[derive(Clone, Copy, Debug, PartialEq, Eq)]
+pub enum Status {
+    Satisfiable,
+    Unsatisfiable,
+    Unknown,
+    /// The words are no command line.
+    Usage,
+    /// The input was refused, and the refusal written.
+    Refused,
+    ReadFault,
+    /// A front of the text was written.
+    WriteFault,
+    /// A front of the text was written, perhaps nothing.
+    NoMemory,
+}
+
+impl Status {
+    ghost use Rattle.std.specs.Prelude.{◌≡◌};
+    ghost use Rattle.dimacs.specs.Call.{number_of};
+
+    /// The exit status of the program.
+    pub fn number(self) -> u8
+        ensures { result ≡ number_of self }
+    {
+        match self {
+            Status::Satisfiable => 10,
+            Status::Unsatisfiable => 20,
+            Status::Unknown => 0,
+            Status::Usage => 3,
+            Status::Refused => 4,
+            Status::ReadFault => 5,
+            Status::WriteFault => 6,
+            Status::NoMemory => 7,
+        }
+    }
+}

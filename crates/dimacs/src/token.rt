@@ -1,0 +1,28 @@
+ghost use Rattle.std.specs.Prelude.{◌≡◌, IfOk};
+ghost use Rattle.dimacs.specs.Token.{token_word};
+
+use clause_core::Lit;
+use refutation_log::{Flaw, pivot_of};
+
+/// A word after the header.
+#[derive(Clone, Copy, Debug, PartialEq, Eq)]
+pub enum Token {
+    Literal(Lit),
+    /// A clause ends.
+    End,
+}
+
+/// The token of a word, unless it is none or has a variable past `vars`.
+pub fn token_of(word: &[u8], vars: u32) -> Result<Token, Flaw>
+    ensures { IfOk result (λ token. token_word token ≡ word.now) }
+{
+    if word == b"0".as_slice() {
+        return Ok(Token::End);
+    }
+    let lit = pivot_of(word)?;
+    if lit.var <= vars {
+        Ok(Token::Literal(lit))
+    } else {
+        Err(Flaw::Number)
+    }
+}

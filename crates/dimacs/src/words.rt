@@ -1,0 +1,67 @@
+ghost use Rattle.std.specs.Prelude.{◌≡◌, ◌++◌, ◌∷◌, [], map, MatchOption, OnOk, Some};
+ghost use Rattle.std.specs.Option.{option_copied};
+ghost use Rattle.dimacs.specs.Dimacs.{is_blank, words_of, line_words};
+ghost use Rattle.dimacs.specs.Token.{blank_parts, words_left, token_word};
+
+use super::token::{Token, token_of};
+use bspl_types::Seq;
+use refutation_log::Flaw;
+
+fn is_blank(byte: u8) -> bool
+    ensures { result ≡ is_blank byte }
+{
+    matches!(byte, b' ' | b'\t' | b'\r')
+}
+
+/// The bytes before the first blank, and those after it if it is there.
+fn cut_at_blank(bytes: &[u8]) -> (&[u8], Option<&[u8]>)
+    ensures { blank_parts (Some bytes.now) ≡ result.0.now ∷ blank_parts (option_copied result.1) }
+{
+    for (place, byte) in bytes.iter().enumerate() {
+        if is_blank(*byte) {
+            return (&bytes[..place], Some(&bytes[place + 1..]));
+        }
+    }
+    (bytes, None)
+}
+
+/// The first word of what is left of a line, and what is left after it.
+pub fn next_word(fields: Option<&[u8]>) -> Option<(&[u8], Option<&[u8]>)>
+    ensures { MatchOption result
+        (words_left (option_copied fields.entry) ≡ [])
+        (λ found. words_left (option_copied fields.entry)
+        ≡ found.0.now ∷ words_left (option_copied found.1)) }
+{
+    let mut left = fields;
+    while let Some(bytes) = left {
+        let (word, rest) = cut_at_blank(bytes);
+        if !word.is_empty() {
+            return Some((word, rest));
+        }
+        left = rest;
+    }
+    None
+}
+
+/// The line, or none of it where it is a comment.
+pub fn uncommented(line: &[u8]) -> &[u8]
+    ensures { words_of result.now ≡ line_words line.now }
+{
+    match line {
+        [b'c', ..] => &line[..0],
+        _ => line,
+    }
+}
+
+/// Puts the tokens of the line's words at the end.
+pub fn push_words(tokens: &mut Seq<Token>, vars: u32, line: &[u8]) -> Result<(), Flaw>
+    ensures { OnOk result
+        (map token_word tokens.new ≡ map token_word tokens.old ++ words_of line.now) }
+{
+    let mut left = Some(line);
+    while let Some((word, rest)) = next_word(left) {
+        tokens.push(token_of(word, vars)?)?;
+        left = rest;
+    }
+    Ok(())
+}
