@@ -1,0 +1,26 @@
+-- The texts that are written.
+use Rattle.std.specs.Prelude.{ℕ, List, [], ◌∷◌, ◌++◌, codes}
+use Rattle.bspl_tool.specs.declared.refusal.InputRefusal.{InputRefusal}
+use Rattle.bspl_tool.specs.declared.refusal.InputRefusal.TheVariants.{TooLong, NotBuilt, NoMemory}
+
+-- a line with its LF
+abbrev pub line : List ℕ → List ℕ
+line text = text ++ 10 ∷ []
+
+-- what a command line looks like
+abbrev pub usage_text : List ℕ
+usage_text = line (codes "usage: bspl COMMAND NAME [--brief] [--conflicts N] [--threads N]")
+
+-- the verdict of a safe protocol
+abbrev pub verdict_safe : List ℕ
+verdict_safe = codes "safety safe"
+
+-- the verdict, and a log without steps: the formula of a protocol with single producers has the empty clause
+abbrev pub safe_text : List ℕ → List ℕ
+safe_text name = line (codes "protocol " ++ name) ++ (line verdict_safe ++ (line (codes "log 1 safety") ++ line (codes "end")))
+
+-- a refusal's code and fields; want of memory has none
+abbrev pub refusal_text : InputRefusal → List ℕ
+refusal_text (TooLong limit) = line (codes "refused P2 536870912")
+refusal_text NotBuilt = line (codes "refused N1")
+refusal_text NoMemory = []

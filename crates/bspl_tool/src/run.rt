@@ -1,0 +1,39 @@
+ghost use Rattle.std.specs.Prelude.{◌≡◌, map, string_bytes};
+ghost use Rattle.bspl_io.specs.Faults.{Rose};
+ghost use Rattle.bspl_tool.specs.Call.{IsRight, SafeWhereSaid};
+ghost use Rattle.bspl_tool.specs.Command.{IsCommandLine};
+
+use super::reply::{Silence, reply_to};
+use super::status::Status;
+use bspl_io::{Sink, Source, WriteRefusal, write_all};
+use std::alloc::Global;
+
+/// Reads what the words ask for, and writes the answer. The whole text is made before its first
+/// byte is written.
+pub fn bspl<R: Source, W: Sink>(
+    alloc: Global,
+    words: &[String],
+    input: &mut R,
+    output: &mut W,
+) -> Status
+    ensures output { IsRight (map string_bytes words.now) (R.left input.old) (R.left input.new)
+        (W.written output.old) (W.written output.new) result }
+    ensures read_fault { result ≡ Status.ReadFault →
+        IsCommandLine (map string_bytes words.now) × Rose (R.faults input.old) (R.faults input.new) }
+    ensures write_fault { result ≡ Status.WriteFault → Rose (W.faults output.old) (W.faults output.new) }
+
+    // The headline: `safety safe` is written only of a protocol that is safe in every legal run.
+    ensures safe { SafeWhereSaid (map string_bytes words.now) (R.left input.old)
+        (W.written output.old) (W.written output.new) }
+{
+    let reply = match reply_to(alloc, words, input) {
+        Ok(reply) => reply,
+        Err(Silence::ReadFault) => return Status::ReadFault,
+        Err(Silence::NoMemory) => return Status::NoMemory,
+    };
+    match write_all(output, reply.text()) {
+        Ok(()) => reply.status(),
+        Err(WriteRefusal::WriteFault) => Status::WriteFault,
+        Err(WriteRefusal::NoMemory) => Status::NoMemory,
+    }
+}

@@ -1,0 +1,34 @@
+ghost use Rattle.std.specs.Prelude.{◌≡◌, IfOk};
+ghost use Rattle.bspl_tool.specs.Texts.{safe_text, refusal_text, usage_text};
+
+use super::refusal::InputRefusal;
+use bspl_types::{Bytes, NoMemory};
+use std::alloc::Global;
+
+/// What a command line looks like.
+pub fn usage_text() -> &'static [u8]
+    ensures { result.now ≡ usage_text }
+{
+    b"usage: bspl COMMAND NAME [--brief] [--conflicts N] [--threads N]\n"
+}
+
+/// The line of a refusal, its code and its fields.
+pub fn refusal_text(refusal: InputRefusal) -> &'static [u8]
+    ensures { result.now ≡ refusal_text refusal }
+{
+    match refusal {
+        InputRefusal::TooLong { .. } => b"refused P2 536870912\n",
+        InputRefusal::NotBuilt => b"refused N1\n",
+        InputRefusal::NoMemory => b"",
+    }
+}
+
+/// The verdict on a protocol whose parameters have single producers.
+pub fn safe_text(alloc: Global, name: &[u8]) -> Result<Bytes, NoMemory>
+    ensures { IfOk result (λ text. text ≡ safe_text name.now) }
+{
+    let mut text = Bytes::from_slice(alloc, b"protocol ")?;
+    text.append(name)?;
+    text.append(b"\nsafety safe\nlog 1 safety\nend\n")?;
+    Ok(text)
+}
