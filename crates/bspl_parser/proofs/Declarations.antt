@@ -159,12 +159,12 @@ document_sound ts d e =
     (Spelled-then (signs_of_declaration first.0) (flat_map signs_of_declaration more.0) ts first.1 more.1 one.0 others.0)
     (record { some = λ is. cc; each = All-cons IsDeclaration first.0 more.0 one.1 others.1 }) in
     let whole = took signs_of_document (λ x. GoodList IsDeclaration x.protocols) ts (record { protocols = all.0 }, all.1) (d, []) made list.0 list.1 in
-    record { some = whole.1.some; each = whole.1.each; signed = whole_from_Spelled (signs_of_document d) ts whole.0 })))
+    record { formed = record { some = whole.1.some; each = whole.1.each }; signed = whole_from_Spelled (signs_of_document d) ts whole.0 })))
 
 -- and a document that they spell is read
 pub document_complete : (ts : List Token) (d : Document) → Spells ts d → document_at ts ≡ Ok (d, [])
 unfolding document_at
-document_complete ts d spells = again d.protocols spells.some spells.each (Spelled-whole (signs_of_document d) ts spells.signed)
+document_complete ts d spells = again d.protocols spells.formed.some spells.formed.each (Spelled-whole (signs_of_document d) ts spells.signed)
   where
     again : (ds : List Declaration) → ds ≢ [] → All IsDeclaration ds → Spelled (flat_map signs_of_declaration ds) ts [] → document_at ts ≡ Ok (record { protocols = ds }, [])
     again [] some each spelled = absurd (some refl)

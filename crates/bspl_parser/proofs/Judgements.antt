@@ -11,12 +11,13 @@ use Rattle.bspl_parser.specs.Grammar.{signs_of_document}
 use Rattle.bspl_parser.specs.Judgement.{IsText, IsViable, IsBadSyntax, IsRefusedFor, place_of}
 use Rattle.bspl_parser.specs.PhraseReading.{document_at}
 use Rattle.bspl_parser.specs.Scanning.{IsScanFault}
-use Rattle.bspl_parser.specs.Spelling.{Spells}
+use Rattle.bspl_parser.specs.Spelling.{IsWellFormed, Spells}
 use Rattle.bspl_parser.specs.Token.{offset_of}
 use Rattle.bspl_parser.specs.Tokens.{Tokens, IsBadByte}
 use Rattle.bspl_parser.proofs.Declarations.{document_sound, document_complete}
 use Rattle.bspl_parser.proofs.Steady.{Stuck, fault_of}
-use Rattle.bspl_parser.proofs.BlockedDocuments.{IsWhole, document_blocks}
+use Rattle.bspl_parser.proofs.BlockedDocuments.{document_blocks}
+use Rattle.bspl_parser.proofs.Primitives.{first_of_same}
 use Rattle.bspl_parser.proofs.Spelled.{Spelled, whole_from_Spelled}
 use Rattle.bspl_parser.proofs.Unique.{Tokens_unique, bad_has_no_tokens}
 
@@ -26,8 +27,8 @@ byte_refused text (At place) end offset bad is = subst (IsBadByte text) (sym is)
 byte_refused text End end offset bad is = absurd bad
 
 -- what can be gone on with is viable
-viable_of : (front : List Token) (more : List Token) (d : Document) → IsWhole d → Spelled (signs_of_document d) (front ++ more) [] → IsViable front
-viable_of front more d whole spelled = (more, d, record { some = whole.some; each = whole.each; signed = whole_from_Spelled (signs_of_document d) (front ++ more) spelled })
+viable_of : (front : List Token) (more : List Token) (d : Document) → IsWellFormed d → Spelled (signs_of_document d) (front ++ more) [] → IsViable front
+viable_of front more d formed spelled = (more, d, record { formed = formed; signed = whole_from_Spelled (signs_of_document d) (front ++ more) spelled })
 
 -- where reading stops at a token no document begins so
 stopped_at : (text : List ℕ) (ts : List Token) (f : Fault) → Tokens text ts → (stuck : Stuck document_at ts f) → IsViable stuck.front → (left : List Token) → stuck.left ≡ left → document_at ts ≡ Err f → (offset : ℕ) → offset ≡ place_of f (length text) → IsRefusedFor text (Syntax offset)
@@ -112,3 +113,9 @@ syntax_has_no_document text a d (inr x) of_d = x.none d (subst (λ ts. Spells ts
 pub syntax_has_no_bad_byte : (text : List ℕ) (a b : ℕ) → IsBadSyntax text a → IsBadByte text b → ⊥
 syntax_has_no_bad_byte text a b (inl x) bad = bad_has_no_tokens text b (x.front ++ x.token ∷ x.rest) bad x.scanned
 syntax_has_no_bad_byte text a b (inr x) bad = bad_has_no_tokens text b x.tokens bad x.scanned
+
+-- documents of one text are one
+pub one_document : (text : List ℕ) (d e : Document) → IsText text d → IsText text e → d ≡ e
+one_document text d e of_d of_e =
+    let tokens = Tokens_unique text of_d.tokens of_e.tokens of_d.scanned of_e.scanned in
+    first_of_same d e (sym (document_complete of_d.tokens d of_d.spelled) ∙ ap document_at tokens ∙ document_complete of_e.tokens e of_e.spelled)

@@ -1,3 +1,6 @@
+pub mod AlikeLemmas
+pub mod Alone
+pub mod Appended
 pub mod Blocked
 pub mod BlockedDocuments
 pub mod BlockedItems
@@ -9,13 +12,18 @@ pub mod GapLengths
 pub mod Gaps
 pub mod Items
 pub mod Judgements
+pub mod Laid
+pub mod LaidDocuments
+pub mod LaidLists
+pub mod LaidPhrases
+pub mod LaidTokens
 pub mod LastEnds
 pub mod Listed
 pub mod Lists
 pub mod NameLemmas
 pub mod NamingLemmas
-pub mod PlainLemmas
 pub mod Primitives
+pub mod Printed
 pub mod ScanSteps
 pub mod Scanned
 pub mod Scans

@@ -23,16 +23,12 @@ pub record IsScanned (text : List ℕ) (tokens : List Token) (offset : ℕ) (byt
   pub whole : (more : List Token) → TokensTo AtEnd offset bytes more → TokensTo AtEnd 0 text (tokens ++ more)
   pub stuck : (bad : ℕ) (more : List Token) → TokensTo (AtBad bad) offset bytes more → TokensTo (AtBad bad) 0 text (tokens ++ more)
 
--- at the start none was taken
-pub at_start : (text : List ℕ) → IsScanned text [] 0 text
-at_start text = record { whole = λ more of_more. of_more; stuck = λ bad more of_more. of_more }
-
 -- at the end all were
 pub at_end : (text : List ℕ) (tokens : List Token) (offset : ℕ) (bytes : List ℕ) → IsScanned text tokens offset bytes → bytes ≡ [] → Tokens text tokens
 at_end text tokens offset bytes scanned none = subst (TokensTo AtEnd 0 text) (append-nil tokens) (scanned.whole [] ([], bytes, nothing, refl, inl none))
 
 -- a gap before the tokens
-gap_before : (End : ℕ → List ℕ → Type 0) (p : List ℕ) → IsGap p → (offset : ℕ) (bytes : List ℕ) (ts : List Token) → TokensTo End (offset + length p) bytes ts → TokensTo End offset (p ++ bytes) ts
+pub gap_before : (End : ℕ → List ℕ → Type 0) (p : List ℕ) → IsGap p → (offset : ℕ) (bytes : List ℕ) (ts : List Token) → TokensTo End (offset + length p) bytes ts → TokensTo End offset (p ++ bytes) ts
 gap_before End p gap offset bytes [] of_ts =
     let g = of_ts.0 in
     let r = of_ts.1 in

@@ -35,7 +35,7 @@ short_arrow_mark_none : (rest : List ℕ) (n : ℕ) → accepts Start (take n (s
 short_arrow_mark_none rest zero = refl
 short_arrow_mark_none rest (suc n) = refl
 
-short_arrow_mark : IsMarkText (spelling Arrow)
+pub short_arrow_mark : IsMarkText (spelling Arrow)
 unfolding mark_at
 short_arrow_mark = record { symbol = Arrow; again = λ rest. refl; no_name = short_arrow_mark_none; solid = record { first = 45; others = 62 ∷ []; is = refl; no_blank = refl; no_slash = refl } }
 
@@ -43,7 +43,7 @@ openbrace_mark_none : (rest : List ℕ) (n : ℕ) → accepts Start (take n (spe
 openbrace_mark_none rest zero = refl
 openbrace_mark_none rest (suc n) = refl
 
-openbrace_mark : IsMarkText (spelling OpenBrace)
+pub openbrace_mark : IsMarkText (spelling OpenBrace)
 unfolding mark_at
 openbrace_mark = record { symbol = OpenBrace; again = λ rest. refl; no_name = openbrace_mark_none; solid = record { first = 123; others = []; is = refl; no_blank = refl; no_slash = refl } }
 
@@ -51,7 +51,7 @@ closebrace_mark_none : (rest : List ℕ) (n : ℕ) → accepts Start (take n (sp
 closebrace_mark_none rest zero = refl
 closebrace_mark_none rest (suc n) = refl
 
-closebrace_mark : IsMarkText (spelling CloseBrace)
+pub closebrace_mark : IsMarkText (spelling CloseBrace)
 unfolding mark_at
 closebrace_mark = record { symbol = CloseBrace; again = λ rest. refl; no_name = closebrace_mark_none; solid = record { first = 125; others = []; is = refl; no_blank = refl; no_slash = refl } }
 
@@ -59,7 +59,7 @@ openbracket_mark_none : (rest : List ℕ) (n : ℕ) → accepts Start (take n (s
 openbracket_mark_none rest zero = refl
 openbracket_mark_none rest (suc n) = refl
 
-openbracket_mark : IsMarkText (spelling OpenBracket)
+pub openbracket_mark : IsMarkText (spelling OpenBracket)
 unfolding mark_at
 openbracket_mark = record { symbol = OpenBracket; again = λ rest. refl; no_name = openbracket_mark_none; solid = record { first = 91; others = []; is = refl; no_blank = refl; no_slash = refl } }
 
@@ -67,7 +67,7 @@ closebracket_mark_none : (rest : List ℕ) (n : ℕ) → accepts Start (take n (
 closebracket_mark_none rest zero = refl
 closebracket_mark_none rest (suc n) = refl
 
-closebracket_mark : IsMarkText (spelling CloseBracket)
+pub closebracket_mark : IsMarkText (spelling CloseBracket)
 unfolding mark_at
 closebracket_mark = record { symbol = CloseBracket; again = λ rest. refl; no_name = closebracket_mark_none; solid = record { first = 93; others = []; is = refl; no_blank = refl; no_slash = refl } }
 
@@ -75,7 +75,7 @@ openparen_mark_none : (rest : List ℕ) (n : ℕ) → accepts Start (take n (spe
 openparen_mark_none rest zero = refl
 openparen_mark_none rest (suc n) = refl
 
-openparen_mark : IsMarkText (spelling OpenParen)
+pub openparen_mark : IsMarkText (spelling OpenParen)
 unfolding mark_at
 openparen_mark = record { symbol = OpenParen; again = λ rest. refl; no_name = openparen_mark_none; solid = record { first = 40; others = []; is = refl; no_blank = refl; no_slash = refl } }
 
@@ -83,7 +83,7 @@ closeparen_mark_none : (rest : List ℕ) (n : ℕ) → accepts Start (take n (sp
 closeparen_mark_none rest zero = refl
 closeparen_mark_none rest (suc n) = refl
 
-closeparen_mark : IsMarkText (spelling CloseParen)
+pub closeparen_mark : IsMarkText (spelling CloseParen)
 unfolding mark_at
 closeparen_mark = record { symbol = CloseParen; again = λ rest. refl; no_name = closeparen_mark_none; solid = record { first = 41; others = []; is = refl; no_blank = refl; no_slash = refl } }
 
@@ -91,7 +91,7 @@ comma_mark_none : (rest : List ℕ) (n : ℕ) → accepts Start (take n (spellin
 comma_mark_none rest zero = refl
 comma_mark_none rest (suc n) = refl
 
-comma_mark : IsMarkText (spelling Comma)
+pub comma_mark : IsMarkText (spelling Comma)
 unfolding mark_at
 comma_mark = record { symbol = Comma; again = λ rest. refl; no_name = comma_mark_none; solid = record { first = 44; others = []; is = refl; no_blank = refl; no_slash = refl } }
 
@@ -99,7 +99,7 @@ colon_mark_none : (rest : List ℕ) (n : ℕ) → accepts Start (take n (spellin
 colon_mark_none rest zero = refl
 colon_mark_none rest (suc n) = refl
 
-colon_mark : IsMarkText (spelling Colon)
+pub colon_mark : IsMarkText (spelling Colon)
 unfolding mark_at
 colon_mark = record { symbol = Colon; again = λ rest. refl; no_name = colon_mark_none; solid = record { first = 58; others = []; is = refl; no_blank = refl; no_slash = refl } }
 

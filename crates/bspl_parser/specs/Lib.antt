@@ -1,8 +1,9 @@
+pub mod Alike
 pub mod Grammar
 pub mod Judgement
+pub mod Layout
 pub mod Naming
 pub mod PhraseReading
-pub mod Plain
 pub mod Reading
 pub mod Scanning
 pub mod Sign

@@ -39,8 +39,12 @@ pub record IsDeclaration (d : Declaration) : Type 0 where
   pub each_public : All IsFormal d.public
   pub each_item : All IsItem d.body
 
--- the tokens spell the document: there is a protocol, each is well formed, and the tokens are its signs one by one
-pub record Spells (tokens : List Token) (d : Document) : Type 0 where
+-- there is a protocol, and each is well formed
+pub record IsWellFormed (d : Document) : Type 0 where
   pub some : d.protocols ≢ []
   pub each : All IsDeclaration d.protocols
+
+-- the tokens spell the document: it is well formed, and they are its signs one by one
+pub record Spells (tokens : List Token) (d : Document) : Type 0 where
+  pub formed : IsWellFormed d
   pub signed : AllZip Matches (signs_of_document d) tokens

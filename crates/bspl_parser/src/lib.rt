@@ -4,10 +4,11 @@
 mod cursor;
 mod document;
 mod fault;
+mod layout;
 mod naming;
 mod parsing;
 mod phrases;
-mod plain;
+mod printing;
 mod repeat;
 mod repetition;
 mod scanning;
@@ -20,10 +21,12 @@ pub use document::{
     Schema,
 };
 pub use parsing::{answers_once, parse};
-pub use plain::{PlainRefusal, read_plain, reads_one_document};
+pub use printing::{print, reads_back};
 pub use word::{Word, WordList};
 
 #[cfg(test)]
-mod plain_tests;
+mod printing_tests;
+#[cfg(test)]
+mod refusal_tests;
 #[cfg(test)]
 mod tests;

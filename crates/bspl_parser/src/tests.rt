@@ -1,8 +1,28 @@
 use super::*;
-use bspl_types::Refusal;
 use std::test::Fail;
 
 const PING: &[u8] = b"Ping { roles A, B parameters out ID key A -> B: ping[out ID] }";
+
+const PURCHASE: &[u8] = b"Purchase {
+  roles B, S, Shipper
+  parameters out ID key, out item, out price, out outcome
+  private address, response
+  B -> S: rfq[out ID, out item]
+  S -> B: quote[in ID, in item, out price]
+  B -> S: accept[in ID, in item, in price, out address, out response]
+  B -> S: reject[in ID, in item, in price, out outcome, out response]
+  S -> Shipper: ship[in ID, in item, in address]
+  Shipper -> B: deliver[in ID, in item, in address, out outcome]
+}";
+
+const RACE: &[u8] = b"Race {
+  roles B, S
+  parameters out ID key, out outcome
+  private stop
+  B -> S: order[out ID]
+  B -> S: cancel[in ID, out stop, out outcome]
+  S -> B: ship[in ID, nil stop, out outcome]
+}";
 
 #[test]
 fn each_word_has_its_place(rt: HostRuntime) -> Result<(), Fail> {
@@ -20,116 +40,93 @@ fn each_word_has_its_place(rt: HostRuntime) -> Result<(), Fail> {
     Ok(())
 }
 
-/// What a text gives.
-#[derive(Clone, Copy, Debug, PartialEq, Eq)]
-enum Answer {
-    Reads,
-    Byte(u64),
-    Syntax(u64),
-    Other,
-}
-
-fn answer_of(answer: Result<Document, Refusal>) -> Answer {
-    match answer {
-        Ok(_) => Answer::Reads,
-        Err(Refusal::Byte { offset }) => Answer::Byte(offset),
-        Err(Refusal::Syntax { offset }) => Answer::Syntax(offset),
-        Err(_) => Answer::Other,
-    }
-}
-
-/// Texts, each with what it gives.
-const TEXTS: [(Answer, &[u8]); 39] = [
-    (Answer::Reads, b"P{role A parameter out x key}"),
+/// Texts, each with its number of roles, public and private parameters and items, summed over its
+/// protocols.
+const COUNTS: [([usize; 4], &[u8]); 20] = [
+    ([2, 1, 0, 1], PING),
+    ([3, 4, 2, 6], PURCHASE),
+    ([2, 2, 1, 3], RACE),
+    ([1, 1, 0, 0], b"P{role A parameter out x key}"),
     (
-        Answer::Reads,
-        b"P{roles A-1,B parameters out ID key A-1->B:m[out ID]}",
-    ),
-    (
-        Answer::Reads,
+        [1, 1, 0, 0],
         b"\t P {\r\n roles A // one role\n parameters out x\n}\r\n// the end",
     ),
     (
-        Answer::Reads,
+        [1, 1, 0, 0],
+        b"//\n// a\n\nP//b\n{role//c\nA parameter out x}//",
+    ),
+    (
+        [1, 1, 0, 0],
+        b"P{role A // \0 \xFF ; \xE2\n parameter out x}",
+    ),
+    (
+        [2, 1, 0, 1],
+        b"P{roles A-1,B parameters out ID key A-1->B:m[out ID]}",
+    ),
+    (
+        [2, 1, 0, 1],
         b"P{roles A,B parameters out x key A \xE2\x86\xA6 B: m[out x] }",
     ),
     (
-        Answer::Reads,
-        b"P{roles A parameters any x,opt y,nil z,in a#1.b key Q(A,in x,out y key)} Q{roles R parameters in x,out y}",
+        [2, 1, 0, 1],
+        b"P{roles A,B parameters out x A\xE2\x86\xA6B:m[out x]}",
     ),
     (
-        Answer::Reads,
+        [2, 1, 0, 0],
         b"P{roles rolesA,in#1.key parameters out inner}",
     ),
     (
-        Answer::Reads,
+        [2, 1, 0, 0],
+        b"P{roles a#1.roles,a#1.b#20.c-1 parameters out _}",
+    ),
+    (
+        [2, 3, 0, 1],
+        b"P{roles role1,private-a parameters in inner,nil nilly,opt o A->_:key-1[any anyway]}",
+    ),
+    ([2, 2, 0, 0], b"P{roles A,A parameters out x,out x}"),
+    (
+        [2, 3, 2, 0],
+        b"P{roles A,B parameters in x,nil y,out z private u,v}",
+    ),
+    (
+        [1, 1, 0, 2],
+        b"P{role A parameter out x Q(A)R(A,A,nil y,opt z key)}",
+    ),
+    (
+        [2, 1, 0, 1],
         b"P { roles A, B parameters out x key A -> B: m[in x key, opt y] }",
     ),
-    (Answer::Syntax(0), b""),
-    (Answer::Syntax(15), b" // no protocol"),
-    (Answer::Syntax(32), b"P { roles A, B parameters out ID"),
-    (Answer::Byte(11), b"P { roles A; }"),
-    (Answer::Byte(12), b"P { roles A - > B }"),
-    (Answer::Byte(11), b"P { roles a#0.b }"),
-    (Answer::Byte(11), b"P { roles a#01.b }"),
-    (Answer::Byte(11), b"P { roles a#1. }"),
-    (Answer::Byte(11), b"P { roles A- }"),
-    (Answer::Byte(10), b"P { roles 1A }"),
-    (Answer::Byte(12), b"P { roles A \0 }"),
-    (Answer::Byte(0), b"\xEF\xBB\xBFP { roles A }"),
-    (Answer::Byte(12), b"P { roles A \xE2\x86"),
-    (Answer::Byte(2), b"} ; roles"),
-    (Answer::Byte(12), b"P { roles A / B }"),
-    (Answer::Syntax(0), b"roles { roles A parameters out x }"),
-    (Answer::Syntax(10), b"P { roles key parameters out x }"),
-    (Answer::Syntax(12), b"P { roles A,, B parameters out x }"),
-    (Answer::Syntax(10), b"P { roles parameters out x }"),
-    (Answer::Syntax(23), b"P { roles A parameters }"),
-    (Answer::Syntax(29), b"P { roles A parameters nil x key }"),
     (
-        Answer::Syntax(33),
-        b"P { roles A parameters out x key key }",
-    ),
-    (Answer::Syntax(23), b"P { roles A parameters x }"),
-    (
-        Answer::Syntax(37),
-        b"P { roles A parameters out x private }",
+        [2, 2, 0, 0],
+        b"P{role A parameter out x}P{role A parameter out x}",
     ),
     (
-        Answer::Syntax(43),
-        b"P{roles A,B parameters out x key A -> B: m[] }",
+        [2, 6, 0, 1],
+        b"P{roles A parameters any x,opt y,nil z,in a#1.b key Q(A,in x,out y key)}
+Q{roles R parameters in x,out y}",
     ),
     (
-        Answer::Syntax(40),
-        b"P{roles A,B parameters out x key A -> B m[out x] }",
+        [1, 1, 0, 1],
+        b"P { roles rolesA parameters out inner rolesA->rolesA:_m1[in inner] }",
     ),
-    (
-        Answer::Syntax(35),
-        b"P{roles A,B parameters out x key A B: m[out x] }",
-    ),
-    (
-        Answer::Syntax(38),
-        b"P{roles A,B parameters out x key A -> -> B: m[out x] }",
-    ),
-    (
-        Answer::Syntax(35),
-        b"P{roles A,B parameters out x key Q(in x) }",
-    ),
-    (
-        Answer::Syntax(44),
-        b"P{roles A,B parameters out x key Q(A, in x, B) }",
-    ),
-    (
-        Answer::Syntax(38),
-        b"P{roles A,B parameters out x key Q(A, ) }",
-    ),
-    (Answer::Syntax(35), b"P{roles A,B parameters out x key } }"),
 ];
 
+fn counts_of(document: &Document) -> [usize; 4] {
+    let mut counts = [0usize; 4];
+    for p in document.protocols.as_slice() {
+        let more = [p.roles.len(), p.public.len(), p.private.len(), p.body.len()];
+        for (count, len) in counts.iter_mut().zip(more) {
+            *count = count.saturating_add(len);
+        }
+    }
+    counts
+}
+
 #[test]
-fn each_text_has_its_answer(rt: HostRuntime) {
-    for (expected, text) in TEXTS {
-        let answer = answer_of(parse(rt.alloc(), text));
-        assert_eq!(rt; answer, expected, "{:?}", text);
+fn each_text_is_read(rt: HostRuntime) {
+    for (counts, text) in COUNTS {
+        let answer = parse(rt.alloc(), text);
+        let found = answer.ok().map(|document| counts_of(&document));
+        assert_eq!(rt; found, Some(counts), "{:?}", text);
     }
 }

@@ -18,6 +18,7 @@ use Rattle.bspl_parser.specs.declared.document.Item.TheVariants as item
 use Rattle.enactment_model.specs.Producers.{HasOneProducer, SharesOut}
 use Rattle.bspl_tool.specs.Reading.{Declares, DeclaresAlone}
 use Rattle.bspl_tool.specs.Expansion.{IsCarried, IsImage, IsExpansionOf, params_of}
+use Rattle.bspl_tool.specs.Plain.{IsPlainDeclaration}
 
 -- a parameter is carried in one way
 one_carried : (params : List ParamInfo) (f : Formal) (c d : Carried) → IsCarried params f c → IsCarried params f d → c ≡ d
@@ -116,7 +117,11 @@ declares_found d x (Some a) expands both =
     subst (Declares d) (sym both.0) (record { expands = expands; admitted = both.1; produced_once = both.2 })
 
 -- the only protocol of the document is the declared one
-pub alone_found : (name : List ℕ) (document : Document) (d : Declaration) (result : Result (Option Expanded) NoMemory) → document.protocols ≡ d ∷ [] → d.name.text ≡ name → IfOk result (λ found. MatchOption found ((x : Expanded) → ¬ Declares d x) (Declares d)) → IfOk result (λ found. MatchOption found ((x : Expanded) → ¬ DeclaresAlone name document x) (DeclaresAlone name document))
-alone_found name document d (Err e) is_alone is_named declared = tt
-alone_found name document d (Ok (Some x)) is_alone is_named declared = record { declaration = d; alone = is_alone; named = is_named; declares = declared }
-alone_found name document d (Ok None) is_alone is_named declared = λ x other. declared x (subst (λ e. Declares e x) (let same : other.declaration ≡ d = cc (other.alone, is_alone) in same) other.declares)
+pub alone_found : (name : List ℕ) (document : Document) (d : Declaration) (result : Result (Option Expanded) NoMemory) → document.protocols ≡ d ∷ [] → d.name.text ≡ name → IsPlainDeclaration d → IfOk result (λ found. MatchOption found ((x : Expanded) → ¬ Declares d x) (Declares d)) → IfOk result (λ found. MatchOption found ((x : Expanded) → ¬ DeclaresAlone name document x) (DeclaresAlone name document))
+alone_found name document d (Err e) is_alone is_named plain declared = tt
+alone_found name document d (Ok (Some x)) is_alone is_named plain declared = record { declaration = d; alone = is_alone; named = is_named; plain = plain; declares = declared }
+alone_found name document d (Ok None) is_alone is_named plain declared = λ x other. declared x (subst (λ e. Declares e x) (let same : other.declaration ≡ d = cc (other.alone, is_alone) in same) other.declares)
+
+-- where it is not plain, the document declares nothing
+pub none_unless_plain : (name : List ℕ) (document : Document) (d : Declaration) → document.protocols ≡ d ∷ [] → (IsPlainDeclaration d → ⊥) → (x : Expanded) → ¬ DeclaresAlone name document x
+none_unless_plain name document d is_alone refused x other = refused (subst IsPlainDeclaration (let same : other.declaration ≡ d = cc (other.alone, is_alone) in same) other.plain)

@@ -1,61 +1,62 @@
--- `safety safe` stands in no other text than the verdict.
-use Rattle.std.proofs.Common.{◌≡◌, ℕ, Bool, true, List, [], ◌++◌, take, drop, Option, Some, None, eqb, refl, sym, ◌∙◌, ap, subst, append_assoc, append-nil}
-use Rattle.std.specs.List.{list_any}
+-- `safety safe` is a line of no other text than the verdict.
+use Rattle.std.proofs.Common.{◌≡◌, ℕ, List, [], ◌++◌, length, take, Option, Some, None, codes, refl, sym, ◌∙◌, subst, arith, append-nil}
+use Rattle.std.specs.Fmt.{decimal}
 use Rattle.std.specs.Io.KnownBytes.{Appends}
-use Rattle.std.proofs.lemmas.Bool.{false≢true, or_left, or_right}
-use Rattle.std.proofs.lemmas.List.{append_cancel_left, take-append-drop}
-use Rattle.std.proofs.lemmas.List.Folds.{list_any-append}
+use Rattle.std.proofs.lemmas.List.{append_cancel_left, take_all}
+use Rattle.bspl_types.specs.declared.refusals.Refusal.TheVariants as text
+use Rattle.bspl_types.specs.declared.refusals.What.TheVariants as what
 use Rattle.bspl_io.specs.Sink.{AppendsFront}
+use Rattle.bspl_tool.specs.declared.complaint.Complaint.{Complaint}
+use Rattle.bspl_tool.specs.declared.complaint.Complaint.TheVariants.{Input, Text}
 use Rattle.bspl_tool.specs.declared.refusal.InputRefusal.TheVariants.{TooLong, NotBuilt, NoMemory}
 use Rattle.bspl_tool.specs.declared.reply.Reply.{Reply}
 use Rattle.bspl_tool.specs.declared.reply.Reply.TheVariants as reply
-use Rattle.bspl_tool.specs.Call.{Says, SafeWhereSaid, DeclaresSafe}
+use Rattle.bspl_tool.specs.Call.{SaysLine, SafeWhereSaid, DeclaresSafe}
+use Rattle.bspl_tool.specs.Refusals.{complaint_text}
+use Rattle.bspl_tool.specs.Refusing.{Refuses}
 use Rattle.bspl_tool.specs.Reply.{reply_text, RepliesTo}
-use Rattle.bspl_tool.specs.Texts.{verdict_safe}
+use Rattle.bspl_tool.specs.Texts.{line, verdict_safe}
+use Rattle.bspl_tool.proofs.Otherwise.{IsOther, decimal_has_no_lf, front_says_other}
 
--- the text has the letter y, which `safety` has
-has_y : List ℕ → Bool
-has_y text = list_any (λ b. eqb b 121) text
+-- one line, which is another than the verdict's
+abbrev IsOtherLine : List ℕ → Type 0
+IsOtherLine text = (body : List ℕ) × (text ≡ line body) × IsOther body
 
-says_y : (text : List ℕ) → Says text verdict_safe → has_y text ≡ true
-unfolding has_y
-says_y text (before, after, is_text) =
-    ap has_y is_text ∙ list_any-append (λ b. eqb b 121) before (verdict_safe ++ after)
-    ∙ or_right (has_y before) (has_y (verdict_safe ++ after)) (list_any-append (λ b. eqb b 121) verdict_safe after ∙ or_left (has_y verdict_safe) (has_y after) refl)
+-- a refusal that is given has such a line
+refused_otherwise : (name bytes : List ℕ) (c : Complaint) → Refuses c name bytes → IsOtherLine (complaint_text c)
+refused_otherwise name bytes (Input (TooLong limit)) refuses = (codes "refused P2 " ++ (decimal limit ++ []), refl, record { whole = decimal_has_no_lf limit; first = λ is. omega arith })
+refused_otherwise name bytes (Input NotBuilt) refuses = (codes "refused N1", refl, record { whole = refl; first = λ is. omega arith })
+refused_otherwise name bytes (Input NoMemory) refuses = absurd refuses.1
+refused_otherwise name bytes (Text (text.Byte offset)) refuses = (codes "refused E1 " ++ (decimal offset ++ []), refl, record { whole = decimal_has_no_lf offset; first = λ is. omega arith })
+refused_otherwise name bytes (Text (text.Syntax offset)) refuses = (codes "refused E2 " ++ (decimal offset ++ []), refl, record { whole = decimal_has_no_lf offset; first = λ is. omega arith })
+refused_otherwise name bytes (Text (text.Limit what.Text count)) refuses = (codes "refused E9 text " ++ (decimal count ++ []), refl, record { whole = decimal_has_no_lf count; first = λ is. omega arith })
+refused_otherwise name bytes (Text other) refuses = absurd refuses.1.1
 
--- so only a verdict says it
-said_by_verdict : (words : List (List ℕ)) (left left' : Option (List ℕ)) (r : Reply) → RepliesTo words left left' r → Says (reply_text r) verdict_safe → DeclaresSafe words left
-unfolding has_y
-said_by_verdict words left left' reply.Usage replies says = absurd (false≢true (says_y _ says))
-said_by_verdict words left left' (reply.Safe text) replies says = replies.safe refl
-said_by_verdict words left left' (reply.Refused (TooLong limit)) replies says = absurd (false≢true (says_y _ says))
-said_by_verdict words left left' (reply.Refused NotBuilt) replies says = absurd (false≢true (says_y _ says))
-said_by_verdict words left left' (reply.Refused NoMemory) replies says = absurd (false≢true (says_y _ says))
+-- so only a verdict says it, whole or in a front
+said_by_verdict : (words : List (List ℕ)) (left left' : Option (List ℕ)) (r : Reply) (n : ℕ) → RepliesTo words left left' r → SaysLine (take n (reply_text r)) verdict_safe → DeclaresSafe words left
+said_by_verdict words left left' reply.Usage n replies says =
+    absurd (front_says_other (codes "usage: bspl COMMAND NAME [--brief] [--conflicts N] [--threads N]") n (record { whole = refl; first = λ is. omega arith }) says)
+said_by_verdict words left left' (reply.Safe text) n replies says = replies.safe refl
+said_by_verdict words left left' (reply.Refused text) n replies says =
+    let refused = replies.right in
+    let other = refused_otherwise refused.name replies.bytes refused.complaint refused.refuses in
+    absurd (front_says_other other.0 n other.2 (subst (λ t. SaysLine (take n t) verdict_safe) (refused.text ∙ other.1) says))
 
--- what a front says, the whole says
-said_by_front : (text : List ℕ) (n : ℕ) → Says (take n text) verdict_safe → Says text verdict_safe
-said_by_front text n (before, after, is_front) =
-    (before, after ++ drop n text, sym (take-append-drop n text) ∙ ap (λ front. front ++ drop n text) is_front ∙ append_assoc before (verdict_safe ++ after) (drop n text) ∙ ap (λ rest. before ++ rest) (append_assoc verdict_safe after (drop n text)))
-
--- what was appended is what was written
-pub safe_where_appended : (words : List (List ℕ)) (left left' old new : Option (List ℕ)) (r : Reply) (front : List ℕ) → RepliesTo words left left' r → Appends old new front → (Says front verdict_safe → Says (reply_text r) verdict_safe) → SafeWhereSaid words left old new
-safe_where_appended words left left' None new r front replies appended within = tt
-safe_where_appended words left left' (Some before) None r front replies appended within = tt
-safe_where_appended words left left' (Some before) (Some after) r front replies appended within = λ out is_after says.
-    said_by_verdict words left left' r replies (within (subst (λ text. Says text verdict_safe) (append_cancel_left before out front (sym is_after ∙ appended)) says))
-
--- a whole text
-pub safe_after_text : (words : List (List ℕ)) (left left' old new : Option (List ℕ)) (r : Reply) → RepliesTo words left left' r → Appends old new (reply_text r) → SafeWhereSaid words left old new
-safe_after_text words left left' old new r replies appended = safe_where_appended words left left' old new r (reply_text r) replies appended (λ says. says)
-
--- a front of a text
+-- what was appended is a front of what was to be written
 pub safe_after_front : (words : List (List ℕ)) (left left' old new : Option (List ℕ)) (r : Reply) → RepliesTo words left left' r → AppendsFront old new (reply_text r) → SafeWhereSaid words left old new
-safe_after_front words left left' old new r replies (n, appended) = safe_where_appended words left left' old new r (take n (reply_text r)) replies appended (said_by_front (reply_text r) n)
+safe_after_front words left left' None new r replies (n, appended) = tt
+safe_after_front words left left' (Some before) None r replies (n, appended) = tt
+safe_after_front words left left' (Some before) (Some after) r replies (n, appended) = λ out is_after says.
+    said_by_verdict words left left' r n replies (subst (λ t. SaysLine t verdict_safe) (append_cancel_left before out (take n (reply_text r)) (sym is_after ∙ appended)) says)
 
--- nothing
+-- perhaps the whole of it
+pub safe_after_text : (words : List (List ℕ)) (left left' old new : Option (List ℕ)) (r : Reply) → RepliesTo words left left' r → Appends old new (reply_text r) → SafeWhereSaid words left old new
+safe_after_text words left left' old new r replies appended =
+    safe_after_front words left left' old new r replies (length (reply_text r), subst (Appends old new) (sym (take_all (length (reply_text r)) (reply_text r) (omega arith))) appended)
+
+-- or nothing
 pub safe_after_nothing : (words : List (List ℕ)) (left old : Option (List ℕ)) → SafeWhereSaid words left old old
-unfolding has_y
 safe_after_nothing words left None = tt
 safe_after_nothing words left (Some before) = λ out is_same says.
     let nothing : out ≡ [] = append_cancel_left before out [] (sym is_same ∙ sym (append-nil before)) in
-    absurd (false≢true (sym (ap has_y nothing) ∙ says_y out says))
+    absurd (front_says_other [] 0 (record { whole = refl; first = λ is. omega arith }) (subst (λ t. SaysLine t verdict_safe) nothing says))

@@ -1,6 +1,7 @@
 pub mod Expanding
 pub mod Headline
-pub mod Judgements
+pub mod OneOutput
+pub mod Otherwise
 pub mod Pairings
 pub mod Replies
 pub mod Shorts

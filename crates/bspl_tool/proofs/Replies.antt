@@ -1,31 +1,42 @@
 -- What a reply says of the words and of the bytes that were left.
-use Rattle.std.proofs.Common.{◌≡◌, ℕ, ◌<◌, List, [], length, Option, Some, None, Result, Ok, Err, refl, subst, inl, inr}
+use Rattle.std.proofs.Common.{◌≡◌, ℕ, ◌<◌, ◌≤◌, List, [], length, Option, Some, None, Result, Ok, Err, refl, subst, inl, inr}
 use Rattle.std.specs.Prelude.{IfOk, IfSome}
 use Rattle.bspl_io.specs.Source.{Takes, ReadsAll}
+use Rattle.bspl_tool.specs.declared.complaint.Complaint.{Complaint}
+use Rattle.bspl_tool.specs.declared.complaint.Complaint.TheVariants.{Input, Text}
 use Rattle.bspl_tool.specs.declared.limits.TheConstants.{INPUT_LIMIT}
 use Rattle.bspl_tool.specs.declared.refusal.InputRefusal.TheVariants.{TooLong, NotBuilt, NoMemory}
 use Rattle.bspl_tool.specs.declared.reply.Reply.{Reply}
 use Rattle.bspl_tool.specs.declared.reply.Reply.TheVariants as reply
 use Rattle.bspl_tool.specs.declared.reply.Silence.{Silence}
 use Rattle.bspl_tool.specs.Command.{IsVerify, IsCommandLine}
+use Rattle.bspl_tool.specs.Refusals.{complaint_text}
+use Rattle.bspl_tool.specs.Refusing.{Refuses, RefusesWhole}
 use Rattle.bspl_tool.specs.Reply.{Judges, RepliesTo, Verifies}
 
 -- an input that is too long is refused
-pub too_long : (name : List ℕ) (left left' : Option (List ℕ)) → IfSome left (λ told. INPUT_LIMIT < length told) → Takes left left' (λ bytes. INPUT_LIMIT < length bytes) → Verifies name left left' (reply.Refused (TooLong INPUT_LIMIT))
-too_long name None left' told (bytes, taken, is_long) = record {
+pub too_long : (name written : List ℕ) (left left' : Option (List ℕ)) → written ≡ complaint_text (Input (TooLong INPUT_LIMIT)) → IfSome left (λ told. INPUT_LIMIT < length told) → Takes left left' (λ bytes. INPUT_LIMIT < length bytes) → Verifies name left left' (reply.Refused written)
+too_long name written None left' is_text told (bytes, taken, is_long) = record {
   bytes = bytes;
   told = tt;
-  right = λ words asked. record { name = name; asked = asked; refusal = TooLong INPUT_LIMIT; refuses = (refl, is_long); text = refl };
+  right = λ words asked. record { name = name; asked = asked; complaint = Input (TooLong INPUT_LIMIT); refuses = (refl, is_long); text = is_text };
   read = inr is_long;
   safe = λ words asked done. absurd (cc);
 }
-too_long name (Some all) left' told taken = record {
+too_long name written (Some all) left' is_text told taken = record {
   bytes = all;
   told = refl;
-  right = λ words asked. record { name = name; asked = asked; refusal = TooLong INPUT_LIMIT; refuses = (refl, told); text = refl };
+  right = λ words asked. record { name = name; asked = asked; complaint = Input (TooLong INPUT_LIMIT); refuses = (refl, told); text = is_text };
   read = inr told;
   safe = λ words asked done. absurd (cc);
 }
+
+-- an input that was read and is refused whole is refused
+refused_whole : (name bytes : List ℕ) (c : Complaint) → length bytes ≤ INPUT_LIMIT → RefusesWhole c name bytes → Refuses c name bytes
+refused_whole name bytes (Input (TooLong limit)) short refuses = absurd refuses
+refused_whole name bytes (Input NotBuilt) short refuses = (short, refuses)
+refused_whole name bytes (Input NoMemory) short refuses = absurd refuses
+refused_whole name bytes (Text refusal) short refuses = (short, refuses)
 
 -- what is judged of the whole input is right
 pub judged : (name : List ℕ) (left left' : Option (List ℕ)) (text : List ℕ) (r : Reply) → ReadsAll left left' INPUT_LIMIT text → Judges name text r → Verifies name left left' r
@@ -37,15 +48,13 @@ judged name left left' text (reply.Safe written) all (x, reads, is_safe, is_text
   read = all.at_end;
   safe = λ words asked done. record { name = name; asked = asked; bytes = text; told = all.whole; protocol = x; reads = reads; safe = is_safe };
 }
-judged name left left' text (reply.Refused (TooLong limit)) all judges = absurd judges
-judged name left left' text (reply.Refused NotBuilt) all judges = record {
+judged name left left' text (reply.Refused written) all (c, refuses, is_text) = record {
   bytes = text;
   told = all.whole;
-  right = λ words asked. record { name = name; asked = asked; refusal = NotBuilt; refuses = (all.within, judges); text = refl };
+  right = λ words asked. record { name = name; asked = asked; complaint = c; refuses = refused_whole name text c all.within refuses; text = is_text };
   read = inl all.at_end;
   safe = λ words asked done. absurd (cc);
 }
-judged name left left' text (reply.Refused NoMemory) all judges = absurd judges
 
 -- words that are no command line get the usage line, and nothing is read
 pub no_command : (words : List (List ℕ)) (left : Option (List ℕ)) → ¬ IsCommandLine words → RepliesTo words left left reply.Usage

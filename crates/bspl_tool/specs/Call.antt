@@ -1,6 +1,7 @@
 -- What one call of the tool does to its source and its sink, which may tell their bytes.
 use Rattle.std.specs.Prelude.{◌≡◌, ℕ, List, ◌++◌, Option, IfSome, ◌⊎◌}
 use Rattle.std.specs.Io.KnownBytes.{Appends, Keeps}
+use Rattle.std.specs.List.{Contains}
 use Rattle.bspl_io.specs.Sink.{AppendsFront}
 use Rattle.bspl_types.specs.declared.expanded.Expanded.{Expanded}
 use Rattle.enactment_model.specs.Safety.{SafeProtocol}
@@ -8,6 +9,7 @@ use Rattle.bspl_tool.specs.declared.status.Status.{Status}
 use Rattle.bspl_tool.specs.declared.status.Status.TheVariants.{Done, Usage, Refused, ReadFault, WriteFault, NoMemory}
 use Rattle.bspl_tool.specs.Command.{IsVerify}
 use Rattle.bspl_tool.specs.Output.{Output, Read}
+use Rattle.bspl_tool.specs.Parts.{lines}
 use Rattle.bspl_tool.specs.Reading.{ReadsAs}
 use Rattle.bspl_tool.specs.Texts.{verdict_safe}
 
@@ -42,11 +44,11 @@ IsRight words left left' old new ReadFault = Keeps old new
 IsRight words left left' old new WriteFault = WritesFront words left old new
 IsRight words left left' old new NoMemory = Keeps old new ⊎ WritesFront words left old new
 
--- the text has these bytes somewhere
-abbrev pub Says : List ℕ → List ℕ → Type 0
-Says text said = (before after : List ℕ) × (text ≡ before ++ (said ++ after))
+-- one of the text's lines is this one
+abbrev pub SaysLine : List ℕ → List ℕ → Type 0
+SaysLine text said = Contains (lines text) said
 
--- wherever `safety safe` was written, the words ask for a protocol that the text declares and that is safe
+-- the words ask for a protocol that the text declares and that is safe
 pub record DeclaresSafe (words : List (List ℕ)) (left : Option (List ℕ)) : Type 0 where
   pub name : List ℕ
   pub asked : IsVerify words name
@@ -56,5 +58,6 @@ pub record DeclaresSafe (words : List (List ℕ)) (left : Option (List ℕ)) : T
   pub reads : ReadsAs name bytes protocol
   pub safe : SafeProtocol protocol
 
+-- so it is wherever the line `safety safe` was written
 abbrev pub SafeWhereSaid : List (List ℕ) → Option (List ℕ) → Option (List ℕ) → Option (List ℕ) → Type 0
-SafeWhereSaid words left old new = IfSome old (λ before. IfSome new (λ after. (out : List ℕ) → after ≡ before ++ out → Says out verdict_safe → DeclaresSafe words left))
+SafeWhereSaid words left old new = IfSome old (λ before. IfSome new (λ after. (out : List ℕ) → after ≡ before ++ out → SaysLine out verdict_safe → DeclaresSafe words left))

@@ -2,7 +2,11 @@ pub mod Call
 pub mod Command
 pub mod Expansion
 pub mod Output
+pub mod Parts
+pub mod Plain
 pub mod Reading
+pub mod Refusals
+pub mod Refusing
 pub mod Reply
 pub mod Status
 pub mod Texts

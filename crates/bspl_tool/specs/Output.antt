@@ -2,28 +2,23 @@
 use Rattle.std.specs.Prelude.{◌≡◌, ℕ, ◌<◌, ◌≤◌, List, length, Option, ⊤, ◌⊎◌}
 use Rattle.std.specs.Io.KnownBytes.{IsAtEnd}
 use Rattle.bspl_types.specs.declared.expanded.Expanded.{Expanded}
+use Rattle.bspl_tool.specs.declared.complaint.Complaint.{Complaint}
 use Rattle.bspl_tool.specs.declared.limits.TheConstants.{INPUT_LIMIT}
-use Rattle.bspl_tool.specs.declared.refusal.InputRefusal.{InputRefusal}
-use Rattle.bspl_tool.specs.declared.refusal.InputRefusal.TheVariants.{TooLong, NotBuilt, NoMemory as Unrefused}
 use Rattle.bspl_tool.specs.declared.status.Status.{Status}
 use Rattle.bspl_tool.specs.declared.status.Status.TheVariants.{Done, Usage, Refused, ReadFault, WriteFault, NoMemory}
 use Rattle.bspl_tool.specs.Command.{IsVerify, IsCommandLine}
 use Rattle.bspl_tool.specs.Reading.{ReadsAs}
-use Rattle.bspl_tool.specs.Texts.{usage_text, safe_text, refusal_text}
-
--- the input is refused so: it is too long, or it is not and no plain text of the name
-abbrev pub Refuses : InputRefusal → List ℕ → List ℕ → Type 0
-Refuses (TooLong limit) name bytes = (limit ≡ INPUT_LIMIT) × (INPUT_LIMIT < length bytes)
-Refuses NotBuilt name bytes = (length bytes ≤ INPUT_LIMIT) × ((x : Expanded) → ¬ ReadsAs name bytes x)
-Refuses Unrefused name bytes = ⊥
+use Rattle.bspl_tool.specs.Refusals.{complaint_text}
+use Rattle.bspl_tool.specs.Refusing.{Refuses}
+use Rattle.bspl_tool.specs.Texts.{usage_text, safe_text}
 
 -- a refusal of the input for the words, with its text
 pub record IsRefused (words : List (List ℕ)) (bytes out : List ℕ) : Type 0 where
   pub name : List ℕ
   pub asked : IsVerify words name
-  pub refusal : InputRefusal
-  pub refuses : Refuses refusal name bytes
-  pub text : out ≡ refusal_text refusal
+  pub complaint : Complaint
+  pub refuses : Refuses complaint name bytes
+  pub text : out ≡ complaint_text complaint
 
 -- a plain text of the asked name, with its verdict
 pub record IsVerified (words : List (List ℕ)) (bytes out : List ℕ) : Type 0 where

@@ -1,7 +1,5 @@
 -- The texts that are written.
 use Rattle.std.specs.Prelude.{ℕ, List, [], ◌∷◌, ◌++◌, codes}
-use Rattle.bspl_tool.specs.declared.refusal.InputRefusal.{InputRefusal}
-use Rattle.bspl_tool.specs.declared.refusal.InputRefusal.TheVariants.{TooLong, NotBuilt, NoMemory}
 
 -- a line with its LF
 abbrev pub line : List ℕ → List ℕ
@@ -18,9 +16,3 @@ verdict_safe = codes "safety safe"
 -- the verdict, and a log without steps: the formula of a protocol with single producers has the empty clause
 abbrev pub safe_text : List ℕ → List ℕ
 safe_text name = line (codes "protocol " ++ name) ++ (line verdict_safe ++ (line (codes "log 1 safety") ++ line (codes "end")))
-
--- a refusal's code and fields; want of memory has none
-abbrev pub refusal_text : InputRefusal → List ℕ
-refusal_text (TooLong limit) = line (codes "refused P2 536870912")
-refusal_text NotBuilt = line (codes "refused N1")
-refusal_text NoMemory = []

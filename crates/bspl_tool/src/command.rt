@@ -5,8 +5,8 @@ use bspl_types::is_name;
 
 /// The name of the protocol that the words ask to verify.
 pub fn verified_name(words: &[String]) -> Option<&[u8]>
-    ensures { MatchOption result
-        (¬ IsCommandLine (map string_bytes words.now)) (λ name. IsVerify (map string_bytes words.now) name.now) }
+    ensures { MatchOption result (¬ IsCommandLine (map string_bytes words.now))
+        (λ name. IsVerify (map string_bytes words.now) name.now) }
 {
     let [command, name] = words else {
         return None;

@@ -55,7 +55,8 @@ fn declared_params(
     public: &[Formal],
     private: &[Word],
 ) -> Result<ParamInfoList, NoMemory>
-    ensures { IfOk result (λ params. params ≡ map public_param public.now ++ map private_param private.now) }
+    ensures { IfOk result
+        (λ params. params ≡ map public_param public.now ++ map private_param private.now) }
 {
     let mut params = Seq::new(alloc);
     for f in public {

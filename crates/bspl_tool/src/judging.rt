@@ -1,31 +1,43 @@
-ghost use Rattle.std.specs.Prelude.{◌≡◌, IfOk, IfSome, MatchOption};
+ghost use Rattle.std.specs.Prelude.{◌≡◌, IfErr, IfOk, IfSome, MatchOption};
 ghost use Rattle.bspl_types.specs.declared.expanded.Expanded.{Expanded as Protocol};
 ghost use Rattle.bspl_types.specs.Admission.{IsAdmitted};
 ghost use Rattle.enactment_model.specs.Producers.{HasOneProducer};
 ghost use Rattle.enactment_model.specs.Safety.{SafeProtocol};
 ghost use Rattle.bspl_tool.specs.Reading.{Declares, DeclaresAlone, ReadsAs};
+ghost use Rattle.bspl_tool.specs.Refusing.{IsPrinted, RefusesWhole};
 
+use super::complaint::Complaint;
 use super::expansion::expansion_of;
 use super::limits::TEXT_LIMIT;
-use bspl_parser::{Declaration, Document, PlainRefusal, read_plain, reads_one_document};
-use bspl_types::{Admitted, Expanded, NoMemory, is_admitted};
+use super::parts::has_part_line;
+use super::plain::is_plain;
+use super::refusal::InputRefusal;
+use bspl_parser::{Declaration, Document, parse};
+use bspl_types::{Admitted, Expanded, NoMemory, Refusal, What, is_admitted};
 use enactment_model::single_producer;
 use std::alloc::Global;
 
-/// The protocol that a plain text of the name declares. It is safe.
-pub fn protocol_of(alloc: Global, name: &[u8], text: &[u8]) -> Result<Option<Admitted>, NoMemory>
-    ensures read { IfOk result (λ found. MatchOption found
-        ((x : Protocol) → ¬ ReadsAs name.now text.now x) (ReadsAs name.now text.now)) }
-    ensures safe { IfOk result (λ found. IfSome found SafeProtocol) }
+/// The protocol that a text declares for the name, or what the tool has against the text. The
+/// protocol is safe.
+pub fn protocol_of(alloc: Global, name: &[u8], text: &[u8]) -> Result<Admitted, Complaint>
+    ensures ok { IfOk result (ReadsAs name.now text.now) }
+    ensures safe { IfOk result SafeProtocol }
+    ensures refused { IfErr result (λ complaint. IsPrinted complaint
+        → RefusesWhole complaint name.now text.now) }
 {
-    if text.len() > TEXT_LIMIT {
-        return Ok(None);
+    if has_part_line(text) {
+        return Err(InputRefusal::NotBuilt.into());
     }
-    reads_one_document();
-    match read_plain(alloc, text) {
-        Ok(document) => declared_alone(alloc, name, &document),
-        Err(PlainRefusal::NotPlain) => Ok(None),
-        Err(PlainRefusal::NoMemory) => Err(NoMemory),
+    if text.len() > TEXT_LIMIT {
+        return Err(Complaint::Text(Refusal::Limit {
+            what: What::Text,
+            count: text.len() as u64,
+        }));
+    }
+    let document = parse(alloc, text)?;
+    match declared_alone(alloc, name, &document)? {
+        Some(x) => Ok(x),
+        None => Err(InputRefusal::NotBuilt.into()),
     }
 }
 
@@ -35,12 +47,13 @@ fn declared_alone(
     document: &Document,
 ) -> Result<Option<Admitted>, NoMemory>
     ensures declared { IfOk result (λ found. MatchOption found
-        ((x : Protocol) → ¬ DeclaresAlone name.now document.now x) (DeclaresAlone name.now document.now)) }
+        ((x : Protocol) → ¬ DeclaresAlone name.now document.now x)
+        (DeclaresAlone name.now document.now)) }
     ensures safe { IfOk result (λ found. IfSome found SafeProtocol) }
 {
     match document.protocols.as_slice() {
         [declaration] => {
-            if declaration.name.text.as_slice() == name {
+            if declaration.name.text.as_slice() == name && is_plain(declaration) {
                 declared(alloc, declaration)
             } else {
                 Ok(None)

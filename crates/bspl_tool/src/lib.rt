@@ -2,22 +2,31 @@
 #![tactic(auto)]
 
 mod command;
+mod complaint;
 mod expansion;
 mod images;
 mod judging;
+mod laws;
 mod limits;
+mod parts;
+mod plain;
 mod refusal;
+mod refusing;
 mod reply;
 mod run;
 mod status;
 mod texts;
 
+pub use complaint::Complaint;
 pub use expansion::expansion_of;
 pub use judging::protocol_of;
+pub use laws::one_output;
 pub use limits::{INPUT_LIMIT, TEXT_LIMIT};
 pub use refusal::InputRefusal;
 pub use run::bspl;
 pub use status::Status;
 
+#[cfg(test)]
+mod refusing_tests;
 #[cfg(test)]
 mod tests;

@@ -4,11 +4,13 @@ ghost use Rattle.bspl_tool.specs.Command.{IsCommandLine, IsVerify};
 ghost use Rattle.bspl_tool.specs.Reply.{reply_text, reply_status, Judges, RepliesTo, Verifies};
 
 use super::command::verified_name;
+use super::complaint::Complaint;
 use super::judging::protocol_of;
 use super::limits::INPUT_LIMIT;
 use super::refusal::InputRefusal;
+use super::refusing::complaint_text;
 use super::status::Status;
-use super::texts::{refusal_text, safe_text, usage_text};
+use super::texts::{safe_text, usage_text};
 use bspl_io::{ReadRefusal, Source, read_all};
 use bspl_types::{Bytes, NoMemory};
 use std::alloc::Global;
@@ -17,7 +19,8 @@ use std::alloc::Global;
 #[derive(Drop)]
 pub enum Reply {
     Usage,
-    Refused(InputRefusal),
+    /// The line of a refusal.
+    Refused(Bytes),
     /// The whole text of the verdict.
     Safe(Bytes),
 }
@@ -46,8 +49,7 @@ impl Reply {
     {
         match self {
             Reply::Usage => usage_text(),
-            Reply::Refused(refusal) => refusal_text(*refusal),
-            Reply::Safe(text) => text.as_slice(),
+            Reply::Refused(text) | Reply::Safe(text) => text.as_slice(),
         }
     }
 
@@ -64,9 +66,11 @@ impl Reply {
 
 /// The reply to the words and the input, which is read where the words ask for it.
 pub fn reply_to<R: Source>(alloc: Global, words: &[String], input: &mut R) -> Result<Reply, Silence>
-    ensures right { IfOk result (RepliesTo (map string_bytes words.now) (R.left input.old) (R.left input.new)) }
+    ensures right { IfOk result
+        (RepliesTo (map string_bytes words.now) (R.left input.old) (R.left input.new)) }
     ensures asked { IsErrOf result Silence.ReadFault → IsCommandLine (map string_bytes words.now) }
-    ensures fault { IsErrOf result Silence.ReadFault → Rose (R.faults input.old) (R.faults input.new) }
+    ensures fault { IsErrOf result Silence.ReadFault
+        → Rose (R.faults input.old) (R.faults input.new) }
 {
     let Some(name) = verified_name(words) else {
         return Ok(Reply::Usage);
@@ -76,13 +80,15 @@ pub fn reply_to<R: Source>(alloc: Global, words: &[String], input: &mut R) -> Re
 
 fn verify<R: Source>(alloc: Global, name: &[u8], input: &mut R) -> Result<Reply, Silence>
     ensures right { IfOk result (Verifies name.now (R.left input.old) (R.left input.new)) }
-    ensures fault { IsErrOf result Silence.ReadFault → Rose (R.faults input.old) (R.faults input.new) }
+    ensures fault { IsErrOf result Silence.ReadFault
+        → Rose (R.faults input.old) (R.faults input.new) }
 {
     match read_all(alloc, input, INPUT_LIMIT) {
         Ok(text) => judge(alloc, name, text.as_slice()),
-        Err(ReadRefusal::TooLong) => Ok(Reply::Refused(InputRefusal::TooLong {
-            limit: INPUT_LIMIT,
-        })),
+        Err(ReadRefusal::TooLong) => {
+            let complaint = Complaint::Input(InputRefusal::TooLong { limit: INPUT_LIMIT });
+            Ok(Reply::Refused(complaint_text(alloc, &complaint)?))
+        }
         Err(ReadRefusal::ReadFault) => Err(Silence::ReadFault),
         Err(ReadRefusal::NoMemory) => Err(Silence::NoMemory),
     }
@@ -92,9 +98,8 @@ fn judge(alloc: Global, name: &[u8], text: &[u8]) -> Result<Reply, Silence>
     ensures right { IfOk result (Judges name.now text.now) }
     ensures fault { ¬ IsErrOf result Silence.ReadFault }
 {
-    if protocol_of(alloc, name, text)?.is_some() {
-        Ok(Reply::Safe(safe_text(alloc, name)?))
-    } else {
-        Ok(Reply::Refused(InputRefusal::NotBuilt))
+    match protocol_of(alloc, name, text) {
+        Ok(_) => Ok(Reply::Safe(safe_text(alloc, name)?)),
+        Err(complaint) => Ok(Reply::Refused(complaint_text(alloc, &complaint)?)),
     }
 }

@@ -18,11 +18,12 @@ pub fn bspl<R: Source, W: Sink>(
 ) -> Status
     ensures output { IsRight (map string_bytes words.now) (R.left input.old) (R.left input.new)
         (W.written output.old) (W.written output.new) result }
-    ensures read_fault { result ≡ Status.ReadFault →
-        IsCommandLine (map string_bytes words.now) × Rose (R.faults input.old) (R.faults input.new) }
-    ensures write_fault { result ≡ Status.WriteFault → Rose (W.faults output.old) (W.faults output.new) }
+    ensures read_fault { result ≡ Status.ReadFault → IsCommandLine (map string_bytes words.now)
+        × Rose (R.faults input.old) (R.faults input.new) }
+    ensures write_fault { result ≡ Status.WriteFault
+        → Rose (W.faults output.old) (W.faults output.new) }
 
-    // The headline: `safety safe` is written only of a protocol that is safe in every legal run.
+    // The headline: the line `safety safe` is written only of a protocol that is safe in every legal run.
     ensures safe { SafeWhereSaid (map string_bytes words.now) (R.left input.old)
         (W.written output.old) (W.written output.new) }
 {

@@ -1,7 +1,6 @@
 ghost use Rattle.std.specs.Prelude.{◌≡◌, IfOk};
-ghost use Rattle.bspl_tool.specs.Texts.{safe_text, refusal_text, usage_text};
+ghost use Rattle.bspl_tool.specs.Texts.{safe_text, usage_text};
 
-use super::refusal::InputRefusal;
 use bspl_types::{Bytes, NoMemory};
 use std::alloc::Global;
 
@@ -10,17 +9,6 @@ pub fn usage_text() -> &'static [u8]
     ensures { result.now ≡ usage_text }
 {
     b"usage: bspl COMMAND NAME [--brief] [--conflicts N] [--threads N]\n"
-}
-
-/// The line of a refusal, its code and its fields.
-pub fn refusal_text(refusal: InputRefusal) -> &'static [u8]
-    ensures { result.now ≡ refusal_text refusal }
-{
-    match refusal {
-        InputRefusal::TooLong { .. } => b"refused P2 536870912\n",
-        InputRefusal::NotBuilt => b"refused N1\n",
-        InputRefusal::NoMemory => b"",
-    }
 }
 
 /// The verdict on a protocol whose parameters have single producers.

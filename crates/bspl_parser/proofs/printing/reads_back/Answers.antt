@@ -1,0 +1,15 @@
+-- The text of a layout spells one document, and that is alike the printed one.
+use Rattle.std.proofs.Common.{subst}
+use Rattle.bspl_parser.specs.Alike.{AreAlike}
+use Rattle.bspl_parser.specs.Layout.{printed}
+use Rattle.bspl_parser.proofs.Judgements.{one_document}
+use Rattle.bspl_parser.proofs.Printed.{printed_is_read}
+use Rattle.bspl_parser.proofs.printing.reads_back.Goals as goal
+
+pub returns-clause-formed : goal.returns-clause-formed
+returns-clause-formed c = λ text d of_d. of_d.spelled.formed
+
+pub returns-clause-alike : goal.returns-clause-alike
+returns-clause-alike c = λ d e formed of_e.
+    let back = printed_is_read d formed in
+    subst (AreAlike d) (one_document (printed d) back.document e back.read of_e) back.alike
