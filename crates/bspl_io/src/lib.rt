@@ -1,4 +1,4 @@
-//! Where bytes come from and go to, and how a whole text is read and written.
+//! Where bytes come from and go to, how a whole text is read and written, and the words of a program.
 #![tactic(auto)]
 
 mod memory;
@@ -8,10 +8,12 @@ mod schedule;
 mod standard;
 #[cfg(test)]
 mod tests;
+mod words;
 mod writing;
 
 pub use memory::{MemSink, MemSource};
 pub use plain::{PlainSink, PlainSource};
 pub use reading::{Failed, ReadRefusal, Source, read_all};
 pub use standard::{StdSink, StdSource};
+pub use words::words_given;
 pub use writing::{Sink, Trouble, WriteRefusal, write_all};

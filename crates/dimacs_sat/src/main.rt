@@ -1,39 +1,40 @@
 //! The program: standard input, standard output and the words of the command line.
 #![tactic(auto)]
 
-use bspl_io::{StdSink, StdSource};
+ghost use Rattle.std.specs.Prelude.{◌≡◌, IfErr, IsTrue};
+ghost use Rattle.dimacs.specs.Call.{is_verdict};
+ghost use Rattle.dimacs_sat.specs.Answer.{IsRightFor};
+
+use bspl_io::{StdSink, StdSource, words_given};
 use dimacs::{Status, run};
-use std::env;
-use std::io::{self, ErrorKind};
+use std::alloc::Global;
+use std::io::{self, Read, Write};
 use std::process::ExitCode;
-use std::rt::Env;
 
 fn main(rt: HostRuntime) -> ExitCode {
-    ExitCode::from(answer(&rt).number())
+    let words = words_given(&rt);
+    let status = answer(rt.alloc(), words, rt.reader(), io::writer(&rt));
+    ExitCode::from(status.number())
 }
 
-/// Where memory ran out before the words were known, nothing was read or written.
-fn answer(rt: &HostRuntime) -> Status {
-    match words(rt) {
+/// The answer to the words over a reader and a writer. Where memory ran out before the words were
+/// known, nothing is read or written.
+#[tactic(auto, using(crate::proofs::Rightness::right_for))]
+fn answer<R: Read + Drop, W: Write + Drop>(
+    alloc: Global,
+    words: io::Result<Vec<String>>,
+    input: R,
+    output: W,
+) -> Status
+    ensures right { IsTrue (is_verdict result) → IsRightFor (R.remaining input) result }
+    ensures no_words { IfErr words (λ _. result ≡ Status.NoMemory) }
+{
+    match words {
         Ok(words) => {
-            let mut input = StdSource::new(rt.reader());
-            let mut output = StdSink::new(io::writer(rt));
-            run(rt.alloc(), words.as_slice(), &mut input, &mut output)
+            let mut input = StdSource::new(input);
+            let mut output = StdSink::new(output);
+            run(alloc, words.as_slice(), &mut input, &mut output)
         }
         Err(_) => Status::NoMemory,
-    }
-}
-
-/// The words after the program's name. Words that are not all UTF-8 are no command line, and
-/// neither is the empty word.
-fn words<R: Env + AllocGlobal>(rt: &R) -> io::Result<Vec<String>> {
-    match env::args(rt) {
-        Ok(args) => args.skip(1).collect(rt.alloc()).map_err(io::Error::from),
-        Err(error) if error.kind() == ErrorKind::InvalidData => {
-            let mut none = Vec::new(rt.alloc());
-            none.push(String::new(rt.alloc()))?;
-            Ok(none)
-        }
-        Err(error) => Err(error),
     }
 }
