@@ -1,7 +1,14 @@
 pub mod LevelLemmas
 pub mod LowerLemmas
+pub mod FindsLemmas
+pub mod StoredSetLemmas
+pub mod GatheringLemmas
+pub mod AscendingLemmas
 pub mod PlaceLemmas
+pub mod StepLemmas
+pub mod CurrentLemmas
 pub mod ConflictLemmas
+pub mod UipLemmas
 pub mod ModelLemmas
 pub mod LearningLemmas
 pub mod SolvingLemmas

@@ -1,28 +1,24 @@
 -- The entry at a place of the trail, and resolving on its literal.
-use Rattle.std.proofs.Common.{◌≡◌, ◌≢◌, ℕ, ◌+◌, ◌-◌, ◌<◌, ◌≤◌, false, Some, None, option_map, IsSome, List, [], ◌∷◌, ◌++◌, inl, inr, length, take, drop, get_or, slice_get, map, sym, ap, refl, ◌∙◌, subst, arith, All, Contains}
+use Rattle.std.proofs.Common.{◌≡◌, ◌≢◌, ℕ, ◌+◌, ◌-◌, ◌<◌, ◌≤◌, false, Some, None, option_map, IsSome, List, [], ◌∷◌, ◌++◌, inl, inr, length, take, drop, get_or, slice_get, map, sym, ap, refl, ◌∙◌, subst, arith, Contains}
 use Rattle.std.specs.Prelude.{option_and_then}
 use Rattle.std.proofs.lemmas.Bool.{eq-eqb}
-use Rattle.std.proofs.lemmas.List.{take_more, take_all, take-append-drop, drop_more}
-use Rattle.std.proofs.lemmas.List.Elements.{All-contains, Contains-get_or}
-use Rattle.std.proofs.lemmas.Option.{slice_get-map, slice_get-get_or, slice_get_within, get_or_from_slice_get}
+use Rattle.std.proofs.lemmas.List.{take_more, take-append-drop, drop_more}
+use Rattle.std.proofs.lemmas.Option.{slice_get-map, slice_get-get_or, slice_get_within}
 use Rattle.clause_core.specs.declared.literal.Lit.{Lit}
 use Rattle.clause_core.specs.Literal.{negated}
-use Rattle.clause_core.specs.Clause.{VariablesExist}
-use Rattle.clause_core.specs.Propagation.{MakesFalse, Falsifies, LeavesOnly}
-use Rattle.clause_core.specs.Resolvent.{CanResolve, IsResolvent}
-use Rattle.refutation_log.specs.declared.refutation.Link.{Link}
-use Rattle.refutation_log.specs.declared.refutation.Chain.{Chain}
-use Rattle.refutation_log.specs.Resolution.{Names, Folds}
+use Rattle.clause_core.specs.Propagation.{MakesFalse, LeavesOnly}
+use Rattle.clause_core.specs.Resolvent.{CanResolve}
+use Rattle.refutation_log.specs.Resolution.{Names}
 use Rattle.sat_trail.specs.declared.entry.Entry.{Entry}
 use Rattle.sat_trail.specs.Entry.{entry_of, values_of, reason_of}
 use Rattle.sat_trail.specs.Growth.{HasNumber, IsForced, MayFollow}
 use Rattle.sat_trail.specs.State.{State}
-use Rattle.sat_trail.specs.Trail.{IsTrail, IsFalsified}
+use Rattle.sat_trail.specs.Trail.{IsTrail}
 use Rattle.sat_trail.proofs.EntryLemmas.{entry_of-missing, values_of-none}
 use Rattle.sat_trail.proofs.LiteralLemmas.{same_literal, not-not}
 use Rattle.sat_trail.proofs.FactLemmas.{HasCauses-trail}
 use Rattle.sat_trail.proofs.SeenLemmas.{fails-before}
-use Rattle.sat_solver.specs.Analysis.{Resolving, HasReason, StepsOver}
+use Rattle.sat_solver.specs.Analysis.{HasReason}
 
 -- the clause of a number
 pub names : (clauses : List (List Lit)) (number : ℕ) (clause : List Lit) → HasNumber clauses number clause → Names clauses number clause
@@ -32,12 +28,6 @@ names clauses number clause numbered = record { from_one = numbered.from_one; th
 pub number_one : (clauses : List (List Lit)) (number : ℕ) (c d : List Lit) → HasNumber clauses number c → HasNumber clauses number d → c ≡ d
 number_one clauses number c d first second =
     let same : Some c ≡ Some d = sym first.at_place ∙ second.at_place in cc
-
--- the variables of a numbered clause exist
-pub numbered_exist : (vars : ℕ) (clauses : List (List Lit)) (number : ℕ) (clause : List Lit) → All (VariablesExist vars) clauses → HasNumber clauses number clause → VariablesExist vars clause
-numbered_exist vars clauses number clause exist numbered =
-    subst (VariablesExist vars) (get_or_from_slice_get clauses (number - 1) clause [] numbered.at_place)
-    (exist (number - 1) [] (slice_get_within clauses (number - 1) clause numbered.at_place))
 
 -- the entry of the literal at a place, and its cause
 pub record IsAt (t : State) (place : ℕ) (l : Lit) : Type 0 where
@@ -131,74 +121,11 @@ CanResolve-at t place number l c d at read numbered among =
       negation_in = subst (Contains d) (sym (negated-negated l)) (subst (λ x. Contains x l) (number_one t.clauses number reason.0 d reason.1.numbered numbered) reason.1.leaves.among);
     }
 
--- one more link
-pub Folds-more : (clauses : List (List Lit)) (clause : List Lit) (links : List Link) (link : Link) (middle other result : List Lit) → Folds clauses clause links middle → Names clauses link.clause other → IsResolvent middle link.pivot other result → Folds clauses clause (links ++ link ∷ []) result
-Folds-more clauses clause [] link middle other result folds named resolves =
-    record { other = other; named = named; resolvent = result; resolves = rw folds resolves; continues = refl }
-Folds-more clauses clause (first ∷ links) link middle other result folds named resolves =
-    record {
-      other = folds.other;
-      named = folds.named;
-      resolvent = folds.resolvent;
-      resolves = folds.resolves;
-      continues = Folds-more clauses folds.resolvent links link middle other result folds.continues named resolves;
-    }
-
--- before the first resolution
-pub Resolving-start : (t : State) (number : ℕ) (clause copy : List Lit) → IsFalsified t number → HasNumber t.clauses number clause → copy ≡ clause → Resolving t number (record { first = number; links = [] }) copy (length t.entries)
-Resolving-start t number clause copy false_one numbered same = record {
-  within = omega arith;
-  first = refl;
-  derives = record { start = clause; named = names t.clauses number clause numbered; folds = sym same };
-  falsified = subst (Falsifies (values_of (take (length t.entries) t.entries))) (number_one t.clauses number false_one.clause clause false_one.numbered numbered ∙ sym same)
-      (rw (take_all (length t.entries) t.entries (omega arith)) false_one.falsified);
-}
-
 -- a literal that is false up to a place, and is not the negation there, is false before it
 pub fails-under : (t : State) (place : ℕ) (l m : Lit) (at : IsAt t place l) → m ≢ negated l → MakesFalse (values_of (take (place + 1) t.entries)) m → MakesFalse (values_of (take place t.entries)) m
 fails-under t place l m at other fails =
     fails-before (take place t.entries) at.entry m (λ same. other (sym same ∙ ap negated at.literal))
     (subst (λ es. MakesFalse (values_of es) m) at.front fails)
-
--- a clause without the negation is passed over
-pub StepsOver-pass : (t : State) (chain : Chain) (clause : List Lit) (place : ℕ) (l : Lit) → IsAt t place l → Resolving t chain.first chain clause (place + 1) → ¬ Contains clause (negated l) → StepsOver t chain clause chain clause place
-StepsOver-pass t chain clause place l at resolving missing = record {
-  resolving = record {
-    within = omega (arith, resolving.within);
-    first = refl;
-    derives = resolving.derives;
-    falsified = λ k d within. fails-under t place l (get_or clause k d) at (λ same. missing (subst (Contains clause) same (Contains-get_or clause k d within))) (resolving.falsified k d within);
-  };
-  kept = λ m e among read other. among;
-}
-
--- a clause with the negation is resolved with the reason
-pub StepsOver-resolve : (t : State) (chain new : Chain) (clause d resolvent : List Lit) (place number : ℕ) (l : Lit) → IsAt t place l → Resolving t chain.first chain clause (place + 1) → reason_of t.entries l.var ≡ Some number → HasNumber t.clauses number d → IsResolvent clause (negated l) d resolvent → new ≡ record chain { links = chain.links ++ (record { pivot = negated l; clause = number }) ∷ [] } → StepsOver t chain clause new resolvent place
-StepsOver-resolve t chain new clause d resolvent place number l at resolving read numbered resolves grows = rw grows (record {
-  resolving = record {
-    within = omega (arith, resolving.within);
-    first = refl;
-    derives = record {
-      start = resolving.derives.start;
-      named = resolving.derives.named;
-      folds = Folds-more t.clauses resolving.derives.start chain.links (record { pivot = negated l; clause = number }) clause d resolvent resolving.derives.folds (names t.clauses number d numbered) resolves;
-    };
-    falsified = λ k e within. false-in (get_or resolvent k e) (Contains-get_or resolvent k e within);
-  };
-  kept = λ m e among at_place other. (resolves.union.members m).1 (inl (among, λ same. other (same ∙ ap negated (sym (literal-at e at_place)))));
-})
-  where
-    literal-at : (e : Entry) → slice_get t.entries place ≡ Some e → e.lit ≡ l
-    literal-at e at_place = (let same : Some e ≡ Some at.entry = sym at_place ∙ at.at_place in let one : e ≡ at.entry = cc in ap (λ (f : Entry). f.lit) one) ∙ at.literal
-
-    false-in : (m : Lit) → Contains resolvent m → MakesFalse (values_of (take place t.entries)) m
-    false-in m among = elim ((resolves.union.members m).0 among) [
-      | inl left ↦ fails-under t place l m at left.1 (All-contains (MakesFalse (values_of (take (place + 1) t.entries))) clause m resolving.falsified left.0)
-      | inr right ↦
-          let reason = reason-clause t place number l at read in
-          reason.1.leaves.others m (subst (λ x. Contains x m) (number_one t.clauses number d reason.0 numbered reason.1.numbered) right.0)
-          (λ same. right.1 (same ∙ sym (negated-negated l)))
-    ]
 
 -- a literal that is to be resolved has a reason
 pub reason-clash : (t : State) (clause : List Lit) (place : ℕ) (l : Lit) → IsAt t place l → HasReason t clause place → Contains clause (negated l) → None ≡ reason_of t.entries l.var → ⊥

@@ -62,11 +62,6 @@ abbrev pub HasReason : State → List Lit → ℕ → Type 0
 HasReason t clause place =
     (e : Entry) → slice_get t.entries place ≡ Some e → Contains clause (negated e.lit) → IsSome e.reason
 
--- the clause is resolved on the literal at the place, and keeps its other literals
-pub record StepsOver (t : State) (old : Chain) (clause : List Lit) (new : Chain) (resolvent : List Lit) (place : ℕ) : Type 0 where
-  pub resolving : Resolving t old.first new resolvent place
-  pub kept : (l : Lit) (e : Entry) → Contains clause l → slice_get t.entries place ≡ Some e → l ≢ negated e.lit → Contains resolvent l
-
 -- the clause of the chain was added to those of a trail at a conflict
 pub record Learns (old new : State) (chain : Chain) : Type 0 where
   pub clause : List Lit

@@ -1,13 +1,12 @@
-ghost use Rattle.std.specs.Prelude.{◌≡◌, ◌≢◌, ◌+◌, ◌<◌, ◌≤◌, ◌↔◌, ◌⊎◌, Some, IfSome, ℕ, [], length, All, Contains, IsTrue, IfOk, OnOk};
-ghost use Rattle.clause_core.specs.Clause.{VariablesExist, IsAscending};
-ghost use Rattle.clause_core.specs.Resolvent.{CanResolve, IsResolvent};
-ghost use Rattle.refutation_log.specs.Resolution.{Derives};
-ghost use Rattle.sat_trail.specs.Entry.{values_of};
+ghost use Rattle.std.specs.Prelude.{◌≡◌, ◌+◌, ◌<◌, ◌≤◌, ◌⊎◌, Some, IfSome, [], length, IfOk, OnOk};
+ghost use Rattle.clause_core.specs.Clause.{VariablesExist};
 ghost use Rattle.sat_trail.specs.Trail.{IsTrail, IsFalsified};
-ghost use Rattle.sat_solver.specs.Analysis.{IsCurrent, HasTwoCurrent, IsLearned, IsLowerLevel, Resolving, Refuted, HasReason, StepsOver};
+ghost use Rattle.sat_solver.specs.Analysis.{IsLearned, IsLowerLevel, Refuted, HasReason};
+ghost use Rattle.sat_solver.specs.Gathering.{IsDerivationOf, Gathers, StepsOver};
 
-use bspl_types::{Duplicate, NoMemory, Seq};
-use clause_core::{Clause, Lit, resolve};
+use super::false_lits::FalseLits;
+use bspl_types::{NoMemory, Seq};
+use clause_core::{Clause, Lit};
 use refutation_log::{Chain, Link};
 use sat_trail::Trail;
 use std::alloc::Global;
@@ -21,124 +20,95 @@ pub struct Derivation {
 
 /// Resolves the false clause along the trail until one literal of the current level is left, at
 /// the first unique implication point.
-pub fn learn(alloc: Global, trail: &Trail, number: u32) -> Result<Derivation, NoMemory>
+pub fn learn(
+    alloc: Global,
+    trail: &Trail,
+    number: u32,
+    lits: &mut FalseLits,
+) -> Result<Derivation, NoMemory>
     requires sound { IsTrail trail.now }
     requires falsified { IsFalsified trail.now number }
     requires above { 0 < trail.now.level }
-    ensures { IfOk result (λ d. IsLearned trail.now d.chain d.clause) }
+    requires vars { lits.old.set.vars ≡ trail.now.vars }
+    ensures learned { IfOk result (λ d. IsLearned trail.now d.chain d.clause) }
+    ensures vars { lits.new.set.vars ≡ trail.now.vars }
 {
-    let mut derivation = start(alloc, trail, number)?;
+    let mut chain = start(alloc, trail, number, lits);
     let mut place = trail.len();
-    'resolving: while has_two_current(trail, derivation.clause.lits()) {
+    'resolving: while lits.current > 1 {
         place -= 1;
-        step(alloc, trail, &mut derivation, place)?;
+        step(trail, lits, &mut chain, place)?;
     }
-    Ok(derivation)
+    derived(alloc, chain, lits.set.as_slice())
 }
 
 /// Resolves the false clause of level 0 along the whole trail, down to the empty clause.
-pub fn refute(alloc: Global, trail: &Trail, number: u32) -> Result<Derivation, NoMemory>
+pub fn refute(
+    alloc: Global,
+    trail: &Trail,
+    number: u32,
+    lits: &mut FalseLits,
+) -> Result<Derivation, NoMemory>
     requires sound { IsTrail trail.now }
     requires falsified { IsFalsified trail.now number }
     requires at_0 { trail.now.level ≡ 0 }
+    requires vars { lits.old.set.vars ≡ trail.now.vars }
     ensures { IfOk result (λ d. Refuted trail.now number d.chain d.clause) }
 {
-    let mut derivation = start(alloc, trail, number)?;
+    let mut chain = start(alloc, trail, number, lits);
     let mut place = trail.len();
     while place > 0 {
         place -= 1;
-        step(alloc, trail, &mut derivation, place)?;
+        step(trail, lits, &mut chain, place)?;
     }
-    Ok(derivation)
+    derived(alloc, chain, lits.set.as_slice())
 }
 
-/// The false clause, before the first resolution.
-fn start(alloc: Global, trail: &Trail, number: u32) -> Result<Derivation, NoMemory>
+/// The clause of the literals, with the chain that derives it.
+fn derived(alloc: Global, chain: Chain, lits: &[Lit]) -> Result<Derivation, NoMemory>
+    ensures { IfOk result (IsDerivationOf chain lits.now) }
+{
+    let clause = Clause::of(alloc, lits)?;
+    Ok(Derivation { chain, clause })
+}
+
+/// The literals of the false clause, before the first resolution.
+fn start(alloc: Global, trail: &Trail, number: u32, lits: &mut FalseLits) -> Chain
     requires sound { IsTrail trail.now }
     requires falsified { IsFalsified trail.now number }
-    ensures resolving { IfOk result (λ d. Resolving trail.now number d.chain d.clause (length trail.now.entries)) }
-    ensures none { IfOk result (λ d. d.chain.links ≡ []) }
+    requires vars { lits.old.set.vars ≡ trail.now.vars }
+    ensures gathers { Gathers trail.now number result lits.new (length trail.now.entries) }
+    ensures none { result.links ≡ [] }
 {
-    Ok(Derivation {
-        chain: Chain {
-            first: number,
-            links: Seq::new(alloc),
-        },
-        clause: trail.clause(number).copy()?,
-    })
+    lits.clear();
+    lits.insert_all(trail, trail.clause(number).lits());
+    Chain {
+        first: number,
+        links: Seq::new(alloc),
+    }
 }
 
-/// Resolves on the literal at the place, if the clause holds its negation.
-fn step(
-    alloc: Global,
-    trail: &Trail,
-    derivation: &mut Derivation,
-    place: u32,
-) -> Result<(), NoMemory>
+/// Resolves on the literal at the place, if its negation is among the literals.
+fn step(trail: &Trail, lits: &mut FalseLits, chain: &mut Chain, place: u32) -> Result<(), NoMemory>
     requires sound { IsTrail trail.now }
-    requires resolving { let old = derivation.old in
-        Resolving trail.now old.chain.first old.chain old.clause (place + 1) }
-    requires reason { HasReason trail.now derivation.old.clause place }
-    ensures { let old = derivation.old in
-        let new = derivation.new in
-        OnOk result (StepsOver trail.now old.chain old.clause new.chain new.clause place) }
+    requires gathers { Gathers trail.now chain.old.first chain.old lits.old (place + 1) }
+    requires reason { HasReason trail.now lits.old.set.lits place }
+    ensures steps { OnOk result (StepsOver trail.now chain.old chain.new lits.old lits.new place) }
+    ensures vars { lits.new.set.vars ≡ trail.now.vars }
 {
     let lit = trail.at(place);
     let pivot = lit.negation();
-    if !derivation.clause.has(pivot) {
+    if !lits.set.has(pivot) {
         return Ok(());
     }
     if let Some(reason) = trail.reason(lit.var) {
-        let other = trail.clause(reason);
-        let clause = resolved(alloc, &derivation.clause, pivot, other)?;
-        derivation.chain.links.push(Link {
+        lits.resolve(trail, pivot, trail.clause(reason).lits());
+        chain.links.push(Link {
             pivot,
             clause: reason,
         })?;
-        derivation.clause = clause;
     }
     Ok(())
-}
-
-/// The resolvent of clauses that resolve.
-fn resolved(alloc: Global, c: &Clause, pivot: Lit, d: &Clause) -> Result<Clause, NoMemory>
-    requires { CanResolve c.now pivot d.now }
-    ensures { IfOk result (IsResolvent c.now pivot d.now) }
-{
-    match resolve(alloc, c, pivot, d) {
-        Ok(resolvent) => Ok(resolvent),
-        Err(_refusal) => Err(NoMemory),
-    }
-}
-
-/// Whether two literals of the clause are of the current level.
-fn has_two_current(trail: &Trail, clause: &[Lit]) -> bool
-    requires exist { VariablesExist trail.now.vars clause.now }
-    requires ascending { IsAscending clause.now }
-    ensures { IsTrue result ↔ HasTwoCurrent trail.now clause.now }
-{
-    let mut found = false;
-    for lit in clause {
-        if is_current(trail, *lit) {
-            if found {
-                return true;
-            }
-            found = true;
-        }
-    }
-    false
-}
-
-/// Whether the literal was set at the current level.
-fn is_current(trail: &Trail, lit: Lit) -> bool
-    requires from_one { 0 < lit.var }
-    requires exists { lit.var ≤ trail.now.vars }
-    ensures { IsTrue result ↔ IsCurrent trail.now lit }
-{
-    match trail.level_of(lit.var) {
-        Some(level) => level == trail.level(),
-        None => false,
-    }
 }
 
 /// The highest level below the current one at which a literal of the clause was set, or 0.

@@ -1,22 +1,30 @@
-ghost use Rattle.std.specs.Prelude.{◌+◌, ◌^◌, ◌<◌, length, IfOk};
+ghost use Rattle.std.specs.Prelude.{◌≡◌, ◌+◌, ◌^◌, ◌<◌, length, IfOk};
 ghost use Rattle.sat_trail.specs.Trail.{IsTrail, IsFalsified};
 ghost use Rattle.sat_solver.specs.Analysis.{Learns};
 
 use super::analysis::{Derivation, learn, lower_level};
+use super::false_lits::FalseLits;
 use bspl_types::NoMemory;
 use refutation_log::Chain;
 use sat_trail::Trail;
 use std::alloc::Global;
 
 /// Learns a clause from the false one, goes back to where it has one literal left, and adds it.
-pub fn learn_from(alloc: Global, trail: &mut Trail, number: u32) -> Result<Chain, NoMemory>
+pub fn learn_from(
+    alloc: Global,
+    trail: &mut Trail,
+    number: u32,
+    lits: &mut FalseLits,
+) -> Result<Chain, NoMemory>
     requires sound { IsTrail trail.old }
     requires falsified { IsFalsified trail.old number }
     requires above { 0 < trail.old.level }
     requires few { length trail.old.clauses + 1 < 2 ^ 32 }
-    ensures { IfOk result (Learns trail.old trail.new) }
+    requires vars { lits.old.set.vars ≡ trail.old.vars }
+    ensures learns { IfOk result (Learns trail.old trail.new) }
+    ensures vars { lits.new.set.vars ≡ trail.old.vars }
 {
-    let Derivation { chain, clause } = learn(alloc, trail, number)?;
+    let Derivation { chain, clause } = learn(alloc, trail, number, lits)?;
     let level = lower_level(trail, clause.lits());
     trail.back_to(level);
     trail.add(clause)?;

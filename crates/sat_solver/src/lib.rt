@@ -4,7 +4,9 @@
 mod analysis;
 mod choice;
 mod effort;
+mod false_lits;
 mod learning;
+mod lit_set;
 mod model;
 mod outcome;
 mod search;

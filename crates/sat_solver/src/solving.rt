@@ -3,6 +3,7 @@ ghost use Rattle.sat_solver.specs.Outcome.{IsOutcome};
 
 use super::analysis::{Derivation, refute};
 use super::effort::Effort;
+use super::false_lits::FalseLits;
 use super::learning::learn_from;
 use super::model::model;
 use super::outcome::Outcome;
@@ -40,6 +41,7 @@ pub fn solve_counted(
         return Ok(Outcome::Unsat(Log { steps }));
     }
     let mut trail = Trail::new(alloc, f)?;
+    let mut lits = FalseLits::new(alloc, f.vars)?;
     let mut clauses = f.clauses.len() as u32;
     let mut mark = clauses;
     for _ in 0..budget {
@@ -47,11 +49,11 @@ pub fn solve_counted(
             return Ok(Outcome::Sat(model(alloc, &trail, f.vars)?));
         };
         if trail.level() == 0 {
-            let Derivation { chain, clause: _ } = refute(alloc, &trail, number)?;
+            let Derivation { chain, clause: _ } = refute(alloc, &trail, number, &mut lits)?;
             steps.push(chain)?;
             return Ok(Outcome::Unsat(Log { steps }));
         }
-        steps.push(learn_from(alloc, &mut trail, number)?)?;
+        steps.push(learn_from(alloc, &mut trail, number, &mut lits)?)?;
         clauses += 1;
         mark = clauses;
     }

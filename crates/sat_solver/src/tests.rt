@@ -1,6 +1,7 @@
 ghost use Rattle.std.specs.Prelude.{◌≡◌, ◌+◌, ◌≤◌, ◌↔◌, IsTrue, length, IfOk};
 ghost use Rattle.clause_core.specs.Clause.{VariablesExist};
 
+use super::lit_set::LitSet;
 use super::{Outcome, solve};
 use bspl_types::{NoMemory, Seq};
 use clause_core::{Clause, ClauseList, Formula, Lit};
@@ -44,6 +45,23 @@ fn formula(alloc: Global, vars: u32, clauses: &[&[i32]]) -> Result<Formula, NoMe
     })
 }
 
+/// Puts the literal in where its variable exists and its negation is not in; whether it is new.
+fn put(set: &mut LitSet, number: i32) -> bool {
+    let lit = lit(number);
+    if lit.var == 0 || lit.var > set.vars() || set.has(lit.negation()) {
+        return false;
+    }
+    set.insert(lit)
+}
+
+/// Takes the literal out where it is in.
+fn take(set: &mut LitSet, number: i32) {
+    let lit = lit(number);
+    if lit.var > 0 && lit.var <= set.vars() && set.has(lit) {
+        set.remove(lit);
+    }
+}
+
 /// The answer's letter, with the number of steps: `s` for an assignment, `u` for a refutation, `b`
 /// for a budget that is spent, and `x` for a formula that is too long.
 fn answer(
@@ -66,6 +84,30 @@ fn answer(
 /// Whether the answer is this letter, whatever the number of steps.
 fn answers(alloc: Global, vars: u32, clauses: &[&[i32]], letter: char) -> Result<bool, NoMemory> {
     Ok(answer(alloc, vars, clauses, 729)?.0 == letter)
+}
+
+#[test]
+fn sets_of_literals(rt: HostRuntime) -> Result<(), Fail> {
+    let mut set = LitSet::new(rt.alloc(), 5)?;
+    assert_eq!(rt; set.as_slice(), [].as_slice());
+    assert!(rt; put(&mut set, 3) && put(&mut set, -1) && put(&mut set, 5) && put(&mut set, 2));
+    assert!(rt; !put(&mut set, -1) && !put(&mut set, 1) && !put(&mut set, 6));
+    assert_eq!(rt;
+        set.as_slice(),
+        [lit(3), lit(-1), lit(5), lit(2)].as_slice()
+    );
+    take(&mut set, -1);
+    take(&mut set, 4);
+    assert_eq!(rt; set.as_slice(), [lit(3), lit(2), lit(5)].as_slice());
+    take(&mut set, 2);
+    take(&mut set, 5);
+    assert_eq!(rt; set.as_slice(), [lit(3)].as_slice());
+    assert!(rt; put(&mut set, 1) && put(&mut set, -5) && !put(&mut set, 3));
+    set.clear();
+    assert_eq!(rt; set.as_slice(), [].as_slice());
+    assert!(rt; put(&mut set, -3) && put(&mut set, -1));
+    assert_eq!(rt; set.as_slice(), [lit(-3), lit(-1)].as_slice());
+    Ok(())
 }
 
 #[test]

@@ -1,34 +1,44 @@
 -- Each step leaves a literal of the current level, and the last one leaves one alone.
-use Rattle.std.proofs.Common.{◌≡◌, true, false, refl, sym, subst}
-use Rattle.clause_core.specs.Clause.{VariablesExist}
-use Rattle.sat_solver.specs.Analysis.{HasTwoCurrent}
-use Rattle.sat_solver.proofs.ConflictLemmas.{HasCurrent-start, HasReason-last, Resolving-before, Resolving-after, IsLearned-end, exist-false}
+use Rattle.std.proofs.Common.{arith}
+use Rattle.std.proofs.lemmas.Result.{IfOk-weaker}
+use Rattle.sat_solver.specs.Analysis.{IsLearned}
+use Rattle.sat_solver.specs.Gathering.{IsDerivationOf}
+use Rattle.sat_solver.proofs.UipLemmas.{HasCurrent-start, HasReason-last, Gathers-at, Gathers-after, HasCurrent-after, IsLearned-gathered, gathered-some}
 use Rattle.sat_solver.proofs.analysis.learn.Goals as goal
 
 pub resolving-init : goal.resolving-init
 resolving-init c =
-    let resolving = rw (← c.len-place.ensures.count) at c.in_ok-derivation.ensures.resolving in
-    (resolving, HasCurrent-start c.args.trail.now c.args.number _ c.in_ok-derivation.derivation.chain _ c.requires.sound c.requires.above c.requires.falsified c.in_ok-derivation.ensures.none resolving)
+    let gathers = rw (← c.len-place.ensures.count) at c.start-chain.ensures.gathers in record {
+      gathers = gathers;
+      current = HasCurrent-start c.args.trail.now c.args.number _ c.start-chain.result c.start-chain.new.lits c.requires.sound c.requires.above c.requires.falsified c.start-chain.ensures.none gathers;
+    }
 
-pub has_two_current-requires-clause-exist : goal.has_two_current-requires-clause-exist
-has_two_current-requires-clause-exist c =
-    subst (VariablesExist c.args.trail.now.vars) (sym c.lits.ensures.same) (exist-false c.args.trail.now _ c.resolving.place c.requires.sound c.resolving.invariant.0.falsified)
+pub overflow_sub-place : goal.overflow_sub-place
+overflow_sub-place c = gathered-some c.args.trail.now c.args.number _ _ c.resolving.lits c.resolving-test.true c.resolving.invariant.gathers
 
-pub step-requires-clause-resolving : goal.step-requires-clause-resolving
-step-requires-clause-resolving c =
-    Resolving-before c.args.trail.now c.args.number _ _ _ (subst (HasTwoCurrent c.args.trail.now) c.lits.ensures.same (c.resolving-test.ensures.0 refl)) c.resolving.invariant.0
+pub step-requires-clause-gathers : goal.step-requires-clause-gathers
+step-requires-clause-gathers c =
+    let some = gathered-some c.args.trail.now c.args.number _ _ c.resolving.lits c.resolving-test.true c.resolving.invariant.gathers in
+    Gathers-at c.args.trail.now c.args.number c.resolving.place _ _ c.resolving.lits (omega (arith, some)) c.resolving.invariant.gathers
 
 pub step-requires-clause-reason : goal.step-requires-clause-reason
 step-requires-clause-reason c =
-    HasReason-last c.args.trail.now c.args.number _ c.resolving.derivation.chain c.resolving.derivation.clause c.requires.sound
-    (subst (HasTwoCurrent c.args.trail.now) c.lits.ensures.same (c.resolving-test.ensures.0 refl)) c.resolving.invariant.0
+    HasReason-last c.args.trail.now c.args.number _ c.resolving.chain c.resolving.lits c.requires.sound c.resolving-test.true c.resolving.invariant.gathers
+
+pub resolving-smaller : goal.resolving-smaller
+resolving-smaller c =
+    let some = gathered-some c.args.trail.now c.args.number _ _ c.resolving.lits c.resolving-test.true c.resolving.invariant.gathers in
+    omega (arith, some)
 
 pub resolving-preserved : goal.resolving-preserved
-resolving-preserved c =
-    Resolving-after c.args.trail.now c.args.number _ _ _ c.resolving.derivation.clause _
-    (subst (HasTwoCurrent c.args.trail.now) c.lits.ensures.same (c.resolving-test.ensures.0 refl)) c.resolving.invariant.0 c.in_ok-step.ensures
+resolving-preserved c = record {
+  gathers = Gathers-after c.args.trail.now c.args.number _ _ c.resolving.chain c.step.new.chain c.resolving.lits c.step.new.lits c.resolving.invariant.gathers c.in_ok-step.ensures.steps;
+  current = HasCurrent-after c.args.trail.now c.args.number _ c.resolving.chain c.step.new.chain c.resolving.lits c.step.new.lits c.resolving-test.true c.resolving.invariant.gathers c.in_ok-step.ensures.steps;
+}
 
-pub returns : goal.returns
-returns c =
-    IsLearned-end c.args.trail.now c.args.number _ _ c.resolving.place c.requires.sound c.requires.above c.requires.falsified c.resolving.invariant.0 c.resolving.invariant.1
-    (λ two. (let clash : false ≡ true = c.resolving-test.ensures.1 (subst (HasTwoCurrent c.args.trail.now) (sym c.lits.ensures.same) two) in cc))
+pub returns-clause-learned : goal.returns-clause-learned
+returns-clause-learned c =
+    let of_lits = rw c.as_slice.ensures.same at c.derived.ensures in
+    IfOk-weaker c.derived.result (IsDerivationOf c.resolving.chain c.resolving.lits.set.lits) (λ d. IsLearned c.args.trail.now d.chain d.clause)
+    (IsLearned-gathered c.args.trail.now c.args.number c.resolving.chain c.resolving.lits _ c.requires.sound c.requires.above c.requires.falsified c.resolving.invariant.gathers c.resolving.invariant.current c.resolving-test.false)
+    of_lits

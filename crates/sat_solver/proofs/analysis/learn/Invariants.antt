@@ -1,10 +1,13 @@
--- The clause is false, with a literal of the current level left.
-use Rattle.sat_solver.specs.Analysis.{Resolving, HasCurrent}
+-- The literals are gathered up to the place, and one of the current level is left.
+use Rattle.sat_solver.specs.Analysis.{HasCurrent}
+use Rattle.sat_solver.specs.Gathering.{Gathers}
 use Rattle.sat_solver.proofs.analysis.learn.Given as goal
 
 abbrev pub invariant-resolving : goal.invariant-resolving
-invariant-resolving l =
-    Resolving l.trail l.number l.derivation.chain l.derivation.clause l.place × HasCurrent l.trail l.derivation.clause
+invariant-resolving l = record {
+  gathers : Gathers l.trail l.number l.chain l.lits l.place;
+  current : HasCurrent l.trail l.lits.set.lits;
+}
 
 abbrev pub decreases-resolving : goal.decreases-resolving
 decreases-resolving l = l.place

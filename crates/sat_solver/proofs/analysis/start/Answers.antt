@@ -1,6 +1,11 @@
--- Nothing was resolved yet.
-use Rattle.sat_solver.proofs.PlaceLemmas.{Resolving-start}
+-- The set was emptied, and took the literals of the false clause.
+use Rattle.std.proofs.Common.{ap}
+use Rattle.sat_solver.specs.LiteralSet.{LiteralSet}
+use Rattle.sat_solver.proofs.StepLemmas.{Gathers-start}
 use Rattle.sat_solver.proofs.analysis.start.Goals as goal
 
-pub returns-clause-resolving : goal.returns-clause-resolving
-returns-clause-resolving c = rw c.new.ensures (Resolving-start c.args.trail.now c.args.number c.clause.result.now _ c.requires.falsified c.clause.ensures c.in_ok-copy.ensures)
+pub returns-clause-gathers : goal.returns-clause-gathers
+returns-clause-gathers c =
+    let inserts = rw (ap (λ (s : LiteralSet). s.lits) c.clear.ensures.set, c.lits.ensures.same) at c.insert_all.ensures.inserted in
+    rw c.new.ensures
+    (Gathers-start c.args.trail.now c.args.number c.clause.result.now c.insert_all.new.self c.requires.falsified c.clause.ensures c.lits.ensures.ascending c.insert_all.ensures.are_false inserts)

@@ -1,6 +1,7 @@
 -- Each turn learns one clause, and each answer follows from what is learned so far.
 use Rattle.std.proofs.Common.{◌≡◌, ◌+◌, ◌<◌, length, false, true, [], sym, ap, ◌∙◌, subst, arith, length-append, Contains}
 use Rattle.sat_trail.specs.State.{State}
+use Rattle.sat_solver.specs.LiteralSet.{LiteralSet}
 use Rattle.sat_solver.proofs.SolvingLemmas.{HasLearned-start, HasLearned-search, HasLearned-learn, Spends-learned, Refutes-learned, SatisfiesAll-formula, counted-learn}
 use Rattle.sat_solver.proofs.solving.solve_counted.Goals as goal
 
@@ -11,6 +12,7 @@ loop-init c =
       rw c.new-steps.ensures (HasLearned-start c.args.f.now c.in_ok-trail.trail none c.in_ok-trail.ensures.start c.in_ok-trail.ensures.sound),
       ap length c.new-steps.ensures,
       c.len-clauses.ensures ∙ ap (λ (s : State). length s.clauses) (sym c.in_ok-trail.ensures.start),
+      ap (λ (s : LiteralSet). s.vars) c.in_ok-lits.ensures ∙ ap (λ (s : State). s.vars) (sym c.in_ok-trail.ensures.start),
     )
 
 pub returns-in_default : goal.returns-in_default
@@ -26,9 +28,10 @@ pub loop-preserved : goal.loop-preserved
 loop-preserved c =
     let above : 0 < c.search.new.trail.level = omega (arith, c.level.ensures.same, c.if-level-eq0.false) in (
       rw c.in_ok-push-2.ensures.ok
-          (HasLearned-learn c.args.f.now c.search.new.trail c.learn_from.new.trail c.loop.steps _ (HasLearned-search _ _ _ _ c.loop.invariant.0 c.search.ensures.goes_on) above c.in_ok-learn_from.ensures),
+          (HasLearned-learn c.args.f.now c.search.new.trail c.learn_from.new.trail c.loop.steps _ (HasLearned-search _ _ _ _ c.loop.invariant.0 c.search.ensures.goes_on) above c.in_ok-learn_from.ensures.learns),
       rw c.in_ok-push-2.ensures.ok (length-append c.loop.steps _ ∙ ap (λ n. n + 1) c.loop.invariant.1),
-      counted-learn c.loop.trail c.search.new.trail c.learn_from.new.trail _ c.loop.clauses c.loop.invariant.2 c.search.ensures.goes_on c.in_ok-learn_from.ensures,
+      counted-learn c.loop.trail c.search.new.trail c.learn_from.new.trail _ c.loop.clauses c.loop.invariant.2 c.search.ensures.goes_on c.in_ok-learn_from.ensures.learns,
+      c.in_ok-learn_from.ensures.vars ∙ sym c.in_ok-learn_from.ensures.learns.vars,
     )
 
 pub returns : goal.returns

@@ -1,0 +1,29 @@
+-- The variable of a false literal exists, and the literal is in at the end.
+use Rattle.std.proofs.Common.{◌≤◌, sym, subst}
+use Rattle.std.proofs.lemmas.Bool.{iff_false}
+use Rattle.sat_solver.specs.LiteralSet.{LiteralSet}
+use Rattle.sat_solver.specs.Gathering.{Inserts}
+use Rattle.sat_solver.proofs.GatheringLemmas.{false-exists, Inserts-push, Inserts-held, held}
+use Rattle.sat_solver.proofs.false_lits.FalseLits.insert.Goals as goal
+
+pub insert-requires-clause-from_one : goal.insert-requires-clause-from_one
+insert-requires-clause-from_one c = (false-exists c.args.trail.now c.args.lit c.requires.sound c.requires.fails).0
+
+pub insert-requires-clause-exists : goal.insert-requires-clause-exists
+insert-requires-clause-exists c =
+    subst (λ n. c.args.lit.var ≤ n) (sym c.requires.are_false.vars) (false-exists c.args.trail.now c.args.lit c.requires.sound c.requires.fails).1
+
+pub is_current-requires-clause-from_one : goal.is_current-requires-clause-from_one
+is_current-requires-clause-from_one c = (false-exists c.args.trail.now c.args.lit c.requires.sound c.requires.fails).0
+
+pub is_current-requires-clause-exists : goal.is_current-requires-clause-exists
+is_current-requires-clause-exists c = (false-exists c.args.trail.now c.args.lit c.requires.sound c.requires.fails).1
+
+pub returns-then-insert-clause-inserted : goal.returns-then-insert-clause-inserted
+returns-then-insert-clause-inserted c =
+    subst (λ (s : LiteralSet). Inserts c.args.self.now.set.lits c.args.lit s.lits) (sym c.if-insert.ensures.pushed) (Inserts-push c.args.self.now.set.lits c.args.lit)
+
+pub returns-else-insert-clause-inserted : goal.returns-else-insert-clause-inserted
+returns-else-insert-clause-inserted c =
+    subst (λ (s : LiteralSet). Inserts c.args.self.now.set.lits c.args.lit s.lits) (sym c.if-insert.ensures.same)
+    (Inserts-held c.args.self.now.set.lits c.args.lit (held c.args.self.now.set.lits c.args.lit (iff_false c.insert.ensures.new c.if-insert.false)))

@@ -1,0 +1,107 @@
+ghost use Rattle.std.specs.Prelude.{◌≡◌, ◌<◌, ◌≤◌, [], IfOk, Contains};
+ghost use Rattle.clause_core.specs.Literal.{negated};
+ghost use Rattle.clause_core.specs.Propagation.{MakesFalse, Falsifies};
+ghost use Rattle.sat_trail.specs.Entry.{values_of};
+ghost use Rattle.sat_trail.specs.Examination.{OthersFalse};
+ghost use Rattle.sat_trail.specs.Trail.{IsTrail};
+ghost use Rattle.sat_solver.specs.Gathering.{is_current, AreFalse, Inserts, InsertsAll, ResolvesSet};
+ghost use Rattle.sat_solver.specs.LiteralSet.{TakesOut};
+
+use super::lit_set::LitSet;
+use bspl_types::NoMemory;
+use clause_core::Lit;
+use sat_trail::Trail;
+use std::alloc::Global;
+
+/// Literals that a trail makes false, with a count of those of the current level.
+#[derive(Drop)]
+pub struct FalseLits {
+    pub set: LitSet,
+    pub current: u32,
+}
+
+impl FalseLits {
+    pub fn new(alloc: Global, vars: u32) -> Result<FalseLits, NoMemory>
+        ensures { IfOk result (λ f. f.set ≡ record { vars = vars; lits = [] }) }
+    {
+        Ok(FalseLits {
+            set: LitSet::new(alloc, vars)?,
+            current: 0,
+        })
+    }
+
+    pub fn clear(&mut self)
+        ensures set { self.new.set ≡ record self.old.set { lits = [] } }
+        ensures current { self.new.current ≡ 0 }
+    {
+        self.set.clear();
+        self.current = 0;
+    }
+
+    pub fn insert(&mut self, trail: &Trail, lit: Lit)
+        requires sound { IsTrail trail.now }
+        requires are_false { AreFalse trail.now self.old }
+        requires fails { MakesFalse (values_of trail.now.entries) lit }
+        ensures are_false { AreFalse trail.now self.new }
+        ensures inserted { Inserts self.old.set.lits lit self.new.set.lits }
+    {
+        if self.set.insert(lit) {
+            self.current += u32::from(is_current(trail, lit));
+        }
+    }
+
+    /// Puts the literals of a false clause in.
+    pub fn insert_all(&mut self, trail: &Trail, clause: &[Lit])
+        requires sound { IsTrail trail.now }
+        requires are_false { AreFalse trail.now self.old }
+        requires fails { Falsifies (values_of trail.now.entries) clause.now }
+        ensures are_false { AreFalse trail.now self.new }
+        ensures inserted { InsertsAll self.old.set.lits clause.now self.new.set.lits }
+    {
+        for lit in clause {
+            self.insert(trail, *lit);
+        }
+    }
+
+    /// Puts the other literals of the clause that forced the negation in place of the literal.
+    pub fn resolve(&mut self, trail: &Trail, pivot: Lit, reason: &[Lit])
+        requires sound { IsTrail trail.now }
+        requires are_false { AreFalse trail.now self.old }
+        requires among { Contains self.old.set.lits pivot }
+        requires others { OthersFalse (values_of trail.now.entries) reason.now (negated pivot) }
+        ensures are_false { AreFalse trail.now self.new }
+        ensures resolved { ResolvesSet self.old.set.lits pivot reason.now self.new.set.lits }
+    {
+        self.remove(trail, pivot);
+        let forced = pivot.negation();
+        for lit in reason {
+            if *lit == forced {
+                continue;
+            }
+            self.insert(trail, *lit);
+        }
+    }
+
+    fn remove(&mut self, trail: &Trail, lit: Lit)
+        requires sound { IsTrail trail.now }
+        requires are_false { AreFalse trail.now self.old }
+        requires among { Contains self.old.set.lits lit }
+        ensures are_false { AreFalse trail.now self.new }
+        ensures taken { TakesOut self.old.set.lits lit self.new.set.lits }
+    {
+        self.set.remove(lit);
+        self.current -= u32::from(is_current(trail, lit));
+    }
+}
+
+/// Whether the literal was set at the current level.
+fn is_current(trail: &Trail, lit: Lit) -> bool
+    requires from_one { 0 < lit.var }
+    requires exists { lit.var ≤ trail.now.vars }
+    ensures { result ≡ is_current trail.now lit }
+{
+    match trail.level_of(lit.var) {
+        Some(level) => level == trail.level(),
+        None => false,
+    }
+}
