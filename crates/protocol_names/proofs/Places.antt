@@ -1,0 +1,131 @@
+-- The first place of a name, and what a table of places finds.
+use Rattle.std.proofs.Common.{◌≡◌, ℕ, zero, suc, ◌+◌, ◌<◌, ◌≤◌, Bool, true, false, cond, List, [], ◌∷◌, ◌++◌, length, get_or, Option, Some, None, refl, sym, ◌∙◌, ap, subst, arith, inl, inr, ⊎_elim, eqb}
+use Rattle.std.specs.Prelude.{◌↔◌, IsTrue, is_some, nat_lt, not, Vec}
+use Rattle.std.specs.Option.{option_or}
+use Rattle.std.specs.Ordering.{nat_cmp, is_eq}
+use Rattle.std.specs.Str.{bytes_eq}
+use Rattle.std.specs.Cmp.{eq_by_cmp_equiv}
+use Rattle.std.specs.Cmp.Lexicographic.{slice_cmp, nat_list_cmp_total, nat_list_eq_equiv}
+use Rattle.std.specs.List.{Contains, position, position_or_len}
+use Rattle.std.specs.BTreeMap.{BTreeMap, UpdatesBy, get_by}
+use Rattle.std.specs.Map.{lookup, IsKeyTest, AreApart, KeepsOthers}
+use Rattle.std.proofs.lemmas.List.{length-append}
+use Rattle.std.proofs.lemmas.List.Folds.{position_or_len_push}
+use Rattle.std.proofs.lemmas.List.Sums.{prefix_len-le-length}
+use Rattle.std.proofs.lemmas.List.Quantifiers.{position-Some}
+use Rattle.std.proofs.lemmas.Bool.{cases_lt, cases_Bool, cond-true, cond-false, true≢false, false≢true}
+use Rattle.std.proofs.lemmas.Bool.Decides.{nat_tests}
+use Rattle.std.proofs.lemmas.Map.Text.{is_eq-slice_cmp}
+use Rattle.std.proofs.lemmas.Slice.Eq.{bytes_eq-Decides}
+use Rattle.protocol_names.specs.Table.{IsTable}
+
+-- the place after one more, by the place before
+place_push : (n l : ℕ) (b : Bool) → n ≤ l → cond (nat_lt (cond (eqb n l) (l + cond b 0 1) n) (l + 1)) (Some (cond (eqb n l) (l + cond b 0 1) n)) None ≡ option_or (cond (nat_lt n l) (Some n) None) (cond b (Some l) None)
+place_push n l true bound = grind (arith, nat_tests)
+place_push n l false bound = grind (arith, nat_tests)
+
+-- one name more has its place unless the test passes before
+pub position_push : {X : Type 0} (p : X → Bool) (xs : List X) (y : X) → position p (xs ++ y ∷ []) ≡ option_or (position p xs) (cond (p y) (Some (length xs)) None)
+position_push p xs y =
+    let place = position_or_len_push p xs y in
+    let long : length (xs ++ y ∷ []) ≡ length xs + 1 = length-append xs (y ∷ []) in
+    (λ i. cond (nat_lt (place i) (long i)) (Some (place i)) None) ∙ place_push (position_or_len p xs) (length xs) (p y) (prefix_len-le-length (λ x. not (p x)) xs)
+
+-- a place that passes bounds the first one
+place_found : {X : Type 0} (p : X → Bool) (xs : List X) (k : ℕ) (d : X) → k < length xs → p (get_or xs k d) ≡ true → position_or_len p xs < length xs
+place_found p [] k d within passes = absurd (omega (arith, within))
+place_found p (x ∷ xs) k d within passes =
+    ⊎_elim
+    (λ yes. rw yes (omega arith))
+    (λ none. rw none (elim k as (λ n. n < length (x ∷ xs) → p (get_or (x ∷ xs) n d) ≡ true → 1 + position_or_len p xs < length (x ∷ xs)) [
+      | zero ↦ λ w q. absurd (true≢false (sym q ∙ none))
+      | suc n ↦ λ w q. let later = place_found p xs n d (omega (arith, w)) q in omega (arith, later)
+    ] within passes))
+    (cases_Bool (p x))
+
+-- the test for a name
+abbrev pub is_name_at : List ℕ → List ℕ → Bool
+is_name_at name n = bytes_eq n name
+
+-- a name has a place exactly if it is among the names
+pub has_place : (names : List (List ℕ)) (name : List ℕ) → IsTrue (is_some (position (λ n. bytes_eq n name) names)) ↔ Contains names name
+has_place names name = (
+  (λ some. elim (cases_lt (position_or_len (is_name_at name) names) (length names)) [
+    | inl below ↦
+        let at : position (is_name_at name) names ≡ Some (position_or_len (is_name_at name) names) = grind (arith, nat_tests) in
+        let found = position-Some (is_name_at name) names (position_or_len (is_name_at name) names) name at in
+        (position_or_len (is_name_at name) names, found.0, (bytes_eq-Decides _ _).0 found.1)
+    | inr past ↦ absurd (grind (arith, nat_tests))
+  ]),
+  (λ among.
+      let below = place_found (is_name_at name) names among.0 name among.1 ((bytes_eq-Decides _ _).1 among.2) in
+      grind (arith, nat_tests)),
+)
+
+-- what a lookup by bytes finds
+abbrev pub found : {Z : Type 0} → BTreeMap (Vec ℕ Z) ℕ → List ℕ → Option ℕ
+found table name = get_by (λ key. slice_cmp nat_cmp name key.items) table
+
+-- a key that is found by other bytes is not found by these
+apart : (bs cs ks : List ℕ) → bytes_eq bs cs ≡ false → is_eq (slice_cmp nat_cmp bs ks) ≡ true → is_eq (slice_cmp nat_cmp cs ks) ≡ false
+apart bs cs ks differ same = is_eq-slice_cmp cs ks ∙ nat_list_eq_equiv.symm cs ks ∙ sym (nat_list_eq_equiv.congr bs ks cs (sym (is_eq-slice_cmp bs ks) ∙ same)) ∙ differ
+
+-- a change at one key leaves the others
+other_entries : {K X : Type 0} (eq : K → K → Bool) (test : K → Bool) (old new : List (K × X)) → KeepsOthers eq test old new → (other : K → Bool) → IsKeyTest eq other → AreApart test other → lookup other new ≡ lookup other old
+unfolding KeepsOthers
+other_entries eq test old new kept = kept
+
+-- after an insertion at the bytes bs
+pub found_after : {Z : Type 0} (bs : List ℕ) (old new : BTreeMap (Vec ℕ Z) ℕ) (w : Option ℕ) → UpdatesBy (λ x y. slice_cmp nat_cmp x.items y.items) (λ k. slice_cmp nat_cmp bs k.items) old new w → (cs : List ℕ) → found new cs ≡ cond (bytes_eq bs cs) w (found old cs)
+found_after {Z} bs old new w updates cs =
+    ⊎_elim
+    (λ yes. subst (λ (l : List ℕ). found new l ≡ w) ((bytes_eq-Decides bs cs).0 yes) updates.1 ∙ sym (cond-true (bytes_eq bs cs) w (found old cs) yes))
+    (λ differ. other_entries _ _ _ _ updates.3 _ (λ x y. (eq_by_cmp_equiv nat_list_cmp_total).congr cs x.items y.items) (λ k. apart bs cs k.items differ) ∙ sym (cond-false (bytes_eq bs cs) w (found old cs) differ))
+    (cases_Bool (bytes_eq bs cs))
+
+-- the same bytes
+same_name : (xs ys : List ℕ) → bytes_eq xs ys ≡ true → xs ≡ ys
+same_name xs ys = (bytes_eq-Decides xs ys).0
+
+-- a name that is there keeps its first place
+pub kept : {Z : Type 0} (names : List (List ℕ)) (name : List ℕ) (table : BTreeMap (Vec ℕ Z) ℕ) → IsTable names table → IsTrue (is_some (found table name)) → IsTable (names ++ name ∷ []) table
+kept names name table is_table there = record {
+  finds = λ other.
+      let before = is_table.finds other in
+      let pushed = position_push (is_name_at other) names name in
+      ⊎_elim
+      (λ yes. let same = same_name name other yes in
+      let some : IsTrue (is_some (position (is_name_at other) names)) = subst (λ (n : List ℕ). IsTrue (is_some (position (is_name_at n) names))) same (subst (λ o. IsTrue (is_some o)) (is_table.finds name) there) in
+      before ∙ still (position (is_name_at other) names) _ some ∙ sym pushed)
+      (λ differ. before ∙ without (position (is_name_at other) names) ∙ ap (λ b. option_or (position (is_name_at other) names) (cond b (Some (length names)) None)) (sym differ) ∙ sym pushed)
+      (cases_Bool (bytes_eq name other));
+}
+  where
+    still : (o p : Option ℕ) → IsTrue (is_some o) → o ≡ option_or o p
+    still None p some = absurd (false≢true some)
+    still (Some k) p some = refl
+
+    without : (o : Option ℕ) → o ≡ option_or o None
+    without None = refl
+    without (Some k) = refl
+
+-- a name that is new gets the last place
+pub placed : {Z : Type 0} (names : List (List ℕ)) (name bytes : List ℕ) (place : ℕ) (old new : BTreeMap (Vec ℕ Z) ℕ) → bytes ≡ name → length names ≡ place → IsTable names old → is_some (found old name) ≡ false → UpdatesBy (λ x y. slice_cmp nat_cmp x.items y.items) (λ k. slice_cmp nat_cmp bytes k.items) old new (Some place) → IsTable (names ++ name ∷ []) new
+placed {Z} names name bytes place old new is_name is_last is_table absent updates = record {
+  finds = λ other.
+      let after : found new other ≡ cond (bytes_eq name other) (Some place) (found old other) = subst (λ (b : List ℕ). found new other ≡ cond (bytes_eq b other) (Some place) (found old other)) is_name (found_after bytes old new (Some place) updates other) in
+      let before = is_table.finds other in
+      let pushed = position_push (is_name_at other) names name in
+      let none : bytes_eq name other ≡ true → is_some (position (is_name_at other) names) ≡ false = λ yes. subst (λ (n : List ℕ). is_some (position (is_name_at n) names) ≡ false) (same_name name other yes) (subst (λ o. is_some o ≡ false) (is_table.finds name) absent) in
+      after ∙ ap (cond (bytes_eq name other) (Some place)) before ∙ ap (λ l. cond (bytes_eq name other) (Some l) (position (is_name_at other) names)) (sym is_last) ∙ joined (bytes_eq name other) (length names) (position (is_name_at other) names) none ∙ sym pushed;
+}
+  where
+    joined : (b : Bool) (l : ℕ) (o : Option ℕ) → (b ≡ true → is_some o ≡ false) → cond b (Some l) o ≡ option_or o (cond b (Some l) None)
+    joined b l (Some k) none = elim b as (λ t. (t ≡ true → true ≡ false) → cond t (Some l) (Some k) ≡ Some k) [ true ↦ λ never. absurd (true≢false (never refl)) | false ↦ λ never. refl ] none
+    joined b l None none = refl
+
+-- so the test of the table is the test of the names
+pub is_held : {Z : Type 0} (names value : List (List ℕ)) (table : BTreeMap (Vec ℕ Z) ℕ) (name : List ℕ) (held : Bool) → names ≡ value → IsTable names table → held ≡ is_some (found table name) → IsTrue held ↔ Contains value name
+is_held names value table name held same is_table is_found =
+    subst (λ ns. IsTrue held ↔ Contains ns name) same
+    (subst (λ b. IsTrue b ↔ Contains names name) (sym (is_found ∙ ap is_some (is_table.finds name))) (has_place names name))

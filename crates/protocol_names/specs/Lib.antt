@@ -1,0 +1,6 @@
+-- The definitions that the contracts cite.
+pub mod Fault
+pub mod Finding
+pub mod Names
+pub mod Naming
+pub mod Table

@@ -1,0 +1,77 @@
+ghost use Rattle.std.specs.Prelude.{◌≡◌};
+ghost use Rattle.protocol_names.specs.Fault.{IsItemFault, IsUnknown, IsUseFault};
+ghost use Rattle.protocol_names.specs.Finding.{Finds, OfSome};
+ghost use Rattle.protocol_names.specs.Names.{params_used, roles_used};
+
+use super::directory::Directory;
+use super::fault::DocumentFault;
+use super::finding::earlier;
+use super::names::Names;
+use super::params::{params_fault, unknown_fault};
+use super::references::reference_fault;
+use super::register::Register;
+use bspl_parser::{Formal, Item, Word};
+
+/// The first fault of a body.
+pub(crate) fn body_fault(
+    directory: &Directory,
+    names: &Names,
+    body: &[Item],
+) -> Option<DocumentFault>
+    ensures { Finds (OfSome (IsItemFault directory.now.protocols.now names.now) body.now) result }
+{
+    let mut first = None;
+    for item in body {
+        first = earlier(first, item_fault(directory, names, item));
+    }
+    first
+}
+
+fn item_fault(directory: &Directory, names: &Names, item: &Item) -> Option<DocumentFault>
+    ensures { Finds (IsItemFault directory.now.protocols.now names.now item.now) result }
+{
+    let roles = roles_used_fault(&names.roles, item);
+    let params = params_fault(names, params_used(item));
+    let reference = use_fault(directory, item);
+    earlier(roles, earlier(params, reference))
+}
+
+fn roles_used_fault(declared: &Register, item: &Item) -> Option<DocumentFault>
+    ensures { Finds (OfSome (IsUnknown declared.now) (roles_used item.now)) result }
+{
+    match item {
+        Item::Message(schema) => earlier(
+            unknown_fault(declared, &schema.sender),
+            unknown_fault(declared, &schema.receiver),
+        ),
+        Item::Reference(reference) => unknown_in(declared, reference.roles.as_slice()),
+    }
+}
+
+fn unknown_in(declared: &Register, words: &[Word]) -> Option<DocumentFault>
+    ensures { Finds (OfSome (IsUnknown declared.now) words.now) result }
+{
+    let mut first = None;
+    for word in words {
+        first = earlier(first, unknown_fault(declared, word));
+    }
+    first
+}
+
+fn params_used(item: &Item) -> &[Formal]
+    ensures { result.now ≡ params_used item.now }
+{
+    match item {
+        Item::Message(schema) => schema.params.as_slice(),
+        Item::Reference(reference) => reference.params.as_slice(),
+    }
+}
+
+fn use_fault(directory: &Directory, item: &Item) -> Option<DocumentFault>
+    ensures { Finds (IsUseFault directory.now.protocols.now item.now) result }
+{
+    match item {
+        Item::Message(_) => None,
+        Item::Reference(reference) => reference_fault(directory, reference),
+    }
+}
