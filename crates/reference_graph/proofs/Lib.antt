@@ -1,0 +1,13 @@
+pub mod Membership
+pub mod PathLemmas
+pub mod OrderLemmas
+pub mod ClosedLemmas
+pub mod LawLemmas
+pub mod SearchLemmas
+pub mod MeasureLemmas
+pub mod TurnLemmas
+pub mod SettlingLemmas
+pub mod WeightLemmas
+pub mod DepthLemmas
+pub mod CountLemmas
+pub mod LongestLemmas

@@ -1,0 +1,86 @@
+-- Each turn, by what it meets.
+use Rattle.std.proofs.Common.{◌≡◌, ℕ, ◌<◌, ◌≤◌, List, [], ◌∷◌, ◌++◌, Some, Ok, Err, Result, IfOk, OnOk, length, get_or, set, slice_get, refl, sym, ap, ◌∙◌, subst, arith}
+use Rattle.std.proofs.lemmas.Option.{slice_get-get_or}
+use Rattle.bspl_types.specs.declared.memory.NoMemory.{NoMemory}
+use Rattle.reference_graph.specs.declared.marks.Mark.{Mark}
+use Rattle.reference_graph.specs.declared.marks.Mark.TheVariants.{Done}
+use Rattle.reference_graph.specs.declared.search.Search.{Search}
+use Rattle.reference_graph.specs.declared.search.Turn.{Turn}
+use Rattle.reference_graph.specs.declared.search.Turn.TheVariants.{On}
+use Rattle.reference_graph.specs.declared.step.Step.{Step}
+use Rattle.reference_graph.specs.Graph.{successors}
+use Rattle.reference_graph.specs.Path.{end_of}
+use Rattle.reference_graph.specs.Order.{IsOrder}
+use Rattle.reference_graph.specs.Search.{Goes, IsTurn}
+use Rattle.reference_graph.proofs.PathLemmas.{end_of-push}
+use Rattle.reference_graph.proofs.TurnLemmas.{here_within, meets, passes, follows, ends, finishes, finished}
+use Rattle.reference_graph.proofs.search.Search.turn.Goals as goal
+
+-- the next reference stands at its place
+next_at : (g : List (List ℕ)) (s : Search) (here : ℕ) (references : List ℕ) → here ≡ end_of s.start s.path → references ≡ successors g here → s.next < length references → slice_get (successors g (end_of s.start s.path)) s.next ≡ Some (get_or references s.next 0)
+next_at g s here references is_here are within =
+    ap (λ (xs : List ℕ). slice_get xs s.next) (ap (successors g) (sym is_here) ∙ sym are) ∙ slice_get-get_or references s.next 0 within
+
+-- where the new node was taken, the search goes on
+goes_on : (g : List (List ℕ)) (s new next : Search) (result : Result Turn NoMemory) → IfOk result (λ turn. turn ≡ On) → OnOk result (new ≡ next) → Goes g s next → IfOk result (IsTurn g s new)
+goes_on g s new next (Ok turn) on is goes = subst (IsTurn g s new) (sym on) (subst (Goes g s) (sym is) goes)
+goes_on g s new next (Err refusal) on is goes = tt
+
+-- all references were seen
+all_seen : (g : List (List ℕ)) (s : Search) (here : ℕ) (references : List ℕ) → here ≡ end_of s.start s.path → references ≡ successors g here → length references ≤ s.next → length (successors g (end_of s.start s.path)) ≤ s.next
+all_seen g s here references is_here are past = subst (λ (xs : List ℕ). length xs ≤ s.next) (are ∙ ap (successors g) is_here) past
+
+-- the search goes back with these marks and this node done
+goes_back : (g : List (List ℕ)) (s : Search) (front : List Step) (step : Step) (here : ℕ) (marks : List Mark) (done : List ℕ) → here ≡ end_of s.start s.path → s.path ≡ front ++ step ∷ [] → marks ≡ set s.marks here Done → done ≡ s.done ++ here ∷ [] → Goes g s (finished s front step) → Goes g s (record s { path = front; next = step.place; marks = marks; done = done })
+goes_back g s front step here marks done is_here is are_marks are_done goes =
+    let same : step.node ≡ here = sym (is_here ∙ ap (end_of s.start) is ∙ end_of-push s.start front step) in
+    let m : set s.marks step.node Done ≡ marks = ap (λ b. set s.marks b Done) same ∙ sym are_marks in
+    let d : s.done ++ step.node ∷ [] ≡ done = ap (λ b. s.done ++ b ∷ []) same ∙ sym are_done in
+    subst (λ (xs : List ℕ). Goes g s (record s { path = front; next = step.place; marks = marks; done = xs })) d
+    (subst (λ (xs : List Mark). Goes g s (record s { path = front; next = step.place; marks = xs; done = s.done ++ step.node ∷ [] })) m goes)
+
+pub references-references-requires : goal.references-references-requires
+references-references-requires c = subst (λ b. b < length c.args.graph.now) (sym c.here-here.ensures) (here_within c.args.graph.now c.args.self.now c.requires)
+
+pub returns-in-New : goal.returns-in-New
+returns-in-New c =
+    let g = c.args.graph.now in
+    let s = c.args.self.now in
+    let at = next_at g s c.here-here.result c.references-references.result.now c.here-here.ensures c.references-references.ensures.lists c.if-self-references.true in
+    goes_on g s c.follow.new.self _ c.follow.result c.follow.ensures.on c.follow.ensures.node
+    (follows g s (get_or c.references-references.result.now s.next 0) c.requires at (c.references-references.ensures.nodes s.next 0 c.if-self-references.true) (c.of.ensures ∙ ap Some c.in-New.is))
+
+pub returns-in-OnPath : goal.returns-in-OnPath
+returns-in-OnPath c =
+    let g = c.args.graph.now in
+    let s = c.args.self.now in
+    let at = next_at g s c.here-here.result c.references-references.result.now c.here-here.ensures c.references-references.ensures.lists c.if-self-references.true in
+    meets g s (get_or c.references-references.result.now s.next 0) c.requires at (c.references-references.ensures.nodes s.next 0 c.if-self-references.true) (c.of.ensures ∙ ap Some c.in-OnPath.is)
+
+pub returns-in-Done : goal.returns-in-Done
+returns-in-Done c =
+    let g = c.args.graph.now in
+    let s = c.args.self.now in
+    let at = next_at g s c.here-here.result c.references-references.result.now c.here-here.ensures c.references-references.ensures.lists c.if-self-references.true in
+    passes g s (get_or c.references-references.result.now s.next 0) c.requires at (c.references-references.ensures.nodes s.next 0 c.if-self-references.true) (c.of.ensures ∙ ap Some c.in-Done.is)
+
+pub put-requires : goal.put-requires
+put-requires c =
+    let s = c.args.self.now in
+    subst (λ b. b < length s.marks) (sym c.here-here.ensures) (omega (arith, here_within c.args.graph.now s c.requires, c.requires.fits))
+
+pub returns-in-None : goal.returns-in-None
+returns-in-None c =
+    let g = c.args.graph.now in
+    let s = c.args.self.now in
+    let seen = all_seen g s c.here-here.result c.references-references.result.now c.here-here.ensures c.references-references.ensures.lists c.if-self-references.false in
+    let order : s.done ++ end_of s.start s.path ∷ [] ≡ c.push.new.self = ap (λ b. s.done ++ b ∷ []) (sym c.here-here.ensures) ∙ sym c.in_ok-push.ensures.ok in
+    subst (λ (xs : List ℕ). IsOrder g s.start xs) order (ends g s c.requires seen (c.in-None.ensures.empty.0 refl))
+
+pub returns-in-Some : goal.returns-in-Some
+returns-in-Some c =
+    let g = c.args.graph.now in
+    let s = c.args.self.now in
+    let seen = all_seen g s c.here-here.result c.references-references.result.now c.here-here.ensures c.references-references.ensures.lists c.if-self-references.false in
+    goes_back g s c.pop.new.self c.in-Some.step c.here-here.result c.put.new.self c.push.new.self c.here-here.ensures c.in-Some.ensures.last c.put.ensures c.in_ok-push.ensures.ok
+    (finishes g s c.pop.new.self c.in-Some.step c.requires seen c.in-Some.ensures.last)
