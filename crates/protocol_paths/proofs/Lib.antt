@@ -1,0 +1,10 @@
+pub mod Adding
+pub mod Bared
+pub mod Entries
+pub mod Fewer
+pub mod Named
+pub mod Numbered
+pub mod Opened
+pub mod Pairs
+pub mod Pieces
+pub mod Standing

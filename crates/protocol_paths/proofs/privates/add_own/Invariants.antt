@@ -1,0 +1,8 @@
+-- What has been put at the end.
+use Rattle.std.proofs.Common.{◌≡◌, ◌++◌, map, take}
+use Rattle.protocol_paths.specs.Flat.{entry}
+use Rattle.protocol_paths.proofs.privates.add_own.Given as goal
+
+-- the private parameters so far
+abbrev pub invariant-loop-word : goal.invariant-loop-word
+invariant-loop-word l = map entry l.private ≡ map entry l.fn.private ++ map (λ w. (l.prefix.text ++ w.text, w.offset)) (take l.word-index l.own)

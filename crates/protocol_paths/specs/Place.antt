@@ -1,0 +1,49 @@
+-- What a path makes of the names of the protocol at its end.
+use Rattle.std.specs.Prelude.{ℕ, List, [], ◌++◌, map, slice_index_or}
+use Rattle.std.specs.List.{fold, position}
+use Rattle.std.specs.Option.{option_map_or}
+use Rattle.std.specs.Str.{bytes_eq}
+use Rattle.bspl_parser.specs.declared.document.Declaration.{Declaration}
+use Rattle.protocol_names.specs.Names.{param_words, texts}
+use Rattle.protocol_paths.specs.Path.{Step}
+use Rattle.protocol_paths.specs.Prefix.{numbered_name}
+
+-- where a path has led: the protocol, the prefix of its private names, and what stands for its roles and parameters, in declared order
+pub record Place : Type 0 where
+  pub protocol : Declaration
+  pub prefix : List ℕ
+  pub roles : List (List ℕ)
+  pub params : List (List ℕ)
+
+-- what stands at the place of a declared name; another name stands for itself
+abbrev pub stands_for : List (List ℕ) → List (List ℕ) → List ℕ → List ℕ
+stands_for declared names name = option_map_or (λ k. slice_index_or names k name) (position (λ n. bytes_eq n name) declared) name
+
+-- what stands for a role
+abbrev pub role_at : Place → List ℕ → List ℕ
+role_at place name = stands_for (texts place.protocol.roles) place.roles name
+
+-- what stands for a parameter
+abbrev pub param_at : Place → List ℕ → List ℕ
+param_at place name = stands_for (texts (param_words place.protocol)) place.params name
+
+-- in the top protocol each name stands for itself
+abbrev pub start : Declaration → Place
+start top = record { protocol = top; prefix = []; roles = texts top.roles; params = texts (param_words top) }
+
+-- the prefix behind one more reference
+abbrev pub prefix_after : Place → Step → List ℕ
+prefix_after place s = place.prefix ++ numbered_name s.target.name.text s.position
+
+-- after one more reference: by position, what stands for the names that it gives; private parameters behind the prefix
+abbrev pub after : Place → Step → Place
+after place s = record {
+  protocol = s.target;
+  prefix = prefix_after place s;
+  roles = map (λ w. role_at place w.text) s.reference.roles;
+  params = map (λ f. param_at place f.name.text) s.reference.params ++ map (λ w. prefix_after place s ++ w.text) s.target.private;
+}
+
+-- after the references of a path
+abbrev pub place_at : Place → List Step → Place
+place_at place path = fold after place path

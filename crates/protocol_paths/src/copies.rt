@@ -1,0 +1,75 @@
+ghost use Rattle.std.specs.Prelude.{◌≡◌, IfOk};
+ghost use Rattle.protocol_names.specs.Names.{param_words, texts};
+
+use bspl_parser::{Declaration, Formal, FormalList, Word, WordList};
+use bspl_types::{Duplicate, NoMemory, Seq};
+use protocol_names::Register;
+use std::alloc::Global;
+
+/// A copy of the word.
+pub(crate) fn copied_word(word: &Word) -> Result<Word, NoMemory>
+    ensures { IfOk result (λ w. w ≡ word.now) }
+{
+    Ok(Word {
+        text: word.text.copy()?,
+        offset: word.offset,
+    })
+}
+
+/// Copies of the words.
+pub(crate) fn copied_words(alloc: Global, words: &[Word]) -> Result<WordList, NoMemory>
+    ensures { IfOk result (λ ws. ws ≡ words.now) }
+{
+    let mut copies = Seq::new(alloc);
+    for word in words {
+        copies.push(copied_word(word)?)?;
+    }
+    Ok(copies)
+}
+
+fn copied_formal(formal: &Formal) -> Result<Formal, NoMemory>
+    ensures { IfOk result (λ f. f ≡ formal.now) }
+{
+    Ok(Formal {
+        adorn: formal.adorn,
+        offset: formal.offset,
+        name: copied_word(&formal.name)?,
+        key: formal.key,
+    })
+}
+
+/// Copies of the parameters.
+pub(crate) fn copied_formals(alloc: Global, formals: &[Formal]) -> Result<FormalList, NoMemory>
+    ensures { IfOk result (λ fs. fs ≡ formals.now) }
+{
+    let mut copies = Seq::new(alloc);
+    for formal in formals {
+        copies.push(copied_formal(formal)?)?;
+    }
+    Ok(copies)
+}
+
+/// The parameters that the protocol declares, the public ones first.
+pub(crate) fn declared_params(alloc: Global, p: &Declaration) -> Result<WordList, NoMemory>
+    ensures { IfOk result (λ ws. ws ≡ param_words p.now) }
+{
+    let mut words = Seq::new(alloc);
+    for formal in p.public.as_slice() {
+        words.push(copied_word(&formal.name)?)?;
+    }
+    for word in p.private.as_slice() {
+        words.push(copied_word(word)?)?;
+    }
+    Ok(words)
+}
+
+/// A register of the words' names, in order.
+pub(crate) fn register_of(alloc: Global, words: &[Word]) -> Result<Register, NoMemory>
+    ensures { IfOk result (λ names. names ≡ texts words.now) }
+{
+    let mut names = Register::new(alloc);
+    for word in words {
+        names.push(word.text.as_slice())?;
+    }
+    Ok(names)
+}

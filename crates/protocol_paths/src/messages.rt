@@ -1,0 +1,66 @@
+ghost use Rattle.std.specs.Prelude.{◌<◌, ◌≤◌, length, OnOk};
+ghost use Rattle.protocol_paths.specs.Flat.{Adds, IsImageItem};
+ghost use Rattle.protocol_paths.specs.Marks.{AreMarks};
+ghost use Rattle.protocol_paths.specs.Path.{item_messages, message_paths};
+ghost use Rattle.protocol_paths.specs.Seen.{document_of, seen};
+
+use super::image::image_of;
+use super::place::next_place;
+use super::reached::Reached;
+use super::walk::{Walk, open_target};
+use bspl_parser::{Item, ItemList};
+use bspl_types::NoMemory;
+
+/// Adds the messages at the ends of the paths of at most so many references.
+#[cycle(messages)]
+pub(crate) fn add_messages(
+    walk: &Walk,
+    limit: usize,
+    place: &Reached,
+    body: &mut ItemList,
+) -> Result<(), NoMemory>
+    requires within { limit ≤ length (document_of walk.now) }
+    requires marked { AreMarks (document_of walk.now) walk.now.marks.now }
+    ensures { OnOk result (Adds (IsImageItem (seen place.now))
+        (message_paths limit (document_of walk.now) place.now.protocol.now) body.old body.new) }
+{
+    let items = place.protocol.body.as_slice();
+    for (index, item) in items.iter().enumerate() {
+        add_item(walk, limit, place, index + 1, item, body)?;
+    }
+    Ok(())
+}
+
+// Adds a message of the body, or those that a reference leads to.
+#[cycle(messages)]
+fn add_item(
+    walk: &Walk,
+    limit: usize,
+    place: &Reached,
+    position: usize,
+    item: &Item,
+    body: &mut ItemList,
+) -> Result<(), NoMemory>
+    requires counted { 0 < position }
+    requires within { limit ≤ length (document_of walk.now) }
+    requires marked { AreMarks (document_of walk.now) walk.now.marks.now }
+    ensures { OnOk result (Adds (IsImageItem (seen place.now))
+        (item_messages limit (document_of walk.now) (position, item.now)) body.old body.new) }
+{
+    match item {
+        Item::Message(schema) => {
+            let image = image_of(walk.alloc, place, schema)?;
+            body.push(Item::Message(image))
+        }
+        Item::Reference(reference) => {
+            if limit == 0 {
+                return Ok(());
+            }
+            let Some(target) = open_target(walk.directory, walk.marks.messages, reference) else {
+                return Ok(());
+            };
+            let next = next_place(walk.alloc, place, position, reference, target)?;
+            add_messages(walk, limit - 1, &next, body)
+        }
+    }
+}
