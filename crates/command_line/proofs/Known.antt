@@ -1,0 +1,179 @@
+-- The words that a command line may have, one by one, and that it has no others.
+use Rattle.std.proofs.Common.{◌≡◌, ◌≢◌, ◌+◌, ◌++◌, ◌&&◌, ◌||◌, ℕ, Bool, true, false, not, eqb, List, [], ◌∷◌, take, drop, length, map, inl, inr, refl, sym, ap, subst, ◌∙◌, arith, codes, nat_eq}
+use Rattle.std.specs.Prelude.{IsTrue}
+use Rattle.std.specs.Char.{is_ascii_digit}
+use Rattle.std.specs.List.{fold, list_all, list_any, starts_with, slice_split, onto_first}
+use Rattle.std.specs.Str.{bytes_eq}
+use Rattle.std.proofs.lemmas.Bool.{cases_Bool, eqb-true, or_cases, and_parts, and_from}
+use Rattle.std.proofs.lemmas.Bool.Decides.{Decides-eqb}
+use Rattle.std.proofs.lemmas.List.Splits.{slice_split-cons_no}
+use Rattle.std.proofs.lemmas.Slice.Eq.{bytes_eq-Decides, starts_is}
+use Rattle.bspl_types.specs.Name.{begins_name, is_name_rest, is_plain_name, is_group, is_grouped, is_reserved, is_name}
+use Rattle.command_line.specs.declared.command.Command.{Command}
+use Rattle.command_line.specs.declared.command.Command.TheVariants.{Verify, Check, Replay, Expand, Run, Generate}
+use Rattle.command_line.specs.declared.line.CommandLine.{CommandLine}
+use Rattle.command_line.specs.declared.line.Subject.{Subject}
+use Rattle.command_line.specs.declared.line.Subject.TheVariants.{Protocol, Size}
+use Rattle.command_line.specs.Command.{command_word}
+use Rattle.command_line.specs.Known.{options, is_known}
+use Rattle.command_line.specs.Line.{IsSubject, IsLineOf, IsCommandLine, is_generate}
+use Rattle.command_line.specs.Number.{is_number}
+use Rattle.command_line.specs.Part.{Part, Brief, Conflicts, Threads, Positional, begins_with_dash, is_dashed, IsAlone, brief, conflicts_joined, threads_joined, positional, BeginsWith, alone, conflicts_next, threads_next, ReadsAs, nothing, the_end, next}
+use Rattle.command_line.specs.Said.{Said, add, said, nothing_said}
+
+-- the words that are known
+pub data IsKnown : List ℕ → Type 0 where
+  plain : (word : List ℕ) → begins_with_dash word ≡ false → IsKnown word
+  the_dashes : IsKnown (codes "--")
+  the_flag : IsKnown (codes "--brief")
+  conflicts_apart : IsKnown (codes "--conflicts")
+  threads_apart : IsKnown (codes "--threads")
+  conflicts_with : (value : List ℕ) → IsKnown (codes "--conflicts=" ++ value)
+  threads_with : (value : List ℕ) → IsKnown (codes "--threads=" ++ value)
+
+-- ---- the test finds them
+
+same_word : (word text : List ℕ) → bytes_eq word text ≡ true → IsKnown text → IsKnown word
+same_word word text same is = subst IsKnown (sym ((bytes_eq-Decides word text).0 same)) is
+
+option_known : (word : List ℕ) → list_any (bytes_eq word) options ≡ true → IsKnown word
+option_known word is = elim (or_cases _ _ is) [
+  | inl first ↦ same_word word (codes "--") first the_dashes
+  | inr others ↦ elim (or_cases _ _ others) [
+    | inl second ↦ same_word word (codes "--brief") second the_flag
+    | inr more ↦ elim (or_cases _ _ more) [
+      | inl third ↦ same_word word (codes "--conflicts") third conflicts_apart
+      | inr last ↦ elim (or_cases _ _ last) [
+        | inl fourth ↦ same_word word (codes "--threads") fourth threads_apart
+        | inr none ↦ absurd (let bad : false ≡ true = none in cc)
+      ]
+    ]
+  ]
+]
+
+no_dash_from : (b : Bool) → not b ≡ true → b ≡ false
+no_dash_from true bad = sym bad
+no_dash_from false is = refl
+
+pub known_from : (word : List ℕ) → is_known word ≡ true → IsKnown word
+known_from word is = elim (or_cases _ _ is) [
+  | inl first ↦ elim (or_cases _ _ first) [
+    | inl second ↦ elim (or_cases _ _ second) [
+      | inl third ↦ plain word (no_dash_from (begins_with_dash word) third)
+      | inr option ↦ option_known word option
+    ]
+    | inr conflicts ↦
+        let parts = (starts_is Decides-eqb word (codes "--conflicts=") (starts_with nat_eq word (codes "--conflicts=")) refl).0 conflicts in
+        subst IsKnown (sym parts) (conflicts_with (drop 12 word))
+  ]
+  | inr threads ↦
+      let parts = (starts_is Decides-eqb word (codes "--threads=") (starts_with nat_eq word (codes "--threads=")) refl).0 threads in
+      subst IsKnown (sym parts) (threads_with (drop 10 word))
+]
+
+pub known_head : (word : List ℕ) (rest : List (List ℕ)) → list_all is_known (word ∷ rest) ≡ true → IsKnown word
+known_head word rest known = known_from word (and_parts (is_known word) (list_all is_known rest) known).0
+
+pub known_tail : (word : List ℕ) (rest : List (List ℕ)) → list_all is_known (word ∷ rest) ≡ true → list_all is_known rest ≡ true
+known_tail word rest known = (and_parts (is_known word) (list_all is_known rest) known).1
+
+-- ---- a command line has no others
+
+plain_known : (word : List ℕ) → begins_with_dash word ≡ false → is_known word ≡ true
+plain_known word is = rw is refl
+
+alone_known : {word : List ℕ} {part : Part} → IsAlone word part → ((w : List ℕ) → part ≡ Positional w → begins_with_dash w ≡ false) → is_known word ≡ true
+alone_known brief bare = refl
+alone_known (conflicts_joined value) bare = refl
+alone_known (threads_joined value) bare = refl
+alone_known (positional word other) bare = plain_known word (bare word refl)
+
+-- no word begins with `-`
+abbrev pub AllPlain : List (List ℕ) → Type 0
+AllPlain [] = Unit {0}
+AllPlain (word ∷ words) = (begins_with_dash word ≡ false) × AllPlain words
+
+plain_front : (xs ys : List (List ℕ)) → AllPlain (xs ++ ys) → AllPlain xs
+plain_front [] ys are = tt
+plain_front (x ∷ xs) ys are = (are.0, plain_front xs ys are.1)
+
+plain_last : (xs : List (List ℕ)) (y : List ℕ) → AllPlain (xs ++ y ∷ []) → begins_with_dash y ≡ false
+plain_last [] y are = are.0
+plain_last (x ∷ xs) y are = plain_last xs y are.1
+
+plain_before : (s : Said) (part : Part) → AllPlain (add s part).words → AllPlain s.words
+plain_before s Brief are = are
+plain_before s (Conflicts value) are = are
+plain_before s (Threads value) are = are
+plain_before s (Positional word) are = plain_front s.words (word ∷ []) are
+
+plain_start : (s : Said) (parts : List Part) → AllPlain (fold add s parts).words → AllPlain s.words
+plain_start s [] are = are
+plain_start s (part ∷ parts) are = plain_before s part (plain_start (add s part) parts are)
+
+plain_positional : (s : Said) (part : Part) (parts : List Part) → AllPlain (fold add (add s part) parts).words → (w : List ℕ) → part ≡ Positional w → begins_with_dash w ≡ false
+plain_positional s part parts are w is =
+    let here : AllPlain (add s (Positional w)).words = subst (λ q. AllPlain (add s q).words) is (plain_start (add s part) parts are) in
+    plain_last s.words w here
+
+rest_known : (s : Said) (rest : List (List ℕ)) → AllPlain (fold add s (map Positional rest)).words → list_all is_known rest ≡ true
+rest_known s [] are = refl
+rest_known s (word ∷ rest) are =
+    and_from (is_known word) (list_all is_known rest) (plain_known word (plain_positional s (Positional word) (map Positional rest) are word refl)) (rest_known (add s (Positional word)) rest are)
+
+part_known : {words : List (List ℕ)} {part : Part} {left : List (List ℕ)} → BeginsWith words part left → ((w : List ℕ) → part ≡ Positional w → begins_with_dash w ≡ false) → list_all is_known left ≡ true → list_all is_known words ≡ true
+part_known (alone word part rest is) bare others = and_from (is_known word) (list_all is_known rest) (alone_known is bare) others
+part_known (conflicts_next value rest is) bare others = and_from (is_known value) (list_all is_known rest) (plain_known value is) others
+part_known (threads_next value rest is) bare others = and_from (is_known value) (list_all is_known rest) (plain_known value is) others
+
+reading_known : {words : List (List ℕ)} {parts : List Part} → ReadsAs words parts → (s : Said) → AllPlain (fold add s parts).words → list_all is_known words ≡ true
+reading_known nothing s are = refl
+reading_known (the_end rest) s are = rest_known s rest are
+reading_known (next words part rest parts begins reads) s are = part_known begins (plain_positional s part parts are) (reading_known reads (add s part) are)
+
+-- ---- a command and what it is about do not begin with `-`
+
+command_plain : (command : Command) → begins_with_dash (command_word command) ≡ false
+command_plain Verify = refl
+command_plain Check = refl
+command_plain Replay = refl
+command_plain Expand = refl
+command_plain Run = refl
+command_plain Generate = refl
+
+number_plain : (word : List ℕ) → is_number word ≡ true → begins_with_dash word ≡ false
+number_plain [] is = refl
+number_plain (d ∷ ds) is = elim (cases_Bool (eqb d 45)) [
+  | inl dash ↦ absurd (let bad : false ≡ true = rw (eqb-true d 45 dash) at is in cc)
+  | inr other ↦ other
+]
+
+grouped_first : (b : ℕ) (pieces : List (List ℕ)) → is_grouped (onto_first b pieces) ≡ true → begins_name b ≡ true
+grouped_first b [] is = (and_parts (begins_name b) (is_name_rest []) (and_parts (is_plain_name (b ∷ [])) true is).0).0
+grouped_first b (p ∷ ps) is = (and_parts (begins_name b) (is_name_rest p) (and_parts (is_plain_name (b ∷ p)) (list_all is_group ps) is).0).0
+
+name_plain : (word : List ℕ) → is_name word ≡ true → begins_with_dash word ≡ false
+unfolding is_name
+name_plain [] is = refl
+name_plain (b ∷ bs) is = elim (cases_Bool (eqb b 45)) [
+  | inl dash ↦
+      let at : b ≡ 45 = eqb-true b 45 dash in
+      let no_hash : eqb b 35 ≡ false = rw at refl in
+      let grouped = (and_parts (is_grouped (slice_split (λ x. eqb x 35) (b ∷ bs))) (not (is_reserved (b ∷ bs))) is).0 in
+      let cut = subst (λ ps. is_grouped ps ≡ true) (slice_split-cons_no (λ x. eqb x 35) b bs no_hash) grouped in
+      let begins = grouped_first b (slice_split (λ x. eqb x 35) bs) cut in
+      absurd (let bad : false ≡ true = rw at at begins in cc)
+  | inr other ↦ other
+]
+
+subject_plain : (generates : Bool) (word : List ℕ) (subject : Subject) → IsSubject generates word subject → begins_with_dash word ≡ false
+subject_plain true word (Size n) is = number_plain word is.written
+subject_plain true word (Protocol name) is = absurd is
+subject_plain false word (Size n) is = absurd is
+subject_plain false word (Protocol name) is = name_plain word is.1
+
+-- a command line has known words alone
+pub line_known : (words : List (List ℕ)) (line : CommandLine) → IsCommandLine words line → list_all is_known words ≡ true
+line_known words line is =
+    let two : AllPlain (command_word line.command ∷ is.line_of.word ∷ []) = (command_plain line.command, (subject_plain (is_generate line.command) is.line_of.word line.subject is.line_of.subject, tt)) in
+    reading_known is.reads nothing_said (subst AllPlain (sym is.line_of.words) two)

@@ -1,0 +1,14 @@
+pub mod Adding
+pub mod Alone
+pub mod Digits
+pub mod Final
+pub mod Front
+pub mod Getters
+pub mod Known
+pub mod LineLemmas
+pub mod Passing
+pub mod Rows
+pub mod Rules
+pub mod Steps
+pub mod Taking
+pub mod Saying

@@ -1,0 +1,102 @@
+-- What is said is one command line at most, and says nothing too often.
+use Rattle.std.proofs.Common.{◌≡◌, ◌≤◌, ◌+◌, ℕ, zero, suc, Bool, true, false, cond, List, [], ◌∷◌, length, Option, Some, None, MatchOption, refl, sym, ap, subst, ◌∙◌, arith, codes}
+use Rattle.std.specs.Option.{unwrap_or}
+use Rattle.std.specs.Str.{bytes_eq}
+use Rattle.command_line.specs.declared.command.Command.{Command}
+use Rattle.command_line.specs.declared.command.Command.TheVariants.{Verify, Check, Replay, Expand, Run, Generate}
+use Rattle.command_line.specs.declared.line.CommandLine.{CommandLine}
+use Rattle.command_line.specs.declared.line.Subject.{Subject}
+use Rattle.command_line.specs.declared.line.Subject.TheVariants.{Protocol, Size}
+use Rattle.command_line.specs.Command.{command_word, takes_brief, takes_conflicts, takes_threads}
+use Rattle.command_line.specs.Line.{IsSubject, IsFlag, IsChosen, IsLineOf, IsCommandLine, IsSameSubject, IsSameLine, is_generate}
+use Rattle.command_line.specs.Said.{Said, IsLean, Says, nothing_said, said}
+use Rattle.command_line.proofs.Saying.{same_reading}
+
+-- a flag or an option stands once at most
+flag_once : (belongs : Bool) (n : ℕ) (on : Bool) → IsFlag belongs n on → n ≤ 1
+flag_once belongs zero on is = omega arith
+flag_once belongs (suc zero) on is = omega arith
+flag_once belongs (suc (suc n)) on is = absurd is
+
+option_once : (belongs : Bool) (least most default : ℕ) (values : List (List ℕ)) (n : ℕ) → IsChosen belongs least most default values n → length values ≤ 1
+option_once belongs least most default [] n is = omega arith
+option_once belongs least most default (value ∷ []) n is = omega arith
+option_once belongs least most default (value ∷ other ∷ values) n is = absurd is
+
+pub line_lean : (s : Said) (line : CommandLine) → IsLineOf s line → IsLean s
+line_lean s line is = record {
+  briefs = flag_once (takes_brief line.command) s.briefs line.brief is.brief;
+  conflicts = option_once (takes_conflicts line.command) 1 20000 10000 s.conflicts line.conflicts is.conflicts;
+  threads = option_once (takes_threads line.command) 0 8 1 s.threads line.threads is.threads;
+  words = (let two = ap length is.words in omega (arith, two));
+}
+
+-- what is said makes the words a command line, or none
+pub line_of_words : {words : List (List ℕ)} (s : Said) (line : Option CommandLine) → Says words nothing_said s → MatchOption line ((l : CommandLine) → IsLineOf s l → ⊥) (IsLineOf s) → MatchOption line ((l : CommandLine) → IsCommandLine words l → ⊥) (IsCommandLine words)
+line_of_words s None says none = λ l is. none l (subst (λ t. IsLineOf t l) (ap said (same_reading is.reads says.reads) ∙ sym says.after_is) is.line_of)
+line_of_words s (Some line) says is = record { parts = says.parts; reads = says.reads; line_of = subst (λ t. IsLineOf t line) says.after_is is }
+
+-- where too much is said, the words are none
+pub none_from_words : {words : List (List ℕ)} → ((s : Said) → Says words nothing_said s → IsLean s → ⊥) → (l : CommandLine) → IsCommandLine words l → ⊥
+none_from_words often l is = often (said is.parts) (record { parts = is.parts; reads = is.reads; after_is = refl }) (line_lean (said is.parts) l is.line_of)
+
+-- the command that the word names
+abbrev named : List ℕ → Command
+named word = cond (bytes_eq word (codes "verify")) Verify
+    (cond (bytes_eq word (codes "check")) Check
+    (cond (bytes_eq word (codes "replay")) Replay
+    (cond (bytes_eq word (codes "expand")) Expand
+    (cond (bytes_eq word (codes "run")) Run Generate))))
+
+names_it : (command : Command) → named (command_word command) ≡ command
+names_it Verify = refl
+names_it Check = refl
+names_it Replay = refl
+names_it Expand = refl
+names_it Run = refl
+names_it Generate = refl
+
+same_flag : (belongs : Bool) (n : ℕ) (x y : Bool) → IsFlag belongs n x → IsFlag belongs n y → x ≡ y
+same_flag belongs zero x y one other = one ∙ sym other
+same_flag belongs (suc zero) x y one other = one.0 ∙ sym other.0
+same_flag belongs (suc (suc n)) x y one other = absurd one
+
+same_choice : (belongs : Bool) (least most default : ℕ) (values : List (List ℕ)) (m n : ℕ) → IsChosen belongs least most default values m → IsChosen belongs least most default values n → m ≡ n
+same_choice belongs least most default [] m n one other = one ∙ sym other
+same_choice belongs least most default (value ∷ []) m n one other = sym one.0.value ∙ other.0.value
+same_choice belongs least most default (value ∷ more ∷ values) m n one other = absurd one
+
+same_subject : (generates : Bool) (word : List ℕ) (x y : Subject) → IsSubject generates word x → IsSubject generates word y → IsSameSubject x y
+same_subject true word (Size m) (Size n) one other = sym one.value ∙ other.value
+same_subject true word (Size m) (Protocol y) one other = absurd other
+same_subject true word (Protocol x) y one other = absurd one
+same_subject false word (Size m) y one other = absurd one
+same_subject false word (Protocol x) (Size n) one other = absurd other
+same_subject false word (Protocol x) (Protocol y) one other = one.0 ∙ sym other.0
+
+first_item : List (List ℕ) → List ℕ
+first_item [] = []
+first_item (x ∷ xs) = x
+
+second_item : List (List ℕ) → List ℕ
+second_item [] = []
+second_item (x ∷ xs) = first_item xs
+
+same_line : (s : Said) (a b : CommandLine) → IsLineOf s a → IsLineOf s b → IsSameLine a b
+unfolding first_item second_item
+same_line s a b one other =
+    let words = sym one.words ∙ other.words in
+    let command : a.command ≡ b.command = sym (names_it a.command) ∙ ap (λ ws. named (first_item ws)) words ∙ names_it b.command in
+    let word : one.word ≡ other.word = ap second_item words in
+    let subject = subst (λ w. IsSubject (is_generate a.command) w a.subject) word one.subject in
+    record {
+      command = command;
+      subject = same_subject (is_generate b.command) other.word a.subject b.subject (subst (λ k. IsSubject (is_generate k) other.word a.subject) command subject) other.subject;
+      brief = same_flag (takes_brief b.command) s.briefs a.brief b.brief (subst (λ k. IsFlag (takes_brief k) s.briefs a.brief) command one.brief) other.brief;
+      conflicts = same_choice (takes_conflicts b.command) 1 20000 10000 s.conflicts a.conflicts b.conflicts (subst (λ k. IsChosen (takes_conflicts k) 1 20000 10000 s.conflicts a.conflicts) command one.conflicts) other.conflicts;
+      threads = same_choice (takes_threads b.command) 0 8 1 s.threads a.threads b.threads (subst (λ k. IsChosen (takes_threads k) 0 8 1 s.threads a.threads) command one.threads) other.threads;
+    }
+
+-- words are one command line at most
+pub same_line_of_words : (words : List (List ℕ)) (a b : CommandLine) → IsCommandLine words a → IsCommandLine words b → IsSameLine a b
+same_line_of_words words a b one other = same_line (said other.parts) a b (subst (λ ps. IsLineOf (said ps) a) (same_reading one.reads other.reads) one.line_of) other.line_of

@@ -1,0 +1,46 @@
+ghost use Rattle.std.specs.Prelude.{IfOk, map, string_bytes, MatchOption};
+ghost use Rattle.command_line.specs.declared.line.CommandLine.{CommandLine as Line};
+ghost use Rattle.command_line.specs.Line.{IsCommandLine};
+
+use super::command::Command;
+use super::judging::line_of;
+use super::reading::{are_known, given_of};
+use bspl_types::NoMemory;
+use std::alloc::Global;
+
+/// What a command is about.
+#[derive(Clone, Copy, Debug, PartialEq, Eq)]
+pub enum Subject<'a> {
+    /// The protocol of that name.
+    Protocol(&'a [u8]),
+    /// What is to be generated, by its size.
+    Size(u32),
+}
+
+/// What a command line asks for.
+#[derive(Clone, Copy, Debug, PartialEq, Eq)]
+pub struct CommandLine<'a> {
+    pub command: Command,
+    pub subject: Subject<'a>,
+    pub brief: bool,
+    pub conflicts: u32,
+    pub threads: u32,
+}
+
+/// The command line that the words are, if they are one.
+pub fn command_line<'a>(
+    alloc: Global,
+    words: &'a [String],
+) -> Result<Option<CommandLine<'a>>, NoMemory>
+    ensures { IfOk result (λ found. MatchOption found
+        ((line : Line) → ¬ IsCommandLine (map string_bytes words.now) line)
+        (IsCommandLine (map string_bytes words.now))) }
+{
+    if !are_known(words) {
+        return Ok(None);
+    }
+    match given_of(alloc, words)? {
+        Some(given) => Ok(line_of(given)),
+        None => Ok(None),
+    }
+}

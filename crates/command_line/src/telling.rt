@@ -1,0 +1,29 @@
+ghost use Rattle.std.specs.Prelude.{◌≡◌, IfOk};
+ghost use Rattle.clap.specs.Words.{app_of};
+ghost use Rattle.command_line.specs.Clap.{told};
+
+use clap::{Arg, ArgAction, Command};
+use std::alloc::{AllocError, Global};
+
+/// The options and the positional words, as `clap` is told of them. What their values may be is
+/// judged later.
+pub fn tell<'a>(alloc: Global) -> Result<Command<'a>, AllocError>
+    ensures { IfOk result (λ command. app_of command ≡ told) }
+{
+    let brief = Arg::new(alloc, "brief")
+        .long("brief")
+        .action(ArgAction::SetTrue);
+    let conflicts = Arg::new(alloc, "conflicts").long("conflicts");
+    let threads = Arg::new(alloc, "threads").long("threads");
+    let command = Arg::new(alloc, "command");
+    let name = Arg::new(alloc, "name");
+    Command::new(alloc, "bspl")
+        .no_binary_name(true)
+        .disable_help_flag(true)
+        .disable_version_flag(true)
+        .arg(brief)?
+        .arg(conflicts)?
+        .arg(threads)?
+        .arg(command)?
+        .arg(name)
+}
