@@ -9,7 +9,8 @@ use bspl_types::{Carried, Duplicate, Message, Name, NoMemory, ParamInfo, Refusal
 /// Whether each message is admitted, and if one is not, why the first such is not.
 pub fn check_all(keys: &[u32], params: &[ParamInfo], messages: &[Message]) -> Result<(), Refusal>
     requires keys_exist { All (λ k. k < length params.now) keys.now }
-    requires carried_exist { All (λ m. All (λ c. c.param < length params.now) m.carried) messages.now }
+    requires carried_exist { let count = length params.now in
+        All (λ m. All (λ c. c.param < count) m.carried) messages.now }
     ensures ok { OnOk result (All (IsAdmittedMessage keys.now) messages.now) }
     ensures refused { IfErr result (RefusesMessage keys.now params.now messages.now) }
 {
@@ -77,7 +78,8 @@ fn stands_in(carried: &[Carried], param: u32) -> bool
 #[tactic(auto, using(crate::proofs::Firsts::first_missing, crate::proofs::Firsts::all_passed))]
 /// The first key that is not bound.
 fn first_missing(carried: &[Carried], keys: &[u32]) -> Option<u32>
-    ensures { MatchOption result (All (Binds carried.now) keys.now) (IsFirstMissing carried.now keys.now) }
+    ensures { MatchOption result
+        (All (Binds carried.now) keys.now) (IsFirstMissing carried.now keys.now) }
 {
     for key in keys {
         if !binds(carried, *key) {

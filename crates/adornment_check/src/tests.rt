@@ -6,8 +6,8 @@ use bspl_types::{
 use std::alloc::Global;
 use std::test::Fail;
 
-/// A message from one role to another, with its parameters by place: 0 is `ID`, 1 is `K`, both keys,
-/// and 2 and 3 are `x` and `y`.
+/// A message from one role to another, with its parameters by place: 0 is `ID` and 1 is `K`, both
+/// keys, and 2 and 3 are `x` and `y`.
 type Row = (&'static [u8], u32, u32, &'static [(u32, Adornment)]);
 
 /// What is wanted of a list of messages.
@@ -29,8 +29,8 @@ const BARE: &[(u32, Adornment)] = &[(0, Out), (1, Nil)];
 
 const TWICE: &[(u32, Adornment)] = &[(0, In), (2, In), (3, In), (3, In), (2, In)];
 
-/// Bodies, each with its answer. In one message the roles come first, then a repeated parameter, then
-/// the key; among messages the first comes first, whatever its fault.
+/// Bodies, each with its answer. In one message the roles come first, then a repeated parameter,
+/// then the key; among messages the first comes first, whatever its fault.
 const ROWS: [(&[Row], Wanted); 9] = [
     (&[], Wanted::Admitted),
     (
