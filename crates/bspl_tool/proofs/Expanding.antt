@@ -1,119 +1,22 @@
--- When a protocol of messages has an expansion, and that it has no other.
-use Rattle.std.proofs.Common.{◌≡◌, ℕ, ◌<◌, List, [], ◌∷◌, length, map, Some, Ok, Err, None, Option, Result, refl, sym, ◌∙◌, ap, subst}
-use Rattle.std.specs.Prelude.{IfOk, IfSome, IfNone, MatchOption}
-use Rattle.std.specs.List.{All, AllPairs, AllZip}
+-- What is found of a protocol's expansion is found of the protocol, and of a document that has it alone.
+use Rattle.std.proofs.Common.{◌≡◌, ℕ, List, [], ◌∷◌, Option, Some, None, Result, Ok, Err, subst, sym}
+use Rattle.std.specs.Prelude.{IfOk, MatchOption}
 use Rattle.bspl_types.specs.declared.expanded.Expanded.{Expanded}
 use Rattle.bspl_types.specs.declared.memory.NoMemory.{NoMemory}
-use Rattle.bspl_types.specs.declared.protocol.Carried.{Carried}
-use Rattle.bspl_types.specs.declared.protocol.Message.{Message}
-use Rattle.bspl_types.specs.declared.protocol.ParamInfo.{ParamInfo}
-use Rattle.bspl_types.specs.Admission.{IsAdmitted, IsAdmittedMessage}
-use Rattle.bspl_types.specs.Parts.{HasParts}
-use Rattle.bspl_types.specs.Shape.{IsShape, key_places}
+use Rattle.bspl_types.specs.Admission.{IsAdmitted}
 use Rattle.bspl_parser.specs.declared.document.Declaration.{Declaration}
 use Rattle.bspl_parser.specs.declared.document.Document.{Document}
-use Rattle.bspl_parser.specs.declared.document.Formal.{Formal}
-use Rattle.bspl_parser.specs.declared.document.Item.{Item}
-use Rattle.bspl_parser.specs.declared.document.Item.TheVariants as item
-use Rattle.enactment_model.specs.Producers.{HasOneProducer, SharesOut}
-use Rattle.bspl_tool.specs.Reading.{Declares, DeclaresAlone}
-use Rattle.bspl_tool.specs.Expansion.{IsCarried, IsImage, IsExpansionOf, params_of}
+use Rattle.enactment_model.specs.Producers.{HasOneProducer}
+use Rattle.flat_expansion.specs.Expansion.{IsExpansionOf}
 use Rattle.bspl_tool.specs.Plain.{IsPlainDeclaration}
-
--- a parameter is carried in one way
-one_carried : (params : List ParamInfo) (f : Formal) (c d : Carried) → IsCarried params f c → IsCarried params f d → c ≡ d
-one_carried params f c d is_c is_d =
-    let same_place : c.param ≡ d.param = cc (is_c.place, is_d.place) in
-    let same_adornment : c.adornment ≡ d.adornment = cc (is_c.adorned, is_d.adorned) in
-    λ i. record { param = same_place i; adornment = same_adornment i }
-
--- where each has one partner at most, so does a list
-one_list : {A B : Type 0} (R : A → B → Type 0) → ((a : A) (b c : B) → R a b → R a c → b ≡ c) → (xs : List A) (ys zs : List B) → AllZip R xs ys → AllZip R xs zs → ys ≡ zs
-one_list R one [] [] [] all other = refl
-one_list R one [] [] (z ∷ zs) all other = absurd other
-one_list R one [] (y ∷ ys) zs all other = absurd all
-one_list R one (x ∷ xs) [] zs all other = absurd all
-one_list R one (x ∷ xs) (y ∷ ys) [] all other = absurd other
-one_list R one (x ∷ xs) (y ∷ ys) (z ∷ zs) all other = λ i. one x y z all.0 other.0 i ∷ one_list R one xs ys zs all.1 other.1 i
-
--- an item has one image at most
-one_image : (roles : List (List ℕ)) (params : List ParamInfo) (i : Item) (m n : Message) → IsImage roles params i m → IsImage roles params i n → m ≡ n
-one_image roles params (item.Reference r) m n is_m is_n = absurd is_m
-one_image roles params (item.Message s) m n is_m is_n =
-    let same_name : m.name ≡ n.name = is_m.named ∙ sym is_n.named in
-    let same_sender : m.sender ≡ n.sender = cc (is_m.sent, is_n.sent) in
-    let same_receiver : m.receiver ≡ n.receiver = cc (is_m.received, is_n.received) in
-    let same_carried : m.carried ≡ n.carried = one_list (IsCarried params) (one_carried params) s.params m.carried n.carried is_m.carries is_n.carries in
-    λ i. record { name = same_name i; sender = same_sender i; receiver = same_receiver i; carried = same_carried i }
-
--- the roles and parameters that were found are those of every expansion
-images_found : (d : Declaration) (x : Expanded) (roles : List (List ℕ)) (params : List ParamInfo) → roles ≡ map (λ w. w.text) d.roles → params ≡ params_of d → IsExpansionOf d x → AllZip (IsImage roles params) d.body x.messages
-images_found d x roles params is_roles is_params expands =
-    subst (λ rs. AllZip (IsImage rs params) d.body x.messages) (expands.roles ∙ sym is_roles)
-    (subst (λ ps. AllZip (IsImage x.roles ps) d.body x.messages) (expands.params ∙ sym is_params) expands.images)
-
--- without images there is no expansion
-pub none_without_images : (d : Declaration) (roles : List (List ℕ)) (params : List ParamInfo) → roles ≡ map (λ w. w.text) d.roles → params ≡ params_of d → ((ms : List Message) → ¬ AllZip (IsImage roles params) d.body ms) → (x : Expanded) → ¬ IsExpansionOf d x
-none_without_images d roles params is_roles is_params none x expands = none x.messages (images_found d x roles params is_roles is_params expands)
-
--- an expansion has the shape of its parts
-shape_of_parts : (x : Expanded) (name : List ℕ) (roles : List (List ℕ)) (params : List ParamInfo) (public : ℕ) (messages : List Message) → x.name ≡ name → x.roles ≡ roles → x.params ≡ params → x.public ≡ public → x.messages ≡ messages → IsShape name roles params public (key_places params) messages
-shape_of_parts x name roles params public messages same_name same_roles same_params same_public same_messages =
-    subst (λ n. IsShape n roles params public (key_places params) messages) same_name
-    (subst (λ rs. IsShape x.name rs params public (key_places params) messages) same_roles
-    (subst (λ ps. IsShape x.name x.roles ps public (key_places ps) messages) same_params
-    (subst (λ k. IsShape x.name x.roles x.params k (key_places x.params) messages) same_public
-    (subst (λ ms. IsShape x.name x.roles x.params x.public (key_places x.params) ms) same_messages
-    (subst (λ ks. IsShape x.name x.roles x.params x.public ks x.messages) x.shape.key_list x.shape)))))
-
--- what was assembled is the expansion, and where nothing was, there is none
-pub assembled : (d : Declaration) (name : List ℕ) (roles : List (List ℕ)) (params : List ParamInfo) (public : ℕ) (messages : List Message) (result : Result (Option Expanded) NoMemory) →
-    name ≡ d.name.text → roles ≡ map (λ w. w.text) d.roles → params ≡ params_of d → public ≡ length d.public → AllZip (IsImage roles params) d.body messages →
-    IfOk result (λ made. IfSome made (λ x. HasParts x name roles params public messages)) → IfOk result (λ made. IfNone made (¬ IsShape name roles params public (key_places params) messages)) →
-    IfOk result (λ found. MatchOption found ((x : Expanded) → ¬ IsExpansionOf d x) (IsExpansionOf d))
-assembled d name roles params public messages (Ok (Some x)) is_name is_roles is_params is_public images made refused =
-    record {
-      named = made.same_name ∙ is_name;
-      roles = made.same_roles ∙ is_roles;
-      params = made.same_params ∙ is_params;
-      public = made.same_public ∙ is_public;
-      images =
-          subst (λ rs. AllZip (IsImage rs x.params) d.body x.messages) (sym made.same_roles)
-          (subst (λ ps. AllZip (IsImage roles ps) d.body x.messages) (sym made.same_params)
-          (subst (λ ms. AllZip (IsImage roles params) d.body ms) (sym made.same_messages) images));
-    }
-assembled d name roles params public messages (Ok None) is_name is_roles is_params is_public images made refused = λ x expands.
-    refused (shape_of_parts x name roles params public messages (expands.named ∙ sym is_name) (expands.roles ∙ sym is_roles) (expands.params ∙ sym is_params) (expands.public ∙ sym is_public)
-    (one_list (IsImage roles params) (one_image roles params) d.body x.messages messages (images_found d x roles params is_roles is_params expands) images))
-assembled d name roles params public messages (Err e) is_name is_roles is_params is_public images made refused = tt
-
--- two expansions of a protocol have the same messages
-same_messages : (d : Declaration) (x y : Expanded) → IsExpansionOf d x → IsExpansionOf d y → x.messages ≡ y.messages
-same_messages d x y is_x is_y =
-    one_list (IsImage y.roles y.params) (one_image y.roles y.params) d.body x.messages y.messages
-    (images_found d x y.roles y.params is_y.roles is_y.params is_x) is_y.images
-
--- and the same keys
-same_keys : (d : Declaration) (x y : Expanded) → IsExpansionOf d x → IsExpansionOf d y → x.keys ≡ y.keys
-same_keys d x y is_x is_y = x.shape.key_list ∙ ap key_places (is_x.params ∙ sym is_y.params) ∙ sym y.shape.key_list
-
--- so both are admitted, or neither
-pub admitted_alike : (d : Declaration) (x y : Expanded) → IsExpansionOf d x → IsExpansionOf d y → IsAdmitted x → IsAdmitted y
-admitted_alike d x y is_x is_y admitted = record {
-  some_key = subst (λ ks. 0 < length ks) (same_keys d x y is_x is_y) admitted.some_key;
-  each_message =
-      subst (λ ms. All (IsAdmittedMessage y.keys) ms) (same_messages d x y is_x is_y)
-      (subst (λ ks. All (IsAdmittedMessage ks) x.messages) (same_keys d x y is_x is_y) admitted.each_message);
-}
-
--- and both have single producers, or neither
-pub produced_alike : (d : Declaration) (x y : Expanded) → IsExpansionOf d x → IsExpansionOf d y → HasOneProducer x → HasOneProducer y
-produced_alike d x y is_x is_y once = subst (AllPairs (λ m n. ¬ SharesOut m n)) (same_messages d x y is_x is_y) once
+use Rattle.bspl_tool.specs.Reading.{Declares, DeclaresAlone}
 
 -- what is found of an expansion says whether the protocol declares one
-pub declares_found : (d : Declaration) (x : Expanded) (found : Option Expanded) → IsExpansionOf d x → MatchOption found (¬ (IsAdmitted x × HasOneProducer x)) (λ a. (a ≡ x) × IsAdmitted x × HasOneProducer x) → MatchOption found ((y : Expanded) → ¬ Declares d y) (Declares d)
-declares_found d x None expands neither = λ y declares. neither (admitted_alike d y x declares.expands expands declares.admitted, produced_alike d y x declares.expands expands declares.produced_once)
-declares_found d x (Some a) expands both =
+pub declares_found : (d : Declaration) (x : Expanded) (found : Option Expanded) → ((y z : Expanded) → IsExpansionOf d y → IsExpansionOf d z → y ≡ z) → IsExpansionOf d x → MatchOption found (¬ (IsAdmitted x × HasOneProducer x)) (λ a. (a ≡ x) × IsAdmitted x × HasOneProducer x) → MatchOption found ((y : Expanded) → ¬ Declares d y) (Declares d)
+declares_found d x None unique expands neither = λ y declares.
+    let same : y ≡ x = unique y x declares.expands expands in
+    neither (subst IsAdmitted same declares.admitted, subst HasOneProducer same declares.produced_once)
+declares_found d x (Some a) unique expands both =
     subst (Declares d) (sym both.0) (record { expands = expands; admitted = both.1; produced_once = both.2 })
 
 -- the only protocol of the document is the declared one

@@ -2,6 +2,5 @@ pub mod Expanding
 pub mod Headline
 pub mod OneOutput
 pub mod Otherwise
-pub mod Pairings
 pub mod Replies
 pub mod Shorts

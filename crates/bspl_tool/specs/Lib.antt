@@ -1,6 +1,5 @@
 pub mod Call
 pub mod Command
-pub mod Expansion
 pub mod Output
 pub mod Parts
 pub mod Plain

@@ -5,7 +5,7 @@ use Rattle.bspl_parser.specs.declared.document.Declaration.{Declaration}
 use Rattle.bspl_parser.specs.declared.document.Formal.{Formal}
 use Rattle.bspl_parser.specs.declared.document.Item.{Item}
 use Rattle.bspl_parser.specs.declared.document.Item.TheVariants.{Message, Reference}
-use Rattle.bspl_tool.specs.Expansion.{adornment_of}
+use Rattle.flat_expansion.specs.Expansion.{adornment_of}
 
 -- adorned `in`, `out` or `nil`, as a protocol's parameter is
 abbrev pub IsPlainPublic : Formal → Type 0

@@ -7,7 +7,7 @@ use Rattle.bspl_parser.specs.declared.document.Document.{Document}
 use Rattle.bspl_parser.specs.Judgement.{IsText}
 use Rattle.enactment_model.specs.Producers.{HasOneProducer}
 use Rattle.bspl_tool.specs.declared.limits.TheConstants.{TEXT_LIMIT}
-use Rattle.bspl_tool.specs.Expansion.{IsExpansionOf}
+use Rattle.flat_expansion.specs.Expansion.{IsExpansionOf}
 use Rattle.bspl_tool.specs.Parts.{HasPartLine}
 use Rattle.bspl_tool.specs.Plain.{IsPlainDeclaration}
 

@@ -7,7 +7,6 @@ ghost use Rattle.bspl_tool.specs.Reading.{Declares, DeclaresAlone, ReadsAs};
 ghost use Rattle.bspl_tool.specs.Refusing.{IsPrinted, RefusesWhole};
 
 use super::complaint::Complaint;
-use super::expansion::expansion_of;
 use super::limits::TEXT_LIMIT;
 use super::parts::has_part_line;
 use super::plain::is_plain;
@@ -15,6 +14,7 @@ use super::refusal::InputRefusal;
 use bspl_parser::{Declaration, Document, parse};
 use bspl_types::{Admitted, Expanded, NoMemory, Refusal, What, is_admitted};
 use enactment_model::single_producer;
+use flat_expansion::{expansion_of, expansions_are_unique};
 use std::alloc::Global;
 
 /// The protocol that a text declares for the name, or what the tool has against the text. The
@@ -68,6 +68,7 @@ fn declared(alloc: Global, d: &Declaration) -> Result<Option<Admitted>, NoMemory
         ((x : Protocol) → ¬ Declares d.now x) (Declares d.now)) }
     ensures safe { IfOk result (λ found. IfSome found SafeProtocol) }
 {
+    expansions_are_unique();
     match expansion_of(alloc, d)? {
         Some(x) => Ok(admitted_once(x)),
         None => Ok(None),

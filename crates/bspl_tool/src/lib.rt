@@ -3,8 +3,6 @@
 
 mod command;
 mod complaint;
-mod expansion;
-mod images;
 mod judging;
 mod laws;
 mod limits;
@@ -18,7 +16,6 @@ mod status;
 mod texts;
 
 pub use complaint::Complaint;
-pub use expansion::expansion_of;
 pub use judging::protocol_of;
 pub use laws::one_output;
 pub use limits::{INPUT_LIMIT, TEXT_LIMIT};

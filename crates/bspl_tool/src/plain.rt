@@ -1,8 +1,7 @@
 ghost use Rattle.std.specs.Prelude.{◌↔◌, IsTrue};
 ghost use Rattle.bspl_tool.specs.Plain.{IsPlainDeclaration, IsPlainFormal, IsPlainItem, IsPlainPublic};
 
-use super::expansion::adornment_of;
-use bspl_parser::{Declaration, Formal, Item};
+use bspl_parser::{Adorn, Declaration, Formal, Item};
 
 /// Whether the protocol has messages alone, whose parameters have no `any`, no `opt` and no `key`.
 pub fn is_plain(declaration: &Declaration) -> bool
@@ -15,7 +14,7 @@ pub fn is_plain(declaration: &Declaration) -> bool
 fn is_plain_public(formal: &Formal) -> bool
     ensures { IsTrue result ↔ IsPlainPublic formal.now }
 {
-    adornment_of(formal.adorn).is_some()
+    matches!(formal.adorn, Adorn::In | Adorn::Out | Adorn::Nil)
 }
 
 fn is_plain_formal(formal: &Formal) -> bool

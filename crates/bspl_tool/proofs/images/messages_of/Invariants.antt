@@ -1,9 +1,0 @@
--- What has been made of the body.
-use Rattle.std.proofs.Common.{take}
-use Rattle.std.specs.List.{AllZip}
-use Rattle.bspl_tool.specs.Expansion.{IsImage}
-use Rattle.bspl_tool.proofs.images.messages_of.Given as goal
-
--- one for each item so far
-abbrev pub invariant-loop-item : goal.invariant-loop-item
-invariant-loop-item l = AllZip (IsImage l.roles l.params) (take l.item-index l.body) l.messages

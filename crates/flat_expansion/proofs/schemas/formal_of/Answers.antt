@@ -1,0 +1,12 @@
+-- The parameter that was made.
+use Rattle.std.proofs.Common.{sym, subst}
+use Rattle.bspl_types.specs.declared.protocol.ParamInfo.{ParamInfo}
+use Rattle.flat_expansion.specs.Flat.{IsWordOf}
+use Rattle.flat_expansion.proofs.Pieces.{formal_made}
+use Rattle.flat_expansion.proofs.schemas.formal_of.Goals as goal
+
+pub returns : goal.returns
+returns c =
+    formal_made c.args.params.now c.args.c c.index-params-c.result c.adorn_of.result c.in_ok-word_of.field-0
+    c.requires.params c.requires.placed c.index-params-c.is c.adorn_of.ensures
+    (subst (λ (p : ParamInfo). IsWordOf p.name c.in_ok-word_of.field-0) (sym c.index-params-c.is) c.in_ok-word_of.ensures)

@@ -1,0 +1,56 @@
+-- What a protocol of messages alone says that is made of an expansion: its names and adornments, and no places in a text.
+use Rattle.std.specs.Prelude.{◌≡◌, ℕ, List, None}
+use Rattle.std.specs.List.{All}
+use Rattle.bspl_types.specs.declared.protocol.Carried.{Carried}
+use Rattle.bspl_types.specs.declared.protocol.Message.{Message}
+use Rattle.bspl_types.specs.declared.protocol.ParamInfo.{ParamInfo}
+use Rattle.bspl_parser.specs.declared.document.Declaration.{Declaration}
+use Rattle.bspl_parser.specs.declared.document.Formal.{Formal}
+use Rattle.bspl_parser.specs.declared.document.Item.{Item}
+use Rattle.bspl_parser.specs.declared.document.Item.TheVariants as item
+use Rattle.bspl_parser.specs.declared.document.Schema.{Schema}
+use Rattle.bspl_parser.specs.declared.word.Word.{Word}
+use Rattle.bspl_parser.specs.Alike.{unplaced_word, unplaced_formal, unplaced_message, unplaced_declaration}
+use Rattle.flat_expansion.specs.Expansion.{public_param, private_param, IsCarried, IsMessageFor}
+
+-- the word `key` stands at no parameter of a message
+abbrev pub IsUnkeyed : Item → Type 0
+IsUnkeyed (item.Message s) = All (λ f. f.key ≡ None) s.params
+IsUnkeyed (item.Reference r) = ⊥
+
+-- nothing has a place in a text, and `key` stands at public parameters alone
+pub record IsBare (d : Declaration) : Type 0 where
+  pub unplaced : unplaced_declaration d ≡ d
+  pub unkeyed : All IsUnkeyed d.body
+
+-- the word for a name
+pub record IsWordOf (name : List ℕ) (w : Word) : Type 0 where
+  pub named : w.text ≡ name
+  pub unplaced : unplaced_word w ≡ w
+
+-- a public parameter
+pub record IsPublicOf (p : ParamInfo) (f : Formal) : Type 0 where
+  pub declares : public_param f ≡ p
+  pub unplaced : unplaced_formal f ≡ f
+
+-- a private parameter
+pub record IsPrivateOf (p : ParamInfo) (w : Word) : Type 0 where
+  pub declares : private_param w ≡ p
+  pub unplaced : unplaced_word w ≡ w
+
+-- a parameter of a message
+pub record IsFormalOf (params : List ParamInfo) (c : Carried) (f : Formal) : Type 0 where
+  pub carries : IsCarried params f c
+  pub unkeyed : f.key ≡ None
+  pub unplaced : unplaced_formal f ≡ f
+
+-- a message
+pub record IsSchemaOf (roles : List (List ℕ)) (params : List ParamInfo) (m : Message) (s : Schema) : Type 0 where
+  pub means : IsMessageFor roles params s m
+  pub unkeyed : All (λ f. f.key ≡ None) s.params
+  pub unplaced : unplaced_message s ≡ s
+
+-- an item of the body, which is a message
+abbrev pub IsItemOf : List (List ℕ) → List ParamInfo → Message → Item → Type 0
+IsItemOf roles params m (item.Message s) = IsSchemaOf roles params m s
+IsItemOf roles params m (item.Reference r) = ⊥

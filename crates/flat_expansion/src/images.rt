@@ -1,0 +1,122 @@
+ghost use Rattle.std.specs.Prelude.{◌≡◌, ◌<◌, ◌^◌, ℕ, List, length, IfOk, MatchOption, Some, None};
+ghost use Rattle.std.specs.List.{AllZip};
+ghost use Rattle.bspl_types.specs.declared.protocol.Carried.{Carried as Param};
+ghost use Rattle.bspl_types.specs.declared.protocol.Message.{Message as Sent};
+ghost use Rattle.flat_expansion.specs.Expansion.{role_place, param_place, IsCarried, IsMessageFor, IsImage};
+
+use super::expansion::adornment_of;
+use bspl_parser::{Formal, Item, Schema};
+use bspl_types::{
+    Carried, CarriedList, Duplicate, Message, MessageList, Name, NoMemory, ParamInfo, Seq, place_of,
+};
+use std::alloc::Global;
+
+/// The messages of a body, if it has messages alone and all their names are declared.
+pub fn messages_of(
+    alloc: Global,
+    roles: &[Name],
+    params: &[ParamInfo],
+    body: &[Item],
+) -> Result<Option<MessageList>, NoMemory>
+    requires few_roles { length roles.now < 2 ^ 32 }
+    requires few_params { length params.now < 2 ^ 32 }
+    ensures { IfOk result (λ found. MatchOption found
+        ((ms : List Sent) → ¬ AllZip (IsImage roles.now params.now) body.now ms)
+        (AllZip (IsImage roles.now params.now) body.now)) }
+{
+    let mut messages = Seq::new(alloc);
+    for item in body {
+        match image_of(alloc, roles, params, item)? {
+            Some(message) => messages.push(message)?,
+            None => return Ok(None),
+        }
+    }
+    Ok(Some(messages))
+}
+
+fn image_of(
+    alloc: Global,
+    roles: &[Name],
+    params: &[ParamInfo],
+    item: &Item,
+) -> Result<Option<Message>, NoMemory>
+    requires few_roles { length roles.now < 2 ^ 32 }
+    requires few_params { length params.now < 2 ^ 32 }
+    ensures { IfOk result (λ found. MatchOption found
+        ((m : Sent) → ¬ IsImage roles.now params.now item.now m)
+        (IsImage roles.now params.now item.now)) }
+{
+    match item {
+        Item::Message(schema) => message_for(alloc, roles, params, schema),
+        Item::Reference(_) => Ok(None),
+    }
+}
+
+fn message_for(
+    alloc: Global,
+    roles: &[Name],
+    params: &[ParamInfo],
+    schema: &Schema,
+) -> Result<Option<Message>, NoMemory>
+    requires few_roles { length roles.now < 2 ^ 32 }
+    requires few_params { length params.now < 2 ^ 32 }
+    ensures { IfOk result (λ found. MatchOption found
+        ((m : Sent) → ¬ IsMessageFor roles.now params.now schema.now m)
+        (IsMessageFor roles.now params.now schema.now)) }
+{
+    let Some(sender) = role_place(roles, schema.sender.text.as_slice()) else {
+        return Ok(None);
+    };
+    let Some(receiver) = role_place(roles, schema.receiver.text.as_slice()) else {
+        return Ok(None);
+    };
+    let Some(carried) = all_carried(alloc, params, schema.params.as_slice())? else {
+        return Ok(None);
+    };
+    Ok(Some(Message {
+        name: schema.name.text.copy()?,
+        sender,
+        receiver,
+        carried,
+    }))
+}
+
+fn role_place(roles: &[Name], name: &[u8]) -> Option<u32>
+    requires { length roles.now < 2 ^ 32 }
+    ensures { result ≡ role_place roles.now name.now }
+{
+    place_of(roles, name).map(|place| place as u32)
+}
+
+fn all_carried(
+    alloc: Global,
+    params: &[ParamInfo],
+    formals: &[Formal],
+) -> Result<Option<CarriedList>, NoMemory>
+    requires { length params.now < 2 ^ 32 }
+    ensures { IfOk result (λ found. MatchOption found
+        ((cs : List Param) → ¬ AllZip (IsCarried params.now) formals.now cs)
+        (AllZip (IsCarried params.now) formals.now)) }
+{
+    let mut all = Seq::new(alloc);
+    for formal in formals {
+        match carried(params, formal) {
+            Some(c) => all.push(c)?,
+            None => return Ok(None),
+        }
+    }
+    Ok(Some(all))
+}
+
+fn carried(params: &[ParamInfo], formal: &Formal) -> Option<Carried>
+    requires { length params.now < 2 ^ 32 }
+    ensures { MatchOption result
+        ((c : Param) → ¬ IsCarried params.now formal.now c) (IsCarried params.now formal.now) }
+{
+    let place = place_of(params, formal.name.text.as_slice())?;
+    let adornment = adornment_of(formal.adorn)?;
+    Some(Carried {
+        param: place as u32,
+        adornment,
+    })
+}
