@@ -1,0 +1,9 @@
+pub mod Numbers
+pub mod GraphLemmas
+pub mod MessageLemmas
+pub mod PrivateLemmas
+pub mod WideLemmas
+pub mod WideOrder
+pub mod LimitLemmas
+pub mod MarkLemmas
+pub mod WalkLemmas

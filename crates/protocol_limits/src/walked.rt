@@ -1,0 +1,14 @@
+use protocol_names::Directory;
+use reference_graph::Graph;
+use std::alloc::Global;
+
+/// A document whose references were walked from a protocol on, none of which was met again.
+#[derive(Drop)]
+pub(crate) struct Walked<'a> {
+    pub alloc: Global,
+    pub directory: &'a Directory<'a>,
+    pub graph: &'a Graph,
+    /// What was reached, each protocol after all that it refers to.
+    pub order: &'a [u32],
+    pub top: u32,
+}
