@@ -23,7 +23,7 @@ one_carried params f c d is_c is_d =
     λ i. record { param = same_place i; adornment = same_adornment i }
 
 -- where each has one partner at most, so does a list
-one_list : {A B : Type 0} (R : A → B → Type 0) → ((a : A) (b c : B) → R a b → R a c → b ≡ c) → (xs : List A) (ys zs : List B) → AllZip R xs ys → AllZip R xs zs → ys ≡ zs
+pub one_list : {A B : Type 0} (R : A → B → Type 0) → ((a : A) (b c : B) → R a b → R a c → b ≡ c) → (xs : List A) (ys zs : List B) → AllZip R xs ys → AllZip R xs zs → ys ≡ zs
 one_list R one [] [] [] all other = refl
 one_list R one [] [] (z ∷ zs) all other = absurd other
 one_list R one [] (y ∷ ys) zs all other = absurd all

@@ -50,7 +50,7 @@ param_texts [] (w ∷ ws) = ap (λ ns. w.text ∷ ns) (param_texts [] ws)
 param_texts (f ∷ fs) ws = ap (λ ns. f.name.text ∷ ns) (param_texts fs ws)
 
 -- and so have the messages
-message_texts : (roles : List (List ℕ)) (params : List ParamInfo) (d : Declaration) (body : List Item) (ms : List Message) → AllZip (IsImage roles params) body ms → map (λ m. m.name) ms ≡ texts (message_words (record d { body = body }))
+pub message_texts : (roles : List (List ℕ)) (params : List ParamInfo) (d : Declaration) (body : List Item) (ms : List Message) → AllZip (IsImage roles params) body ms → map (λ m. m.name) ms ≡ texts (message_words (record d { body = body }))
 message_texts roles params d [] [] images = refl
 message_texts roles params d [] (m ∷ ms) images = absurd images
 message_texts roles params d (i ∷ body) [] images = absurd images
@@ -99,7 +99,7 @@ counts_alike true f g x xs y ys same = ap suc same
 counts_alike false f g x xs y ys same = same
 
 -- there is a place for each parameter that is marked as a key
-as_many_keys : (n : ℕ) (public : List Formal) (private : List Word) → length (map (λ (place, _). place) (filter (λ (_, p). p.key) (enumerate_from n (map public_param public ++ map private_param private)))) ≡ length (map (λ f. f.name) (filter (λ f. is_some f.key) public))
+pub as_many_keys : (n : ℕ) (public : List Formal) (private : List Word) → length (map (λ (place, _). place) (filter (λ (_, p). p.key) (enumerate_from n (map public_param public ++ map private_param private)))) ≡ length (map (λ f. f.name) (filter (λ f. is_some f.key) public))
 as_many_keys n [] [] = refl
 as_many_keys n [] (w ∷ ws) = as_many_keys (n + 1) [] ws
 as_many_keys n (f ∷ fs) ws =

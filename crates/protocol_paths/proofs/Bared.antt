@@ -77,7 +77,7 @@ one_path : (n : ℕ) (protocols : List Declaration) (top : Declaration) → All 
 one_path zero protocols top alone = refl
 one_path (suc n) protocols top alone = ap (λ (list : List Step). [] ∷ flat_map (λ s. map (λ path. s ∷ path) (paths n protocols s.target)) list) (no_steps 1 protocols top.body alone)
 
-bare_private : (n : ℕ) (protocols : List Declaration) (top : Declaration) → All IsMessage top.body → private_entries n protocols (start top) ≡ map entry top.private
+pub bare_private : (n : ℕ) (protocols : List Declaration) (top : Declaration) → All IsMessage top.body → private_entries n protocols (start top) ≡ map entry top.private
 bare_private n protocols top alone =
     ap (flat_map (λ path. privates_at (place_at (start top) path))) (one_path n protocols top alone) ∙ append-nil (privates_at (start top))
 

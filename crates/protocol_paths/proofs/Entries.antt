@@ -21,7 +21,7 @@ abbrev Entry : Type 0
 Entry = List ℕ × ℕ
 
 -- a path leads to the protocol at its end
-same_end : (place : Place) (path : List Step) → (place_at place path).protocol ≡ end_of place.protocol path
+pub same_end : (place : Place) (path : List Step) → (place_at place path).protocol ≡ end_of place.protocol path
 same_end place [] = refl
 same_end place (s ∷ path) = same_end (after place s) path
 
