@@ -1,3 +1,5 @@
 mod Firsts
 mod KeysExist
+mod OneReason
+mod OneRefusal
 mod Refused

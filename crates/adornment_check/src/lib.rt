@@ -2,8 +2,10 @@
 #![tactic(auto)]
 
 mod admitting;
+mod laws;
 mod message;
 #[cfg(test)]
 mod tests;
 
 pub use admitting::admit;
+pub use laws::refuses_once;

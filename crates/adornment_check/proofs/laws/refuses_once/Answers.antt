@@ -1,0 +1,9 @@
+-- The law, by its lemmas.
+use Rattle.adornment_check.proofs.OneRefusal.{never_refused, refused_once}
+use Rattle.adornment_check.proofs.laws.refuses_once.Goals as goal
+
+pub returns-clause-refusals : goal.returns-clause-refusals
+returns-clause-refusals c = refused_once
+
+pub returns-clause-apart : goal.returns-clause-apart
+returns-clause-apart c = never_refused
