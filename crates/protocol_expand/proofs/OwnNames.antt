@@ -1,0 +1,33 @@
+-- What has an expansion has names of its own.
+use Rattle.std.proofs.Common.{◌≡◌, ◌≢◌, ℕ, List, map, subst, inl, inr}
+use Rattle.std.specs.List.{AllPairs}
+use Rattle.bspl_types.specs.declared.expanded.Expanded.{Expanded}
+use Rattle.bspl_types.specs.declared.protocol.Message.{Message}
+use Rattle.bspl_types.specs.declared.protocol.ParamInfo.{ParamInfo}
+use Rattle.bspl_parser.specs.declared.document.Declaration.{Declaration}
+use Rattle.bspl_parser.specs.declared.word.Word.{Word}
+use Rattle.protocol_names.specs.Names.{message_words, param_words, texts}
+use Rattle.flat_expansion.specs.Expansion.{IsExpansionOf}
+use Rattle.flat_expansion.specs.Ready.{AreApart}
+use Rattle.flat_expansion.proofs.Mapped.{mapped_pairs, pairs_of_mapped}
+use Rattle.protocol_expand.specs.Repeats.{AreOwn, RepeatsName}
+use Rattle.protocol_expand.proofs.OneFirst.{none_repeated}
+use Rattle.protocol_expand.proofs.PlainParts.{declared_messages, declared_params}
+
+-- words are apart where what is named so is
+names_apart : {X : Type 0} (name : X → List ℕ) (xs : List X) (words : List Word) → map name xs ≡ texts words → AllPairs (λ a b. name a ≢ name b) xs → AreApart words
+names_apart name xs words same apart = record {
+  apart = pairs_of_mapped (λ a b. a ≢ b) (λ (w : Word). w.text) words (subst (AllPairs (λ a b. a ≢ b)) same (mapped_pairs (λ a b. a ≢ b) name xs apart));
+}
+
+-- its messages have names of their own, and so have its parameters
+own_names : (d : Declaration) (x : Expanded) → IsExpansionOf d x → AreOwn d
+own_names d x expands = record {
+  messages = names_apart (λ (m : Message). m.name) x.messages (message_words d) (declared_messages d x expands) x.shape.message_names.apart;
+  params = names_apart (λ (p : ParamInfo). p.name) x.params (param_words d) (declared_params d x expands) x.shape.param_names.apart;
+}
+
+-- so no name is repeated
+pub none_repeats : (d : Declaration) (x : Expanded) (offset : ℕ) → IsExpansionOf d x → RepeatsName d offset → ⊥
+none_repeats d x offset expands (inl message) = none_repeated (message_words d) offset (own_names d x expands).messages message
+none_repeats d x offset expands (inr param) = none_repeated (param_words d) offset (own_names d x expands).params param.param

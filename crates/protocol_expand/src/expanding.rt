@@ -1,0 +1,73 @@
+ghost use Rattle.std.specs.Prelude.{◌≡◌, IfOk, IfErr};
+ghost use Rattle.bspl_parser.specs.Spelling.{IsWellFormed};
+ghost use Rattle.protocol_names.specs.Fault.{HasNoFault};
+ghost use Rattle.protocol_expand.specs.Expansion.{IsExpansion};
+ghost use Rattle.protocol_expand.specs.Refusing.{IsNotExpanded, refusal_at};
+
+use super::flat::expand_flat;
+use bspl_parser::Document;
+use bspl_types::{Duplicate, Expanded, Refusal, Seq};
+use protocol_limits::{Survey, survey};
+use protocol_names::{Directory, DocumentFault, FaultKind, first_fault};
+use protocol_paths::{Marks, flatten};
+use std::alloc::Global;
+
+/// The expansion of the protocol of that name (Singh 2011), or why it has none: the document's
+/// first fault; that no protocol has the name; the first protocol that is met again along
+/// references; the first count over its limit; or two equal names of the expansion.
+pub fn expand(alloc: Global, document: &Document, name: &[u8]) -> Result<Expanded, Refusal>
+    requires formed { IsWellFormed document.now }
+    ensures ok { IfOk result (IsExpansion document.now name.now) }
+    ensures refused { IfErr result (IsNotExpanded document.now name.now) }
+{
+    match first_fault(alloc, document)? {
+        Some(fault) => Err(refusal_of(fault)),
+        None => expand_faultless(alloc, document, name),
+    }
+}
+
+fn refusal_of(fault: DocumentFault) -> Refusal
+    ensures { result ≡ refusal_at fault.kind fault.offset }
+{
+    let offset = fault.offset;
+    match fault.kind {
+        FaultKind::Duplicate => Refusal::Duplicate { offset },
+        FaultKind::Unknown => Refusal::Unknown { offset },
+        FaultKind::Arity => Refusal::Arity { offset },
+        FaultKind::BadAdornment => Refusal::BadAdornment { offset },
+        FaultKind::ForeignKey => Refusal::ForeignKey { offset },
+    }
+}
+
+// More than 2^32 protocols are not numbered, and answered as want of memory.
+fn expand_faultless(alloc: Global, document: &Document, name: &[u8]) -> Result<Expanded, Refusal>
+    requires formed { IsWellFormed document.now }
+    requires faultless { HasNoFault document.now }
+    ensures ok { IfOk result (IsExpansion document.now name.now) }
+    ensures refused { IfErr result (IsNotExpanded document.now name.now) }
+{
+    let protocols = document.protocols.as_slice();
+    let directory = Directory::new(alloc, protocols)?;
+    let Some(number) = directory.names.place(name) else {
+        return Err(Refusal::NoProtocol {
+            name: Seq::from_slice(alloc, name)?,
+        });
+    };
+    if protocols.len() > u32::MAX as usize {
+        return Err(Refusal::NoMemory);
+    }
+    match survey(alloc, &directory, number as u32)? {
+        Survey::Cycle(node) => Err(Refusal::Recursion {
+            name: protocols[node as usize].name.text.copy()?,
+        }),
+        Survey::Over { what, count } => Err(Refusal::Limit { what, count }),
+        Survey::Within { messages, privates } => {
+            let marks = Marks {
+                messages: messages.as_slice(),
+                privates: privates.as_slice(),
+            };
+            let flat = flatten(alloc, &directory, &protocols[number], &marks)?;
+            expand_flat(alloc, &flat)
+        }
+    }
+}

@@ -1,0 +1,74 @@
+ghost use Rattle.std.specs.Prelude.{◌≡◌, ◌∷◌, [], ◌++◌, true, false, List, cond, map, IfOk, MatchOption};
+ghost use Rattle.std.specs.List.{Contains, flat_map};
+ghost use Rattle.bspl_parser.specs.declared.word.Word.{Word as Entry};
+ghost use Rattle.protocol_names.specs.Names.{declared_word, texts};
+ghost use Rattle.flat_expansion.specs.Ready.{AreApart};
+ghost use Rattle.protocol_expand.specs.Repeats.{AreNoted, AreOwn, IsFirstRepeated, RepeatsName};
+
+use bspl_parser::{Declaration, Formal, Item, Word};
+use bspl_types::NoMemory;
+use protocol_names::Register;
+use std::alloc::Global;
+
+/// Where the first name stands that an equal one stands before: the messages are gone through in
+/// order, and after them the parameters.
+pub fn repeated_name(alloc: Global, flat: &Declaration) -> Result<Option<u64>, NoMemory>
+    ensures { IfOk result (λ found. MatchOption found (AreOwn flat.now) (RepeatsName flat.now)) }
+{
+    if let Some(offset) = repeated_message(alloc, flat.body.as_slice())? {
+        return Ok(Some(offset));
+    }
+    repeated_param(alloc, flat.public.as_slice(), flat.private.as_slice())
+}
+
+fn repeated_message(alloc: Global, body: &[Item]) -> Result<Option<u64>, NoMemory>
+    ensures { IfOk result (λ found. MatchOption found
+        (AreApart (flat_map declared_word body.now))
+        (IsFirstRepeated (flat_map declared_word body.now))) }
+{
+    let mut names = Register::new(alloc);
+    for item in body {
+        if let Item::Message(schema) = item {
+            if is_again(&mut names, &schema.name)? {
+                return Ok(Some(schema.name.offset));
+            }
+        }
+    }
+    Ok(None)
+}
+
+fn repeated_param(
+    alloc: Global,
+    public: &[Formal],
+    private: &[Word],
+) -> Result<Option<u64>, NoMemory>
+    ensures { IfOk result (λ found. MatchOption found
+        (AreApart (map (λ f. f.name) public.now ++ private.now))
+        (IsFirstRepeated (map (λ f. f.name) public.now ++ private.now))) }
+{
+    let mut names = Register::new(alloc);
+    for formal in public {
+        if is_again(&mut names, &formal.name)? {
+            return Ok(Some(formal.name.offset));
+        }
+    }
+    for word in private {
+        if is_again(&mut names, word)? {
+            return Ok(Some(word.offset));
+        }
+    }
+    Ok(None)
+}
+
+// Whether the name stands among the others. If not, it is put there.
+fn is_again(names: &mut Register, word: &Word) -> Result<bool, NoMemory>
+    ensures { (words : List Entry) → AreNoted words names.old → IfOk result (λ again.
+        cond again (Contains (texts words) word.now.text)
+        (AreNoted (words ++ word.now ∷ []) names.new)) }
+{
+    if names.has(word.text.as_slice()) {
+        return Ok(true);
+    }
+    names.push(word.text.as_slice())?;
+    Ok(false)
+}
