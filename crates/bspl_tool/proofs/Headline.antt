@@ -1,46 +1,48 @@
 -- `safety safe` is a line of no other text than the verdict.
-use Rattle.std.proofs.Common.{◌≡◌, ℕ, List, [], ◌++◌, length, take, Option, Some, None, codes, refl, sym, ◌∙◌, subst, arith, append-nil}
-use Rattle.std.specs.Fmt.{decimal}
+use Rattle.std.proofs.Common.{◌≡◌, ℕ, List, [], length, take, Option, Some, None, codes, refl, sym, ◌∙◌, subst, arith, append-nil}
 use Rattle.std.specs.Io.KnownBytes.{Appends}
 use Rattle.std.proofs.lemmas.List.{append_cancel_left, take_all}
-use Rattle.bspl_types.specs.declared.refusals.Refusal.TheVariants as text
-use Rattle.bspl_types.specs.declared.refusals.What.TheVariants as what
+use Rattle.bspl_types.specs.declared.expanded.Expanded.{Expanded}
 use Rattle.bspl_io.specs.Sink.{AppendsFront}
-use Rattle.bspl_tool.specs.declared.complaint.Complaint.{Complaint}
-use Rattle.bspl_tool.specs.declared.complaint.Complaint.TheVariants.{Input, Text}
-use Rattle.bspl_tool.specs.declared.refusal.InputRefusal.TheVariants.{TooLong, NotBuilt, NoMemory}
+use Rattle.bspl_tool.specs.declared.asking.Task.{Task}
+use Rattle.bspl_tool.specs.declared.asking.Task.TheVariants.{Expand, Verify}
 use Rattle.bspl_tool.specs.declared.reply.Reply.{Reply}
 use Rattle.bspl_tool.specs.declared.reply.Reply.TheVariants as reply
-use Rattle.bspl_tool.specs.Call.{SaysLine, SafeWhereSaid, DeclaresSafe}
-use Rattle.bspl_tool.specs.Refusals.{complaint_text}
-use Rattle.bspl_tool.specs.Refusing.{Refuses}
+use Rattle.bspl_tool.specs.Call.{AreLeft, SaysLine, SafeWhereSaid, DeclaresSafe}
+use Rattle.bspl_tool.specs.Command.{Asks}
+use Rattle.bspl_tool.specs.Output.{IsAnswer}
+use Rattle.bspl_tool.specs.Reading.{Declares}
 use Rattle.bspl_tool.specs.Reply.{reply_text, RepliesTo}
-use Rattle.bspl_tool.specs.Texts.{line, verdict_safe}
-use Rattle.bspl_tool.proofs.Otherwise.{IsOther, decimal_has_no_lf, front_says_other}
+use Rattle.bspl_tool.specs.Texts.{verdict_safe}
+use Rattle.bspl_tool.proofs.CalmText.{printed_is_other}
+use Rattle.bspl_tool.proofs.Otherwise.{IsOther, front_says_other, other_line}
+use Rattle.bspl_tool.proofs.RefusalLines.{refused_otherwise}
 
--- one line, which is another than the verdict's
-abbrev IsOtherLine : List ℕ → Type 0
-IsOtherLine text = (body : List ℕ) × (text ≡ line body) × IsOther body
-
--- a refusal that is given has such a line
-refused_otherwise : (name bytes : List ℕ) (c : Complaint) → Refuses c name bytes → IsOtherLine (complaint_text c)
-refused_otherwise name bytes (Input (TooLong limit)) refuses = (codes "refused P2 " ++ (decimal limit ++ []), refl, record { whole = decimal_has_no_lf limit; first = λ is. omega arith })
-refused_otherwise name bytes (Input NotBuilt) refuses = (codes "refused N1", refl, record { whole = refl; first = λ is. omega arith })
-refused_otherwise name bytes (Input NoMemory) refuses = absurd refuses.1
-refused_otherwise name bytes (Text (text.Byte offset)) refuses = (codes "refused E1 " ++ (decimal offset ++ []), refl, record { whole = decimal_has_no_lf offset; first = λ is. omega arith })
-refused_otherwise name bytes (Text (text.Syntax offset)) refuses = (codes "refused E2 " ++ (decimal offset ++ []), refl, record { whole = decimal_has_no_lf offset; first = λ is. omega arith })
-refused_otherwise name bytes (Text (text.Limit what.Text count)) refuses = (codes "refused E9 text " ++ (decimal count ++ []), refl, record { whole = decimal_has_no_lf count; first = λ is. omega arith })
-refused_otherwise name bytes (Text other) refuses = absurd refuses.1.1
+-- an answer that says it is a verdict
+said_by_answer : (words : List (List ℕ)) (left : Option (List ℕ)) (bytes : List ℕ) (task : Task) (name : List ℕ) (x : Expanded) (out : List ℕ) (n : ℕ) → AreLeft left bytes → Asks words task name → Declares name bytes x → IsAnswer task name x out → SaysLine (take n out) verdict_safe → DeclaresSafe words left
+said_by_answer words left bytes Expand name x out n told asked declares answer says =
+    absurd (front_says_other out n (subst IsOther (sym answer.layout) (printed_is_other answer.flat)) says)
+said_by_answer words left bytes (Verify brief) name x out n told asked declares answer says = record {
+  brief = brief;
+  name = name;
+  asked = asked;
+  bytes = bytes;
+  told = told;
+  protocol = x;
+  declares = declares;
+  safe = answer.safe;
+}
 
 -- so only a verdict says it, whole or in a front
 said_by_verdict : (words : List (List ℕ)) (left left' : Option (List ℕ)) (r : Reply) (n : ℕ) → RepliesTo words left left' r → SaysLine (take n (reply_text r)) verdict_safe → DeclaresSafe words left
 said_by_verdict words left left' reply.Usage n replies says =
-    absurd (front_says_other (codes "usage: bspl COMMAND NAME [--brief] [--conflicts N] [--threads N]") n (record { whole = refl; first = λ is. omega arith }) says)
-said_by_verdict words left left' (reply.Safe text) n replies says = replies.safe refl
+    absurd (front_says_other _ n (other_line (codes "usage: bspl COMMAND NAME [--brief] [--conflicts N] [--threads N]") refl (λ is. omega arith)) says)
 said_by_verdict words left left' (reply.Refused text) n replies says =
     let refused = replies.right in
-    let other = refused_otherwise refused.name replies.bytes refused.complaint refused.refuses in
-    absurd (front_says_other other.0 n other.2 (subst (λ t. SaysLine (take n t) verdict_safe) (refused.text ∙ other.1) says))
+    absurd (front_says_other text n (subst IsOther (sym refused.text) (refused_otherwise words replies.bytes refused.complaint refused.refuses)) says)
+said_by_verdict words left left' (reply.Done text) n replies says =
+    let done = replies.right in
+    said_by_answer words left replies.bytes done.task done.name done.protocol text n replies.told done.asked done.declares done.answer says
 
 -- what was appended is a front of what was to be written
 pub safe_after_front : (words : List (List ℕ)) (left left' old new : Option (List ℕ)) (r : Reply) → RepliesTo words left left' r → AppendsFront old new (reply_text r) → SafeWhereSaid words left old new
@@ -59,4 +61,4 @@ pub safe_after_nothing : (words : List (List ℕ)) (left old : Option (List ℕ)
 safe_after_nothing words left None = tt
 safe_after_nothing words left (Some before) = λ out is_same says.
     let nothing : out ≡ [] = append_cancel_left before out [] (sym is_same ∙ sym (append-nil before)) in
-    absurd (front_says_other [] 0 (record { whole = refl; first = λ is. omega arith }) (subst (λ t. SaysLine t verdict_safe) nothing says))
+    absurd (front_says_other (codes "\n") 0 (other_line [] refl (λ is. omega arith)) (subst (λ t. SaysLine t verdict_safe) nothing says))

@@ -1,6 +1,11 @@
-pub mod Expanding
-pub mod Headline
-pub mod OneOutput
+pub mod NameBytes
 pub mod Otherwise
+pub mod CalmText
+pub mod RefusedNames
+pub mod RefusalLines
+pub mod Headline
+pub mod OneTask
+pub mod OneRefusal
+pub mod OneOutput
+pub mod PartLines
 pub mod Replies
-pub mod Shorts

@@ -1,16 +1,17 @@
 -- What one call of the tool does to its source and its sink, which may tell their bytes.
-use Rattle.std.specs.Prelude.{◌≡◌, ℕ, List, ◌++◌, Option, IfSome, ◌⊎◌}
+use Rattle.std.specs.Prelude.{◌≡◌, ℕ, Bool, List, ◌++◌, Option, IfSome, ◌⊎◌}
 use Rattle.std.specs.Io.KnownBytes.{Appends, Keeps}
 use Rattle.std.specs.List.{Contains}
 use Rattle.bspl_io.specs.Sink.{AppendsFront}
 use Rattle.bspl_types.specs.declared.expanded.Expanded.{Expanded}
 use Rattle.enactment_model.specs.Safety.{SafeProtocol}
+use Rattle.bspl_tool.specs.declared.asking.Task.TheVariants.{Verify}
 use Rattle.bspl_tool.specs.declared.status.Status.{Status}
 use Rattle.bspl_tool.specs.declared.status.Status.TheVariants.{Done, Usage, Refused, ReadFault, WriteFault, NoMemory}
-use Rattle.bspl_tool.specs.Command.{IsVerify}
+use Rattle.bspl_tool.specs.Command.{Asks}
 use Rattle.bspl_tool.specs.Output.{Output, Read}
 use Rattle.bspl_tool.specs.Parts.{lines}
-use Rattle.bspl_tool.specs.Reading.{ReadsAs}
+use Rattle.bspl_tool.specs.Reading.{Declares}
 use Rattle.bspl_tool.specs.Texts.{verdict_safe}
 
 -- the bytes that were left, where they are told
@@ -23,7 +24,7 @@ pub record Answers (words : List (List ℕ)) (left left' old new : Option (List 
   pub told : AreLeft left bytes
   pub out : List ℕ
   pub right : Output words bytes out status
-  pub read : Read bytes left left' status
+  pub read : Read words bytes left left' status
   pub appended : Appends old new out
 
 -- for some bytes, those left where they are told, a front of an output was written
@@ -48,14 +49,15 @@ IsRight words left left' old new NoMemory = Keeps old new ⊎ WritesFront words 
 abbrev pub SaysLine : List ℕ → List ℕ → Type 0
 SaysLine text said = Contains (lines text) said
 
--- the words ask for a protocol that the text declares and that is safe
+-- the words ask whether a protocol is safe that the input declares, and it is
 pub record DeclaresSafe (words : List (List ℕ)) (left : Option (List ℕ)) : Type 0 where
+  pub brief : Bool
   pub name : List ℕ
-  pub asked : IsVerify words name
+  pub asked : Asks words (Verify brief) name
   pub bytes : List ℕ
   pub told : AreLeft left bytes
   pub protocol : Expanded
-  pub reads : ReadsAs name bytes protocol
+  pub declares : Declares name bytes protocol
   pub safe : SafeProtocol protocol
 
 -- so it is wherever the line `safety safe` was written

@@ -1,11 +1,10 @@
-pub mod Call
-pub mod Command
-pub mod Output
+pub mod Texts
 pub mod Parts
-pub mod Plain
+pub mod Command
 pub mod Reading
-pub mod Refusals
 pub mod Refusing
+pub mod Refusals
+pub mod Output
+pub mod Call
 pub mod Reply
 pub mod Status
-pub mod Texts

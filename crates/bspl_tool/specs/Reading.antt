@@ -1,34 +1,21 @@
--- The protocol that a text declares.
-use Rattle.std.specs.Prelude.{◌≡◌, ℕ, ◌≤◌, List, [], ◌∷◌, length}
+-- The protocol that an input declares.
+use Rattle.std.specs.Prelude.{ℕ, ◌≤◌, List, length}
 use Rattle.bspl_types.specs.declared.expanded.Expanded.{Expanded}
 use Rattle.bspl_types.specs.Admission.{IsAdmitted}
-use Rattle.bspl_parser.specs.declared.document.Declaration.{Declaration}
 use Rattle.bspl_parser.specs.declared.document.Document.{Document}
 use Rattle.bspl_parser.specs.Judgement.{IsText}
-use Rattle.enactment_model.specs.Producers.{HasOneProducer}
+use Rattle.protocol_expand.specs.Expansion.{IsExpansion}
 use Rattle.bspl_tool.specs.declared.limits.TheConstants.{TEXT_LIMIT}
-use Rattle.flat_expansion.specs.Expansion.{IsExpansionOf}
-use Rattle.bspl_tool.specs.Parts.{HasPartLine}
-use Rattle.bspl_tool.specs.Plain.{IsPlainDeclaration}
+use Rattle.bspl_tool.specs.Parts.{protocol_text}
 
--- the protocol has this expansion, which is admitted and produces each parameter in one message
-pub record Declares (d : Declaration) (x : Expanded) : Type 0 where
-  pub expands : IsExpansionOf d x
-  pub admitted : IsAdmitted x
-  pub produced_once : HasOneProducer x
-
--- the document is one plain protocol, of that name, and declares the expansion
-pub record DeclaresAlone (name : List ℕ) (document : Document) (x : Expanded) : Type 0 where
-  pub declaration : Declaration
-  pub alone : document.protocols ≡ declaration ∷ []
-  pub named : declaration.name.text ≡ name
-  pub plain : IsPlainDeclaration declaration
-  pub declares : Declares declaration x
-
--- the text is short, has no part line, and spells a document that does so
-pub record ReadsAs (name text : List ℕ) (x : Expanded) : Type 0 where
-  pub one_part : ¬ HasPartLine text
+-- the text is short enough, and spells the document
+pub record IsSpelled (text : List ℕ) (d : Document) : Type 0 where
   pub short : length text ≤ TEXT_LIMIT
+  pub spelled : IsText text d
+
+-- the protocol text of the input spells a document in which the protocol of the name has this expansion, which is admitted
+pub record Declares (name input : List ℕ) (x : Expanded) : Type 0 where
   pub document : Document
-  pub spelled : IsText text document
-  pub alone : DeclaresAlone name document x
+  pub reads : IsSpelled (protocol_text input) document
+  pub expands : IsExpansion document name x
+  pub admitted : IsAdmitted x

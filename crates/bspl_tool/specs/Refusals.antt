@@ -45,8 +45,9 @@ refusal_text (SelfMessage message) = refused_line (codes "E13") (message ∷ [])
 refusal_text (RepeatedParam message param) = refused_line (codes "E14") (message ∷ param ∷ [])
 refusal_text NoMemory = []
 
--- the code of an input's refusal, and the limit
+-- the code of an input's refusal, and the part or the limit
 abbrev pub input_refusal_text : InputRefusal → List ℕ
+input_refusal_text (input.NoPart part) = refused_line (codes "P1") (part ∷ [])
 input_refusal_text (input.TooLong limit) = refused_line (codes "P2") (decimal limit ∷ [])
 input_refusal_text input.NotBuilt = refused_line (codes "N1") []
 input_refusal_text input.NoMemory = []

@@ -1,13 +1,12 @@
 //! The whole of the tool as one call over words, a source and a sink.
 #![tactic(auto)]
 
-mod command;
+mod asking;
 mod complaint;
 mod judging;
 mod laws;
 mod limits;
 mod parts;
-mod plain;
 mod refusal;
 mod refusing;
 mod reply;
@@ -15,6 +14,7 @@ mod run;
 mod status;
 mod texts;
 
+pub use asking::Task;
 pub use complaint::Complaint;
 pub use judging::protocol_of;
 pub use laws::one_output;
@@ -24,6 +24,14 @@ pub use run::bspl;
 pub use status::Status;
 
 #[cfg(test)]
+mod expanding_tests;
+#[cfg(test)]
+mod refused_tests;
+#[cfg(test)]
+mod refused_texts;
+#[cfg(test)]
 mod refusing_tests;
 #[cfg(test)]
 mod tests;
+#[cfg(test)]
+mod text_tests;

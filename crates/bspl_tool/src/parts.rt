@@ -1,12 +1,20 @@
 ghost use Rattle.std.specs.Prelude.{◌≡◌, ◌||◌};
 ghost use Rattle.std.specs.Str.{bytes_eq};
-ghost use Rattle.bspl_tool.specs.Parts.{has_part_line, is_part_line};
+ghost use Rattle.bspl_tool.specs.Parts.{is_part_line, protocol_text};
 
-/// Whether a line of the text begins a further part.
-pub fn has_part_line(text: &[u8]) -> bool
-    ensures { result ≡ has_part_line text.now }
+/// The bytes before the first part line, and the whole input if there is none. A part line may lack
+/// its LF at the end of the input.
+pub fn protocol_text(input: &[u8]) -> &[u8]
+    ensures { result.now ≡ protocol_text input.now }
 {
-    text.split(|b| *b == b'\n').any(is_part_line)
+    let mut start = 0;
+    for line in input.split(|b| *b == b'\n') {
+        if is_part_line(line) {
+            return &input[..start];
+        }
+        start += line.len() + 1;
+    }
+    input
 }
 
 fn is_part_line(line: &[u8]) -> bool

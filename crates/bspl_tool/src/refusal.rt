@@ -1,8 +1,13 @@
+use bspl_types::Name;
+use std::fmt::{self, Debug, Display, Formatter, Write};
 use thiserror::Error;
 
 /// Why an input was not judged.
-#[derive(Clone, Copy, Debug, Error)]
+#[derive(Drop, Error)]
 pub enum InputRefusal {
+    /// The command needs a part, and the first part line does not begin it.
+    #[error("the input has no such part")]
+    NoPart { part: Name },
     /// The input has more bytes than may be read.
     #[error("the input has more than {limit} bytes")]
     TooLong { limit: u64 },
@@ -11,4 +16,10 @@ pub enum InputRefusal {
     NotBuilt,
     #[error("out of memory")]
     NoMemory,
+}
+
+impl Debug for InputRefusal {
+    fn fmt<W: Write>(&self, f: &mut Formatter<W>) -> fmt::Result {
+        Display::fmt(self, f)
+    }
 }

@@ -1,7 +1,7 @@
 ghost use Rattle.std.specs.Prelude.{◌≡◌, [], ◌∷◌, ◌++◌, codes, IfOk, OnOk};
 ghost use Rattle.std.specs.Fmt.{decimal};
 ghost use Rattle.bspl_tool.specs.Refusals.{complaint_text, input_refusal_text, refusal_text, refused_line, what_word};
-ghost use Rattle.bspl_tool.specs.Refusing.{IsPrinted};
+ghost use Rattle.bspl_tool.specs.Refusing.{HasLine};
 ghost use Rattle.bspl_tool.specs.declared.complaint.Complaint.TheVariants.{Input as OfInput, Text as OfText};
 
 use super::complaint::Complaint;
@@ -12,20 +12,21 @@ use std::alloc::Global;
 /// The line of a complaint. Want of memory has none.
 pub fn complaint_text(alloc: Global, complaint: &Complaint) -> Result<Bytes, NoMemory>
     ensures text { IfOk result (λ text. text ≡ complaint_text complaint.now) }
-    ensures printed { IfOk result (λ _. IsPrinted complaint.now) }
+    ensures printed { IfOk result (λ _. HasLine complaint.now) }
 {
     match complaint {
-        Complaint::Input(refusal) => input_refusal_text(alloc, *refusal),
+        Complaint::Input(refusal) => input_refusal_text(alloc, refusal),
         Complaint::Text(refusal) => refusal_text(alloc, refusal),
     }
 }
 
-fn input_refusal_text(alloc: Global, refusal: InputRefusal) -> Result<Bytes, NoMemory>
-    ensures text { IfOk result (λ text. text ≡ input_refusal_text refusal) }
-    ensures printed { IfOk result (λ _. IsPrinted (OfInput refusal)) }
+fn input_refusal_text(alloc: Global, refusal: &InputRefusal) -> Result<Bytes, NoMemory>
+    ensures text { IfOk result (λ text. text ≡ input_refusal_text refusal.now) }
+    ensures printed { IfOk result (λ _. HasLine (OfInput refusal.now)) }
 {
     match refusal {
-        InputRefusal::TooLong { limit } => number_line(alloc, b"P2", limit),
+        InputRefusal::NoPart { part } => line_of(alloc, b"P1", part.as_slice()),
+        InputRefusal::TooLong { limit } => number_line(alloc, b"P2", *limit),
         InputRefusal::NotBuilt => bare_line(alloc, b"N1"),
         InputRefusal::NoMemory => Err(NoMemory),
     }
@@ -34,7 +35,7 @@ fn input_refusal_text(alloc: Global, refusal: InputRefusal) -> Result<Bytes, NoM
 /// The line of a text's refusal.
 fn refusal_text(alloc: Global, refusal: &Refusal) -> Result<Bytes, NoMemory>
     ensures text { IfOk result (λ text. text ≡ refusal_text refusal.now) }
-    ensures printed { IfOk result (λ _. IsPrinted (OfText refusal.now)) }
+    ensures printed { IfOk result (λ _. HasLine (OfText refusal.now)) }
 {
     match refusal {
         Refusal::Byte { offset } => number_line(alloc, b"E1", *offset),

@@ -54,6 +54,26 @@ fn prints_each_refusal(rt: HostRuntime) -> Result<(), Fail> {
     Ok(())
 }
 
+#[test]
+fn prints_what_an_input_lacks(rt: HostRuntime) -> Result<(), Fail> {
+    let alloc = rt.alloc();
+    let part = Name::from_slice(alloc, b"log")?;
+    let limit = 536_870_912;
+    let rows = [
+        (
+            InputRefusal::NoPart { part },
+            b"refused P1 log\n".as_slice(),
+        ),
+        (InputRefusal::TooLong { limit }, b"refused P2 536870912\n"),
+        (InputRefusal::NotBuilt, b"refused N1\n"),
+    ];
+    for (refusal, wanted) in rows {
+        let text = complaint_text(alloc, &Complaint::Input(refusal))?;
+        assert_eq!(rt; text.as_slice(), wanted);
+    }
+    Ok(())
+}
+
 fn limit(what: What, count: u64) -> Refusal {
     Refusal::Limit { what, count }
 }

@@ -1,9 +1,9 @@
-ghost use Rattle.std.specs.Prelude.{◌≡◌, IfOk, IsErrOf, map, string_bytes};
+ghost use Rattle.std.specs.Prelude.{◌≡◌, List, ℕ, IfOk, IsErrOf, map, string_bytes};
 ghost use Rattle.bspl_io.specs.Faults.{Rose};
-ghost use Rattle.bspl_tool.specs.Command.{IsCommandLine, IsVerify};
-ghost use Rattle.bspl_tool.specs.Reply.{reply_text, reply_status, Judges, RepliesTo, Verifies};
+ghost use Rattle.bspl_tool.specs.Command.{Asks, AsksForInput};
+ghost use Rattle.bspl_tool.specs.Reply.{reply_text, reply_status, AnswersOn, IsRefusal, Judges, RepliesTo};
 
-use super::command::verified_name;
+use super::asking::{Asked, Task, read_words};
 use super::complaint::Complaint;
 use super::judging::protocol_of;
 use super::limits::INPUT_LIMIT;
@@ -12,7 +12,9 @@ use super::refusing::complaint_text;
 use super::status::Status;
 use super::texts::{safe_text, usage_text};
 use bspl_io::{ReadRefusal, Source, read_all};
-use bspl_types::{Bytes, NoMemory};
+use bspl_types::{Admitted, Bytes, NoMemory};
+use enactment_model::single_producer;
+use protocol_expand::print_expanded;
 use std::alloc::Global;
 
 /// What is to be written.
@@ -21,8 +23,8 @@ pub enum Reply {
     Usage,
     /// The line of a refusal.
     Refused(Bytes),
-    /// The whole text of the verdict.
-    Safe(Bytes),
+    /// The whole text of the answer.
+    Done(Bytes),
 }
 
 /// Why there is nothing to be written.
@@ -49,7 +51,7 @@ impl Reply {
     {
         match self {
             Reply::Usage => usage_text(),
-            Reply::Refused(text) | Reply::Safe(text) => text.as_slice(),
+            Reply::Refused(text) | Reply::Done(text) => text.as_slice(),
         }
     }
 
@@ -59,7 +61,7 @@ impl Reply {
         match self {
             Reply::Usage => Status::Usage,
             Reply::Refused(_) => Status::Refused,
-            Reply::Safe(_) => Status::Done,
+            Reply::Done(_) => Status::Done,
         }
     }
 }
@@ -68,38 +70,68 @@ impl Reply {
 pub fn reply_to<R: Source>(alloc: Global, words: &[String], input: &mut R) -> Result<Reply, Silence>
     ensures right { IfOk result
         (RepliesTo (map string_bytes words.now) (R.left input.old) (R.left input.new)) }
-    ensures asked { IsErrOf result Silence.ReadFault → IsCommandLine (map string_bytes words.now) }
+    ensures asked { IsErrOf result Silence.ReadFault → AsksForInput (map string_bytes words.now) }
     ensures fault { IsErrOf result Silence.ReadFault
         → Rose (R.faults input.old) (R.faults input.new) }
 {
-    let Some(name) = verified_name(words) else {
-        return Ok(Reply::Usage);
-    };
-    verify(alloc, name, input)
+    match read_words(alloc, words)? {
+        Asked::Nothing => Ok(Reply::Usage),
+        Asked::Unbuilt => refused(alloc, &Complaint::Input(InputRefusal::NotBuilt)),
+        Asked::Protocol { task, name } => read_and_judge(alloc, task, name, input),
+    }
 }
 
-fn verify<R: Source>(alloc: Global, name: &[u8], input: &mut R) -> Result<Reply, Silence>
-    ensures right { IfOk result (Verifies name.now (R.left input.old) (R.left input.new)) }
+fn read_and_judge<R: Source>(
+    alloc: Global,
+    task: Task,
+    name: &[u8],
+    input: &mut R,
+) -> Result<Reply, Silence>
+    ensures right { IfOk result (λ reply. (words : List (List ℕ)) → Asks words task name.now
+        → RepliesTo words (R.left input.old) (R.left input.new) reply) }
     ensures fault { IsErrOf result Silence.ReadFault
         → Rose (R.faults input.old) (R.faults input.new) }
 {
     match read_all(alloc, input, INPUT_LIMIT) {
-        Ok(text) => judge(alloc, name, text.as_slice()),
+        Ok(text) => judge(alloc, task, name, text.as_slice()),
         Err(ReadRefusal::TooLong) => {
-            let complaint = Complaint::Input(InputRefusal::TooLong { limit: INPUT_LIMIT });
-            Ok(Reply::Refused(complaint_text(alloc, &complaint)?))
+            let limit = INPUT_LIMIT;
+            refused(alloc, &Complaint::Input(InputRefusal::TooLong { limit }))
         }
         Err(ReadRefusal::ReadFault) => Err(Silence::ReadFault),
         Err(ReadRefusal::NoMemory) => Err(Silence::NoMemory),
     }
 }
 
-fn judge(alloc: Global, name: &[u8], text: &[u8]) -> Result<Reply, Silence>
-    ensures right { IfOk result (Judges name.now text.now) }
+fn judge(alloc: Global, task: Task, name: &[u8], input: &[u8]) -> Result<Reply, Silence>
+    ensures right { IfOk result (Judges task name.now input.now) }
     ensures fault { ¬ IsErrOf result Silence.ReadFault }
 {
-    match protocol_of(alloc, name, text) {
-        Ok(_) => Ok(Reply::Safe(safe_text(alloc, name)?)),
-        Err(complaint) => Ok(Reply::Refused(complaint_text(alloc, &complaint)?)),
+    match protocol_of(alloc, name, input) {
+        Ok(protocol) => answer(alloc, task, name, &protocol),
+        Err(refusal) => refused(alloc, &Complaint::Text(refusal)),
     }
+}
+
+fn answer(alloc: Global, task: Task, name: &[u8], protocol: &Admitted) -> Result<Reply, Silence>
+    ensures right { IfOk result (AnswersOn task name.now protocol.now) }
+    ensures fault { ¬ IsErrOf result Silence.ReadFault }
+{
+    match task {
+        Task::Expand => Ok(Reply::Done(print_expanded(alloc, protocol.expanded())?)),
+        Task::Verify { brief } => {
+            if single_producer(protocol.expanded()) {
+                Ok(Reply::Done(safe_text(alloc, brief, name)?))
+            } else {
+                refused(alloc, &Complaint::Input(InputRefusal::NotBuilt))
+            }
+        }
+    }
+}
+
+fn refused(alloc: Global, complaint: &Complaint) -> Result<Reply, Silence>
+    ensures right { IfOk result (IsRefusal complaint.now) }
+    ensures fault { ¬ IsErrOf result Silence.ReadFault }
+{
+    Ok(Reply::Refused(complaint_text(alloc, complaint)?))
 }

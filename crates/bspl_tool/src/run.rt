@@ -1,7 +1,7 @@
 ghost use Rattle.std.specs.Prelude.{◌≡◌, map, string_bytes};
 ghost use Rattle.bspl_io.specs.Faults.{Rose};
 ghost use Rattle.bspl_tool.specs.Call.{IsRight, SafeWhereSaid};
-ghost use Rattle.bspl_tool.specs.Command.{IsCommandLine};
+ghost use Rattle.bspl_tool.specs.Command.{AsksForInput};
 
 use super::reply::{Silence, reply_to};
 use super::status::Status;
@@ -18,7 +18,7 @@ pub fn bspl<R: Source, W: Sink>(
 ) -> Status
     ensures output { IsRight (map string_bytes words.now) (R.left input.old) (R.left input.new)
         (W.written output.old) (W.written output.new) result }
-    ensures read_fault { result ≡ Status.ReadFault → IsCommandLine (map string_bytes words.now)
+    ensures read_fault { result ≡ Status.ReadFault → AsksForInput (map string_bytes words.now)
         × Rose (R.faults input.old) (R.faults input.new) }
     ensures write_fault { result ≡ Status.WriteFault
         → Rose (W.faults output.old) (W.faults output.new) }

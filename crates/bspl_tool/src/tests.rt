@@ -4,7 +4,7 @@ use bspl_types::{Bytes, NumberList};
 use std::alloc::{AllocError, Global};
 use std::test::Fail;
 
-const PING: &[u8] = b"Ping { roles A, B parameters out ID key A -> B: ping[out ID] }";
+pub const PING: &[u8] = b"Ping { roles A, B parameters out ID key A -> B: ping[out ID] }";
 
 const PING_AND_LOG: &[u8] =
     b"Ping { roles A, B parameters out ID key A -> B: ping[out ID] }\n%% log\n";
@@ -19,65 +19,14 @@ const USAGE: &[u8] = b"usage: bspl COMMAND NAME [--brief] [--conflicts N] [--thr
 
 const PING_SAFE: &[u8] = b"protocol Ping\nsafety safe\nlog 1 safety\nend\n";
 
+const PING_BRIEF: &[u8] = b"protocol Ping\nsafety safe\n";
+
+const PING_EXPANDED: &[u8] =
+    b"Ping {\n  roles A, B\n  parameters out ID key\n  A -> B: ping[out ID]\n}\n";
+
 const LONE_SAFE: &[u8] = b"protocol Lone\nsafety safe\nlog 1 safety\nend\n";
 
-const P_SAFE: &[u8] = b"protocol P\nsafety safe\nlog 1 safety\nend\n";
-
 const NOT_BUILT: &[u8] = b"refused N1\n";
-
-/// Protocols that are verified, texts that are refused, and documents that nothing is built for.
-const TEXTS: [(&[u8], &[u8], Status); 17] = [
-    (
-        b"P{roles A-1,B parameters out ID key A-1->B:m[out ID]}",
-        P_SAFE,
-        Status::Done,
-    ),
-    (
-        b"P { roles A, B // two\n parameters out ID key A \xE2\x86\xA6 B: m[out ID] }",
-        P_SAFE,
-        Status::Done,
-    ),
-    (b"", b"refused E2 0\n", Status::Refused),
-    (
-        b"P { roles A, B parameters out ID",
-        b"refused E2 32\n",
-        Status::Refused,
-    ),
-    (b"P { roles A; }", b"refused E1 11\n", Status::Refused),
-    (b" %% log\n", b"refused E1 1\n", Status::Refused),
-    (b"\n%% logs\n", b"refused E1 1\n", Status::Refused),
-    (b"%% log \n", b"refused E1 0\n", Status::Refused),
-    (b"%% log\r\r\n", b"refused E1 0\n", Status::Refused),
-    (b"%% agents\r\n", NOT_BUILT, Status::Refused),
-    (b"%% run\nP { roles A; }", NOT_BUILT, Status::Refused),
-    (b"P { roles A; }\n%% log", NOT_BUILT, Status::Refused),
-    (
-        b"P { roles A, B parameters out ID key A -> B: m[out ID] }
-          Q { roles A, B parameters out ID key A -> B: m[out ID] }",
-        NOT_BUILT,
-        Status::Refused,
-    ),
-    (
-        b"P { roles A, B parameters out ID key Q(A, B, out ID) }",
-        NOT_BUILT,
-        Status::Refused,
-    ),
-    (
-        b"P { roles A, B parameters out ID key A -> B: m[any ID] }",
-        NOT_BUILT,
-        Status::Refused,
-    ),
-    (
-        b"P { roles A, B parameters out ID key, opt x A -> B: m[out ID] }",
-        NOT_BUILT,
-        Status::Refused,
-    ),
-    (
-        b"P { roles A, B parameters out ID key A -> B: m[out ID key] }",
-        NOT_BUILT,
-        Status::Refused,
-    ),
-];
 
 fn words_of(alloc: Global, text: &str) -> Result<Vec<String>, AllocError> {
     let mut words = Vec::new(alloc);
@@ -88,7 +37,7 @@ fn words_of(alloc: Global, text: &str) -> Result<Vec<String>, AllocError> {
 }
 
 /// Whether the words and the input give that text and that status.
-fn answers(
+pub fn answers(
     alloc: Global,
     words: &str,
     text: &[u8],
@@ -106,16 +55,38 @@ fn answers(
 fn answers_each_row(rt: HostRuntime) -> Result<(), Fail> {
     let rows = [
         ("verify Ping", PING, PING_SAFE, Status::Done),
+        ("verify Ping --brief", PING, PING_BRIEF, Status::Done),
+        (
+            "--conflicts=7 verify --brief Ping",
+            PING,
+            PING_BRIEF,
+            Status::Done,
+        ),
         ("verify Lone", LONE, LONE_SAFE, Status::Done),
-        ("verify Pong", PING, NOT_BUILT, Status::Refused),
+        ("verify Ping", PING_AND_LOG, PING_SAFE, Status::Done),
+        ("expand Ping", PING_AND_LOG, PING_EXPANDED, Status::Done),
+        ("verify Pong", PING, b"refused E3 Pong\n", Status::Refused),
         ("verify Twin", TWIN, NOT_BUILT, Status::Refused),
-        ("verify Ping", PING_AND_LOG, NOT_BUILT, Status::Refused),
+        ("verify Twin --brief", TWIN, NOT_BUILT, Status::Refused),
+        ("check Ping", PING, NOT_BUILT, Status::Refused),
+        ("replay Ping", PING_AND_LOG, NOT_BUILT, Status::Refused),
+        (
+            "run Ping --threads 0",
+            b"P { roles A; }",
+            NOT_BUILT,
+            Status::Refused,
+        ),
+        ("generate 16", b"", NOT_BUILT, Status::Refused),
         ("verify", PING, USAGE, Status::Usage),
         ("", PING, USAGE, Status::Usage),
         ("verify Ping Ping", PING, USAGE, Status::Usage),
         ("verify roles", PING, USAGE, Status::Usage),
-        ("expand Ping", PING, USAGE, Status::Usage),
         ("verify --brief", PING, USAGE, Status::Usage),
+        ("verify Ping --conflicts 0", PING, USAGE, Status::Usage),
+        ("check Ping --brief", PING, USAGE, Status::Usage),
+        ("expand Ping --brief", PING, USAGE, Status::Usage),
+        ("-- verify Ping --brief", PING, USAGE, Status::Usage),
+        ("generate 17", b"", USAGE, Status::Usage),
     ];
     for (words, text, wanted, status) in rows {
         assert!(rt;
@@ -123,74 +94,6 @@ fn answers_each_row(rt: HostRuntime) -> Result<(), Fail> {
             "{words}"
         );
     }
-    Ok(())
-}
-
-#[test]
-fn judges_each_text(rt: HostRuntime) -> Result<(), Fail> {
-    for (text, wanted, status) in TEXTS {
-        assert!(rt;
-            answers(rt.alloc(), "verify P", text, wanted, status)?,
-            "{:?}",
-            text
-        );
-    }
-    Ok(())
-}
-
-/// A front is cut within the words `roles`, `parameters` and `out`, within the arrow, or elsewhere.
-#[test]
-fn refuses_each_front(rt: HostRuntime) -> Result<(), Fail> {
-    let alloc = rt.alloc();
-    for n in 0..PING.len() {
-        let wanted = match n {
-            8..=10 => format!(in alloc; "refused E2 7\n")?,
-            19..=26 => format!(in alloc; "refused E2 18\n")?,
-            30..=31 => format!(in alloc; "refused E2 29\n")?,
-            43 => format!(in alloc; "refused E1 42\n")?,
-            54..=55 => format!(in alloc; "refused E2 53\n")?,
-            _ => format!(in alloc; "refused E2 {n}\n")?,
-        };
-        assert!(rt;
-            answers(
-                alloc,
-                "verify Ping",
-                &PING[..n],
-                wanted.as_bytes(),
-                Status::Refused
-            )?,
-            "{n}"
-        );
-    }
-    Ok(())
-}
-
-#[test]
-fn counts_the_bytes_of_a_text(rt: HostRuntime) -> Result<(), Fail> {
-    let alloc = rt.alloc();
-    let mut text = Bytes::new(alloc);
-    for _ in 0..1_048_576 {
-        text.push(b' ')?;
-    }
-    assert!(rt;
-        answers(
-            alloc,
-            "verify P",
-            text.as_slice(),
-            b"refused E2 1048576\n",
-            Status::Refused
-        )?
-    );
-    text.push(b' ')?;
-    assert!(rt;
-        answers(
-            alloc,
-            "verify P",
-            text.as_slice(),
-            b"refused E9 text 1048577\n",
-            Status::Refused
-        )?
-    );
     Ok(())
 }
 
@@ -205,6 +108,14 @@ fn stops_at_faults(rt: HostRuntime) -> Result<(), Fail> {
     let given = bspl(alloc, words.as_slice(), &mut broken, &mut output);
     assert_eq!(rt; given, Status::ReadFault);
     assert!(rt; output.written().is_empty());
+
+    let mut first = NumberList::new(alloc);
+    first.push(1)?;
+    let mut unread = MemSource::new(Bytes::from_slice(alloc, PING)?, 16, first);
+    let check = words_of(alloc, "check Ping")?;
+    let given = bspl(alloc, check.as_slice(), &mut unread, &mut output);
+    assert_eq!(rt; given, Status::Refused);
+    assert!(rt; output.written() == NOT_BUILT);
 
     let mut third = NumberList::new(alloc);
     third.push(3)?;

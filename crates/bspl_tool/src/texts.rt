@@ -12,11 +12,14 @@ pub fn usage_text() -> &'static [u8]
 }
 
 /// The verdict on a protocol whose parameters have single producers.
-pub fn safe_text(alloc: Global, name: &[u8]) -> Result<Bytes, NoMemory>
-    ensures { IfOk result (λ text. text ≡ safe_text name.now) }
+pub fn safe_text(alloc: Global, brief: bool, name: &[u8]) -> Result<Bytes, NoMemory>
+    ensures { IfOk result (λ text. text ≡ safe_text brief name.now) }
 {
     let mut text = Bytes::from_slice(alloc, b"protocol ")?;
     text.append(name)?;
-    text.append(b"\nsafety safe\nlog 1 safety\nend\n")?;
+    text.append(b"\nsafety safe\n")?;
+    if !brief {
+        text.append(b"log 1 safety\nend\n")?;
+    }
     Ok(text)
 }

@@ -1,11 +1,20 @@
--- What the parser answers once, the tool does.
+-- What the crates below answer once, the tool does.
 use Rattle.bspl_tool.proofs.OneOutput as once
 use Rattle.bspl_tool.proofs.laws.one_output.Goals as goal
 
 pub returns : goal.returns
 returns c = once.one_output (record {
-  documents = c.answers_once.ensures.documents;
-  bytes = c.answers_once.ensures.bytes;
-  tokens = c.answers_once.ensures.tokens;
-  apart = c.answers_once.ensures.apart;
+  line = c.one_line.ensures;
+  reading = record {
+    documents = c.answers_once.ensures.documents;
+    bytes = c.answers_once.ensures.bytes;
+    tokens = c.answers_once.ensures.tokens;
+    parsed = c.answers_once.ensures.apart;
+    expansions = c.answers_once-2.ensures.expansions;
+    unexpanded = c.answers_once-2.ensures.refusals;
+    expanded = c.answers_once-2.ensures.apart;
+    unadmitted = c.refuses_once.ensures.refusals;
+    admitted = c.refuses_once.ensures.apart;
+  };
+  printed = c.prints_once.ensures;
 })

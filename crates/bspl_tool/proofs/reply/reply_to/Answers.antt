@@ -1,9 +1,14 @@
--- The reply to words with a name, and to others.
-use Rattle.bspl_tool.proofs.Replies.{no_command, asked_result}
+-- Words that are no command line, and a command that is still to be built, need no input.
+use Rattle.std.proofs.Common.{map, string_bytes}
+use Rattle.std.proofs.lemmas.Result.{IfOk-weaker}
+use Rattle.bspl_tool.proofs.Replies.{no_command, unbuilt_refused}
 use Rattle.bspl_tool.proofs.reply.reply_to.Goals as goal
 
-pub returns-in_default-clause-right : goal.returns-in_default-clause-right
-returns-in_default-clause-right g c = no_command _ _ c.in_default.ensures
+pub returns-in-Nothing-clause-right : goal.returns-in-Nothing-clause-right
+returns-in-Nothing-clause-right g c =
+    no_command (map string_bytes c.args.words.now) (g.R.Source.left c.args.input.now) (rw c.in-Nothing.is at c.in_ok-read_words.ensures)
 
-pub returns-clause-right : goal.returns-clause-right
-returns-clause-right g c = asked_result _ _ _ _ c.verify.result c.in-Some.ensures c.verify.ensures.right
+pub returns-in-Unbuilt-clause-right : goal.returns-in-Unbuilt-clause-right
+returns-in-Unbuilt-clause-right g c =
+    let asks = rw c.in-Unbuilt.is at c.in_ok-read_words.ensures in
+    IfOk-weaker _ _ _ (λ r. unbuilt_refused (map string_bytes c.args.words.now) (g.R.Source.left c.args.input.now) r asks) c.refused.ensures.right

@@ -1,0 +1,133 @@
+-- A name has neither a space nor an LF.
+use Rattle.std.proofs.Common.{◌≡◌, ◌≢◌, ℕ, Bool, true, false, not, ◌&&◌, List, [], ◌∷◌, ◌++◌, codes, get_or, eqb, one-add, add-one, inl, inr, refl, sym, ◌∙◌, ap}
+use Rattle.std.specs.Prelude.{IsTrue}
+use Rattle.std.specs.Char.{is_ascii_digit}
+use Rattle.std.specs.List.{after_first, before_first, join_with_byte, list_all, slice_split}
+use Rattle.std.proofs.lemmas.Bool.{and_parts, cases_Bool, eqb-true, false≢true, or_from, or_parts}
+use Rattle.std.proofs.lemmas.List.Splits.{join_with_byte-slice_split}
+use Rattle.bspl_types.specs.Name.{begins_name, goes_on, is_group, is_grouped, is_name, is_name_rest, is_plain_name, is_positive_number, is_reserved}
+use Rattle.bspl_tool.specs.Texts.{verdict_safe}
+use Rattle.bspl_tool.proofs.Otherwise.{has_byte, has_lf, joined_has_none}
+
+-- the byte stands in no name
+record IsOutside (c : ℕ) : Type 0 where
+  not_first : begins_name c ≡ false
+  not_later : (rest : List ℕ) → goes_on c rest ≡ false
+  no_digit : is_ascii_digit c ≡ false
+  no_hash : eqb 35 c ≡ false
+  no_dot : eqb 46 c ≡ false
+
+-- a byte that passes is not one that fails
+passes : (test : ℕ → Bool) (b c : ℕ) → test b ≡ true → test c ≡ false → eqb b c ≡ false
+passes test b c one other =
+    elim (cases_Bool (eqb b c)) [
+      | inl is ↦ absurd (let same : test b ≡ test c = ap test (eqb-true b c is) in cc)
+      | inr differ ↦ differ
+    ]
+
+-- the byte is none of those behind the first of a plain name
+rest_has_none : (c : ℕ) → IsOutside c → (text : List ℕ) → is_name_rest text ≡ true → has_byte c text ≡ false
+rest_has_none c outside [] rest = refl
+rest_has_none c outside (b ∷ text) rest =
+    let parts = and_parts (goes_on b text) (is_name_rest text) rest in
+    or_from (eqb b c) (has_byte c text) (passes (λ d. goes_on d text) b c parts.0 (outside.not_later text)) (rest_has_none c outside text parts.1)
+
+-- and none of a plain name
+plain_has_none : (c : ℕ) → IsOutside c → (text : List ℕ) → is_plain_name text ≡ true → has_byte c text ≡ false
+plain_has_none c outside [] plain = refl
+plain_has_none c outside (b ∷ text) plain =
+    let parts = and_parts (begins_name b) (is_name_rest text) plain in
+    or_from (eqb b c) (has_byte c text) (passes begins_name b c parts.0 outside.not_first) (rest_has_none c outside text parts.1)
+
+-- a dot
+abbrev is_dot : ℕ → Bool
+is_dot b = eqb b 46
+
+-- digits, a dot and a plain name
+dotted_has_none : (c : ℕ) → IsOutside c → (text : List ℕ) → list_all is_ascii_digit (before_first is_dot text) ≡ true → is_plain_name (after_first is_dot text) ≡ true → has_byte c text ≡ false
+dotted_has_none c outside [] digits plain = refl
+dotted_has_none c outside (b ∷ text) digits plain =
+    elim (cases_Bool (eqb b 46)) [
+      | inl dot ↦
+          let behind : after_first is_dot (b ∷ text) ≡ text = rw dot refl in
+          or_from (eqb b c) (has_byte c text) (ap (λ d. eqb d c) (eqb-true b 46 dot) ∙ outside.no_dot) (plain_has_none c outside text (ap is_plain_name (sym behind) ∙ plain))
+      | inr other ↦
+          let front : before_first is_dot (b ∷ text) ≡ b ∷ before_first is_dot text = rw (other, one-add) refl in
+          let behind : after_first is_dot (b ∷ text) ≡ after_first is_dot text = rw (other, one-add, add-one, add-one) refl in
+          let parts = and_parts (is_ascii_digit b) (list_all is_ascii_digit (before_first is_dot text)) (ap (list_all is_ascii_digit) (sym front) ∙ digits) in
+          or_from (eqb b c) (has_byte c text) (passes is_ascii_digit b c parts.0 outside.no_digit) (dotted_has_none c outside text parts.1 (ap is_plain_name (sym behind) ∙ plain))
+    ]
+
+-- a number has digits alone
+positive_is_digits : (text : List ℕ) → is_positive_number text ≡ true → list_all is_ascii_digit text ≡ true
+positive_is_digits [] positive = refl
+positive_is_digits (d ∷ digits) positive =
+    let parts = and_parts (is_ascii_digit d && not (eqb d 48)) (list_all is_ascii_digit digits) positive in
+    rw ((and_parts (is_ascii_digit d) (not (eqb d 48)) parts.0).0, parts.1) refl
+
+-- a group
+group_has_none : (c : ℕ) → IsOutside c → (text : List ℕ) → is_group text ≡ true → has_byte c text ≡ false
+group_has_none c outside text group =
+    let parts = and_parts (is_positive_number (before_first is_dot text)) (is_plain_name (after_first is_dot text)) group in
+    dotted_has_none c outside text (positive_is_digits (before_first is_dot text) parts.0) parts.1
+
+-- a first piece, and groups behind `#`
+pieces_have_none : (c : ℕ) → IsOutside c → (first : List ℕ) (groups : List (List ℕ)) → has_byte c first ≡ false → list_all is_group groups ≡ true → has_byte c (join_with_byte 35 (first ∷ groups)) ≡ false
+pieces_have_none c outside first [] none groups = none
+pieces_have_none c outside first (group ∷ more) none groups =
+    let parts = and_parts (is_group group) (list_all is_group more) groups in
+    let others = pieces_have_none c outside group more (group_has_none c outside group parts.0) parts.1 in
+    joined_has_none c first (35 ∷ join_with_byte 35 (group ∷ more)) none (or_from (eqb 35 c) (has_byte c (join_with_byte 35 (group ∷ more))) outside.no_hash others)
+
+-- the pieces of a name, with a `#` between each two
+grouped_has_none : (c : ℕ) → IsOutside c → (pieces : List (List ℕ)) → is_grouped pieces ≡ true → has_byte c (join_with_byte 35 pieces) ≡ false
+grouped_has_none c outside [] grouped = refl
+grouped_has_none c outside (plain ∷ groups) grouped =
+    let parts = and_parts (is_plain_name plain) (list_all is_group groups) grouped in
+    pieces_have_none c outside plain groups (plain_has_none c outside plain parts.0) parts.1
+
+-- so the byte stands in no name
+name_has_none : (c : ℕ) → IsOutside c → (name : List ℕ) → IsTrue (is_name name) → has_byte c name ≡ false
+unfolding is_name
+name_has_none c outside name named =
+    let pieces = slice_split (λ b. eqb b 35) name in
+    ap (has_byte c) (sym (join_with_byte-slice_split 35 name)) ∙ grouped_has_none c outside pieces (and_parts (is_grouped pieces) (not (is_reserved name)) named).0
+
+-- a name does not go on with an LF
+lf_not_later : (rest : List ℕ) → goes_on 10 rest ≡ false
+lf_not_later [] = refl
+lf_not_later (b ∷ rest) = refl
+
+-- a name has no LF
+pub name_has_no_lf : (name : List ℕ) → IsTrue (is_name name) → has_lf name ≡ false
+name_has_no_lf name named = name_has_none 10 (record { not_first = refl; not_later = lf_not_later; no_digit = refl; no_hash = refl; no_dot = refl }) name named
+
+-- nor with a space
+space_not_later : (rest : List ℕ) → goes_on 32 rest ≡ false
+space_not_later [] = refl
+space_not_later (b ∷ rest) = refl
+
+-- nor a space
+name_has_no_space : (name : List ℕ) → IsTrue (is_name name) → has_byte 32 name ≡ false
+name_has_no_space name named = name_has_none 32 (record { not_first = refl; not_later = space_not_later; no_digit = refl; no_hash = refl; no_dot = refl }) name named
+
+-- what stands behind the first space of two equal texts
+behind_space : (one other x y : List ℕ) → has_byte 32 one ≡ false → has_byte 32 other ≡ false → one ++ 32 ∷ x ≡ other ++ 32 ∷ y → x ≡ y
+behind_space [] [] x y none_in_one none_in_other same = cc
+behind_space [] (b ∷ other) x y none_in_one none_in_other same =
+    let is : b ≡ 32 = cc in
+    let no : eqb 32 32 ≡ false = ap (λ d. eqb d 32) (sym is) ∙ (or_parts (eqb b 32) (has_byte 32 other) none_in_other).0 in
+    absurd (cc)
+behind_space (b ∷ one) [] x y none_in_one none_in_other same =
+    let is : b ≡ 32 = cc in
+    let no : eqb 32 32 ≡ false = ap (λ d. eqb d 32) (sym is) ∙ (or_parts (eqb b 32) (has_byte 32 one) none_in_one).0 in
+    absurd (cc)
+behind_space (b ∷ one) (c ∷ other) x y none_in_one none_in_other same =
+    let tails : one ++ 32 ∷ x ≡ other ++ 32 ∷ y = cc in
+    behind_space one other x y (or_parts (eqb b 32) (has_byte 32 one) none_in_one).1 (or_parts (eqb c 32) (has_byte 32 other) none_in_other).1 tails
+
+-- a name, a space and a brace do not begin the verdict
+pub name_is_no_verdict : (name x rest : List ℕ) → IsTrue (is_name name) → name ++ 32 ∷ 123 ∷ x ≢ verdict_safe ++ rest
+name_is_no_verdict name x rest named same =
+    let behind = behind_space name (codes "safety") (123 ∷ x) (codes "safe" ++ rest) (name_has_no_space name named) refl same in
+    false≢true (ap (λ t. eqb (get_or t 0 0) 115) behind)
