@@ -25,7 +25,7 @@ fn is_right(alloc: Global, row: &[u8]) -> Result<bool, Fail> {
 
 #[test]
 fn refuses_each_faulty_document(rt: HostRuntime) -> Result<(), Fail> {
-    assert_eq!(rt; FAULTY.split(|b| *b == b'\n').count(), 38);
+    assert_eq!(rt; FAULTY.split(|b| *b == b'\n').count(), 41);
     for row in FAULTY.split(|b| *b == b'\n') {
         assert!(rt; is_right(rt.alloc(), row)?, "{:?}", row);
     }

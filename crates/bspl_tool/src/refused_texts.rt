@@ -2,6 +2,10 @@
 
 /// No protocol has the name, or the document has a fault.
 pub const FAULTY: &[u8] = b"\
+    Q | Ping { roles A, B parameters out ID key A -> B: ping[out ID] } | E3 Q\n\
+    T | T { roles A, B parameters out ID key P(A, out ID) } P { roles A, B parameters out ID \
+    key } | E6 37\n\
+    K | K { roles A, B parameters out ID key private y A -> B: m[out ID, out y key] } | E12 71\n\
     Q | P { roles A, B parameters out ID key A -> B: m[out ID] } | E3 Q\n\
     PP | P { roles A, B parameters out ID key A -> B: m[out ID] } | E3 PP\n\
     A | P { roles A, B parameters out ID key A -> B: m[out ID] } | E3 A\n\

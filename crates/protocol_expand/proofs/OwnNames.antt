@@ -15,13 +15,13 @@ use Rattle.protocol_expand.proofs.OneFirst.{none_repeated}
 use Rattle.protocol_expand.proofs.PlainParts.{declared_messages, declared_params}
 
 -- words are apart where what is named so is
-names_apart : {X : Type 0} (name : X → List ℕ) (xs : List X) (words : List Word) → map name xs ≡ texts words → AllPairs (λ a b. name a ≢ name b) xs → AreApart words
+pub names_apart : {X : Type 0} (name : X → List ℕ) (xs : List X) (words : List Word) → map name xs ≡ texts words → AllPairs (λ a b. name a ≢ name b) xs → AreApart words
 names_apart name xs words same apart = record {
   apart = pairs_of_mapped (λ a b. a ≢ b) (λ (w : Word). w.text) words (subst (AllPairs (λ a b. a ≢ b)) same (mapped_pairs (λ a b. a ≢ b) name xs apart));
 }
 
 -- its messages have names of their own, and so have its parameters
-own_names : (d : Declaration) (x : Expanded) → IsExpansionOf d x → AreOwn d
+pub own_names : (d : Declaration) (x : Expanded) → IsExpansionOf d x → AreOwn d
 own_names d x expands = record {
   messages = names_apart (λ (m : Message). m.name) x.messages (message_words d) (declared_messages d x expands) x.shape.message_names.apart;
   params = names_apart (λ (p : ParamInfo). p.name) x.params (param_words d) (declared_params d x expands) x.shape.param_names.apart;

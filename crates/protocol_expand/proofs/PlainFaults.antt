@@ -12,7 +12,6 @@ use Rattle.bspl_types.specs.declared.expanded.Expanded.{Expanded}
 use Rattle.bspl_types.specs.declared.protocol.Carried.{Carried}
 use Rattle.bspl_types.specs.declared.protocol.Message.{Message}
 use Rattle.bspl_types.specs.declared.protocol.ParamInfo.{ParamInfo}
-use Rattle.bspl_types.specs.Shape.{AreNamed}
 use Rattle.bspl_parser.specs.declared.document.Adorn.TheVariants.{Any, Opt}
 use Rattle.bspl_parser.specs.declared.document.Declaration.{Declaration}
 use Rattle.bspl_parser.specs.declared.document.Formal.{Formal}
@@ -30,10 +29,10 @@ use Rattle.protocol_names.proofs.Places.{has_place}
 use Rattle.flat_expansion.specs.Expansion.{adornment_of, param_place, role_place, IsCarried, IsExpansionOf, IsImage}
 use Rattle.flat_expansion.specs.Flat.{IsUnkeyed}
 use Rattle.flat_expansion.specs.Ready.{AreApart}
-use Rattle.flat_expansion.proofs.Mapped.{mapped_pairs, pairs_of_mapped}
 use Rattle.protocol_expand.specs.Expansion.{IsPlain}
 use Rattle.protocol_expand.proofs.PlainPairs.{firsts}
-use Rattle.protocol_expand.proofs.PlainParts.{declared_messages, declared_params, public_adorned}
+use Rattle.protocol_expand.proofs.OwnNames.{names_apart, own_names}
+use Rattle.protocol_expand.proofs.PlainParts.{declared_params, public_adorned}
 
 -- there is no fault of either sort
 none_of_two : (One Other : Kind → ℕ → Type 0) → HasNone One → HasNone Other → HasNone (Either One Other)
@@ -42,12 +41,6 @@ none_of_two One Other no_one no_other = λ kind offset either. ⊎_elim (no_one 
 -- there is none of any item
 none_of_all : {X : Type 0} (Fault : X → Kind → ℕ → Type 0) (xs : List X) → All (λ x. HasNone (Fault x)) xs → HasNone (OfSome Fault xs)
 none_of_all {X} Fault xs each = λ kind offset some. All-contains (λ (x : X). HasNone (Fault x)) xs some.item each some.among kind offset some.has
-
--- words with the names of items that are apart are apart
-apart_by_names : {X : Type 0} (name : X → List ℕ) (xs : List X) (words : List Word) → map name xs ≡ texts words → AreNamed name xs → AreApart words
-apart_by_names name xs words same named = record {
-  apart = pairs_of_mapped (λ a b. a ≢ b) (λ (w : Word). w.text) words (subst (AllPairs (λ a b. a ≢ b)) same (mapped_pairs (λ a b. a ≢ b) name xs named.apart));
-}
 
 -- words that are apart have no duplicate
 none_twice : (words : List Word) → AreApart words → HasNone (IsDuplicate words)
@@ -111,10 +104,10 @@ good_item protocols roles params p role_names param_names (item.Message s) m bar
 good_names : (p : Declaration) (x : Expanded) → IsExpansionOf p x → HasNone (IsNamedTwice p)
 good_names p x expands =
     none_of_two (IsDuplicate p.roles) (Either (IsDuplicate (param_words p)) (IsDuplicate (message_words p)))
-    (none_twice p.roles (apart_by_names (λ name. name) x.roles p.roles (map_itself x.roles ∙ expands.roles) x.shape.role_names))
+    (none_twice p.roles (names_apart (λ name. name) x.roles p.roles (map_itself x.roles ∙ expands.roles) x.shape.role_names.apart))
     (none_of_two (IsDuplicate (param_words p)) (IsDuplicate (message_words p))
-    (none_twice (param_words p) (apart_by_names (λ (q : ParamInfo). q.name) x.params (param_words p) (declared_params p x expands) x.shape.param_names))
-    (none_twice (message_words p) (apart_by_names (λ (m : Message). m.name) x.messages (message_words p) (declared_messages p x expands) x.shape.message_names)))
+    (none_twice (param_words p) (own_names p x expands).params)
+    (none_twice (message_words p) (own_names p x expands).messages))
   where
     map_itself : (names : List (List ℕ)) → map (λ name. name) names ≡ names
     map_itself [] = refl
