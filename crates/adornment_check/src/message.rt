@@ -3,7 +3,7 @@ ghost use Rattle.std.specs.List.{All, Any};
 ghost use Rattle.bspl_types.specs.Admission.{Binds, IsAdmittedMessage};
 ghost use Rattle.adornment_check.specs.Refusing.{AreApart, IsFirstRepeated, IsFirstMissing, IsMessageRefusal, IsNamed, RefusesMessage};
 
-use bspl_types::{Carried, Duplicate, Message, Name, NoMemory, ParamInfo, Refusal};
+use bspl_types::{Carried, Message, Name, NoMemory, ParamInfo, Refusal, TryClone};
 
 #[tactic(auto, using(crate::proofs::Refused::refused_at))]
 /// Whether each message is admitted, and if one is not, why the first such is not.
@@ -32,17 +32,17 @@ fn check(keys: &[u32], params: &[ParamInfo], m: &Message) -> Result<(), Refusal>
     ensures refused { IfErr result (IsMessageRefusal keys.now params.now m.now) }
 {
     if m.sender == m.receiver {
-        let message = m.name.copy()?;
+        let message = m.name.try_clone()?;
         return Err(Refusal::SelfMessage { message });
     }
     let carried = m.carried.as_slice();
     if let Some(param) = first_repeated(carried) {
-        let message = m.name.copy()?;
+        let message = m.name.try_clone()?;
         let param = name_of(params, param)?;
         return Err(Refusal::RepeatedParam { message, param });
     }
     if let Some(param) = first_missing(carried, keys) {
-        let message = m.name.copy()?;
+        let message = m.name.try_clone()?;
         let param = name_of(params, param)?;
         return Err(Refusal::NotWholeKey { message, param });
     }
@@ -53,7 +53,7 @@ fn name_of(params: &[ParamInfo], param: u32) -> Result<Name, NoMemory>
     requires { param < length params.now }
     ensures { IfOk result (IsNamed params.now param) }
 {
-    params[param as usize].name.copy()
+    params[param as usize].name.try_clone()
 }
 
 #[tactic(auto, using(crate::proofs::Firsts::first_repeated, crate::proofs::Firsts::apart_more))]

@@ -10,5 +10,5 @@ abbrev pub count_after : ℕ → ℕ
 count_after n = min (n + 1) last_count
 
 -- the count rose, or stands at its last value
-abbrev pub Rose : ℕ → ℕ → Type 0
-Rose old new = (old < new) ⊎ (new ≡ last_count)
+abbrev pub HasCounted : ℕ → ℕ → Type 0
+HasCounted old new = (old < new) ⊎ (new ≡ last_count)

@@ -1,8 +1,8 @@
 -- What a call appends to a sink that may tell the bytes that were written.
 use Rattle.std.specs.Prelude.{◌≡◌, ◌≢◌, ℕ, List, [], Option, Result, Ok, Err, take, ⊤}
 use Rattle.std.specs.Io.KnownBytes.{Appends}
-use Rattle.bspl_io.specs.declared.writing.Trouble.{Trouble}
-use Rattle.bspl_io.specs.declared.writing.Trouble.TheVariants.{Failed, NoMemory}
+use Rattle.bspl_io.specs.declared.sink.Trouble.{Trouble}
+use Rattle.bspl_io.specs.declared.sink.Trouble.TheVariants.{Failed, NoMemory}
 
 -- the call failed, or took nothing of a piece that is not empty
 abbrev pub Stalls : Result ℕ Trouble → List ℕ → Type 0
@@ -11,5 +11,5 @@ Stalls (Err Failed) piece = ⊤
 Stalls (Err NoMemory) piece = ⊥
 
 -- the first of the bytes were appended, maybe none and maybe all
-abbrev pub AppendsFront : Option (List ℕ) → Option (List ℕ) → List ℕ → Type 0
-AppendsFront old new bytes = (n : ℕ) × Appends old new (take n bytes)
+abbrev pub AppendsPrefix : Option (List ℕ) → Option (List ℕ) → List ℕ → Type 0
+AppendsPrefix old new bytes = (n : ℕ) × Appends old new (take n bytes)

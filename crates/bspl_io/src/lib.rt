@@ -3,17 +3,17 @@
 
 mod memory;
 mod plain;
-mod reading;
 mod schedule;
+mod sink;
+mod source;
 mod standard;
 #[cfg(test)]
 mod tests;
 mod words;
-mod writing;
 
 pub use memory::{MemSink, MemSource};
 pub use plain::{PlainSink, PlainSource};
-pub use reading::{Failed, ReadRefusal, Source, read_all};
+pub use sink::{Sink, Trouble, WriteRefusal, write_all};
+pub use source::{Failed, ReadRefusal, Source, read_all};
 pub use standard::{StdSink, StdSource};
 pub use words::words_given;
-pub use writing::{Sink, Trouble, WriteRefusal, write_all};

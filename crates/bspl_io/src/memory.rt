@@ -1,15 +1,15 @@
 ghost use Rattle.std.specs.Prelude.{◌≡◌, ◌<◌, ◌≤◌, [], ◌++◌, min, length, Some, Ok, IfOk, OnErr};
 ghost use Rattle.std.specs.Io.KnownBytes.{ReadConsumes, WriteAppends};
-ghost use Rattle.bspl_io.specs.Faults.{Rose};
+ghost use Rattle.bspl_io.specs.Faults.{HasCounted};
 ghost use Rattle.bspl_io.specs.Schedule.{unstarted};
 ghost use Rattle.bspl_io.specs.Memory.{GivesPiece, TakesPiece};
 ghost use Rattle.bspl_io.specs.Sink.{Stalls};
 
 use super::plain::{PlainSink, PlainSource};
-use super::reading::{Failed, Source};
 use super::schedule::Schedule;
-use super::writing::{Sink, Trouble};
-use bspl_types::{Bytes, NumberList};
+use super::sink::{Sink, Trouble};
+use super::source::{Failed, Source};
+use list_base::{Bytes, NumberList};
 use std::alloc::Global;
 use std::marker::Model;
 
@@ -26,7 +26,7 @@ impl Model for MemSource {
 
     ghost Value = { Supply };
 
-    ghost view = { λ s. record { left = s.source; schedule = s.schedule } };
+    ghost view = { λ s. record { remaining = s.source; schedule = s.schedule } };
 
     ghost invariant = { λ s. 0 < s.schedule.piece };
 }
@@ -35,7 +35,7 @@ impl MemSource {
     /// Hands out at most `piece` bytes a call. The calls whose numbers, from 1, `fails` lists fail.
     pub fn new(bytes: Bytes, piece: usize, fails: NumberList) -> MemSource
         requires { 0 < piece }
-        ensures { result ≡ record { left = bytes; schedule = unstarted piece fails } }
+        ensures { result ≡ record { remaining = bytes; schedule = unstarted piece fails } }
     {
         MemSource {
             source: PlainSource::new(bytes),
@@ -47,14 +47,14 @@ impl MemSource {
 impl Source for MemSource {
     ghost use Rattle.std.specs.Prelude.{Some};
 
-    ghost left = { λ s. Some s.left };
+    ghost remaining = { λ s. Some s.remaining };
 
     ghost faults = { λ s. s.schedule.faults };
 
     fn read(&mut self, into: &mut [u8]) -> Result<usize, Failed>
         ensures bound { IfOk result (λ n. n ≤ length into.new) }
-        ensures bytes { ReadConsumes (Some self.old.left) (Some self.new.left) result into.new }
-        ensures fault { OnErr result (Rose self.old.schedule.faults self.new.schedule.faults) }
+        ensures bytes { ReadConsumes (Some self.old.remaining) (Some self.new.remaining) result into.new }
+        ensures fault { OnErr result (HasCounted self.old.schedule.faults self.new.schedule.faults) }
         ensures count { self.old.schedule.faults ≤ self.new.schedule.faults }
         ensures piece { GivesPiece self.old self.new (length into.old) result }
     {
@@ -76,7 +76,7 @@ impl Model for MemSink {
 
     ghost Value = { Intake };
 
-    ghost view = { λ s. record { written = s.sink; schedule = s.schedule } };
+    ghost view = { λ s. record { contents = s.sink; schedule = s.schedule } };
 
     ghost invariant = { λ s. 0 < s.schedule.piece };
 }
@@ -85,7 +85,7 @@ impl MemSink {
     /// Takes at most `piece` bytes a call. The calls whose numbers, from 1, `fails` lists fail.
     pub fn new(alloc: Global, piece: usize, fails: NumberList) -> MemSink
         requires { 0 < piece }
-        ensures { result ≡ record { written = []; schedule = unstarted piece fails } }
+        ensures { result ≡ record { contents = []; schedule = unstarted piece fails } }
     {
         MemSink {
             sink: PlainSink::new(alloc),
@@ -94,7 +94,7 @@ impl MemSink {
     }
 
     pub fn written(&self) -> &[u8]
-        ensures { result.now ≡ self.now.written }
+        ensures { result.now ≡ self.now.contents }
     {
         self.sink.written()
     }
@@ -103,16 +103,16 @@ impl MemSink {
 impl Sink for MemSink {
     ghost use Rattle.std.specs.Prelude.{Some};
 
-    ghost written = { λ s. Some s.written };
+    ghost contents = { λ s. Some s.contents };
 
     ghost faults = { λ s. s.schedule.faults };
 
     fn write(&mut self, piece: &[u8]) -> Result<usize, Trouble>
         ensures bound { IfOk result (λ n. n ≤ length piece.now) }
-        ensures bytes { WriteAppends (Some self.old.written) (Some self.new.written)
+        ensures bytes { WriteAppends (Some self.old.contents) (Some self.new.contents)
             result piece.now }
         ensures fault { Stalls result piece.now →
-            Rose self.old.schedule.faults self.new.schedule.faults }
+            HasCounted self.old.schedule.faults self.new.schedule.faults }
         ensures count { self.old.schedule.faults ≤ self.new.schedule.faults }
         ensures piece { TakesPiece self.old self.new (length piece.now) result }
     {

@@ -1,15 +1,15 @@
 ghost use Rattle.std.specs.Prelude.{◌≡◌, ◌≤◌, [], ◌++◌, min, length, take, drop, Ok, IfOk, OnErr, IsOkUnless};
 ghost use Rattle.std.specs.Io.KnownBytes.{ReadConsumes, WriteAppends};
-ghost use Rattle.bspl_io.specs.Faults.{Rose};
+ghost use Rattle.bspl_io.specs.Faults.{HasCounted};
 ghost use Rattle.bspl_io.specs.Sink.{Stalls};
 
-use super::reading::{Failed, Source};
-use super::writing::{Sink, Trouble};
-use bspl_types::{Bytes, NoMemory};
+use super::sink::{Sink, Trouble};
+use super::source::{Failed, Source};
+use list_base::{Bytes, NoMemory};
 use std::alloc::Global;
 use std::marker::Model;
 
-/// A source in memory that never fails. Contracts see the bytes that are left.
+/// A source in memory that never fails. Contracts see the bytes that are remaining.
 #[derive(Drop)]
 pub struct PlainSource {
     bytes: Bytes,
@@ -37,11 +37,11 @@ impl PlainSource {
     pub(crate) fn give(&mut self, piece: usize, into: &mut [u8]) -> usize
         ensures count { result ≡ min piece (min (length into.old) (length self.old)) }
         ensures given { take result into.new ≡ take result self.old }
-        ensures left { self.new ≡ drop result self.old }
+        ensures remaining { self.new ≡ drop result self.old }
     {
-        let left = &self.bytes.as_slice()[self.given..];
-        let n = piece.min(into.len().min(left.len()));
-        into[..n].copy_from_slice(&left[..n]);
+        let remaining = &self.bytes.as_slice()[self.given..];
+        let n = piece.min(into.len().min(remaining.len()));
+        into[..n].copy_from_slice(&remaining[..n]);
         self.given += n;
         n
     }
@@ -50,7 +50,7 @@ impl PlainSource {
 impl Source for PlainSource {
     ghost use Rattle.std.specs.Prelude.{Some};
 
-    ghost left = { λ bytes. Some bytes };
+    ghost remaining = { λ bytes. Some bytes };
 
     ghost faults = { λ _. 0 };
 
@@ -107,7 +107,7 @@ impl PlainSink {
 impl Sink for PlainSink {
     ghost use Rattle.std.specs.Prelude.{Some};
 
-    ghost written = { λ bytes. Some bytes };
+    ghost contents = { λ bytes. Some bytes };
 
     ghost faults = { λ _. 0 };
 

@@ -2,8 +2,8 @@ ghost use Rattle.std.specs.Prelude.{◌≡◌, ◌≤◌, ◌==◌, ◌↔◌, I
 ghost use Rattle.std.specs.List.{list_any};
 ghost use Rattle.bspl_io.specs.Schedule.{unstarted, is_due, after_call};
 
-use super::reading::Failed;
-use bspl_types::NumberList;
+use super::source::Failed;
+use list_base::NumberList;
 
 /// Which calls fail, counted from 1, and how many bytes the others move at most.
 #[derive(Drop)]

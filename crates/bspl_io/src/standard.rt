@@ -1,7 +1,7 @@
 ghost use Rattle.std.specs.Prelude.{◌≡◌};
 
-use super::reading::{Failed, Source};
-use super::writing::{Sink, Trouble};
+use super::sink::{Sink, Trouble};
+use super::source::{Failed, Source};
 use std::io::{Read, Write};
 
 /// A reader as a source, such as standard input. It tells the bytes that its reader tells:
@@ -14,7 +14,7 @@ pub struct StdSource<R> {
 
 impl<R: Read> StdSource<R> {
     pub fn new(reader: R) -> StdSource<R>
-        ensures left { ⟦<StdSource<R> as Source>⟧.left result ≡ R.remaining reader }
+        ensures remaining { ⟦<StdSource<R> as Source>⟧.remaining result ≡ R.remaining reader }
         ensures faults { ⟦<StdSource<R> as Source>⟧.faults result ≡ 0 }
     {
         StdSource { reader, faults: 0 }
@@ -22,7 +22,7 @@ impl<R: Read> StdSource<R> {
 }
 
 impl<R: Read> Source for StdSource<R> {
-    ghost left = { λ s. R.remaining s.reader };
+    ghost remaining = { λ s. R.remaining s.reader };
 
     ghost faults = { λ s. s.faults };
 
@@ -48,7 +48,7 @@ pub struct StdSink<W> {
 
 impl<W: Write> StdSink<W> {
     pub fn new(writer: W) -> StdSink<W>
-        ensures written { ⟦<StdSink<W> as Sink>⟧.written result ≡ W.contents writer }
+        ensures written { ⟦<StdSink<W> as Sink>⟧.contents result ≡ W.contents writer }
         ensures faults { ⟦<StdSink<W> as Sink>⟧.faults result ≡ 0 }
     {
         StdSink { writer, faults: 0 }
@@ -56,7 +56,7 @@ impl<W: Write> StdSink<W> {
 }
 
 impl<W: Write> Sink for StdSink<W> {
-    ghost written = { λ s. W.contents s.writer };
+    ghost contents = { λ s. W.contents s.writer };
 
     ghost faults = { λ s. s.faults };
 

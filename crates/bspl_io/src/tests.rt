@@ -1,5 +1,5 @@
 use super::*;
-use bspl_types::{Bytes, NumberList};
+use list_base::{Bytes, NumberList};
 use std::test::Fail;
 
 const TEXT: &[u8; 30] = b"protocol Ping\nsafe yes\nlive no";

@@ -9,8 +9,8 @@ use Rattle.bspl_parser.specs.declared.document.Item.{Item}
 use Rattle.bspl_parser.specs.declared.document.Item.TheVariants as item
 use Rattle.bspl_parser.specs.declared.document.Declaration.{Declaration}
 use Rattle.bspl_parser.specs.declared.document.Document.{Document}
-use Rattle.bspl_parser.specs.Alike.{unplaced_word, unplaced_key, unplaced_formal, unplaced_message, unplaced_reference, unplaced_item, unplaced_declaration, unplaced}
-use Rattle.bspl_parser.specs.Spelling.{IsFormal, IsSchema, IsReference, IsItem, IsDeclaration, IsWellFormed}
+use Rattle.bspl_parser.specs.Alike.{word_without_offset, key_without_offset, formal_without_offsets, message_without_offsets, reference_without_offsets, item_without_offsets, declaration_without_offsets, without_offsets}
+use Rattle.bspl_parser.specs.Spelling.{IsFormal, IsSchema, IsReference, IsItem, IsDeclaration, IsDocument}
 
 module _ {X : Type 0} (bare : X → X) where
   -- heads and tails of equal lists
@@ -38,25 +38,25 @@ module _ {X : Type 0} (bare : X → X) where
       All-cons Good y ys (one x y parts.0 (All-head Good x xs good)) (all_alike Good one xs ys parts.1 (All-tail Good x xs good))
 
 -- a parameter
-no_key : (k h : Option ℕ) → unplaced_key h ≡ unplaced_key k → k ≡ None → h ≡ None
+no_key : (k h : Option ℕ) → key_without_offset h ≡ key_without_offset k → k ≡ None → h ≡ None
 no_key None None same none = refl
 no_key None (Some o) same none = absurd cc
 no_key (Some o) h same none = absurd cc
 
-formal_alike : (f g : Formal) → unplaced_formal g ≡ unplaced_formal f → IsFormal f → IsFormal g
+formal_alike : (f g : Formal) → formal_without_offsets g ≡ formal_without_offsets f → IsFormal f → IsFormal g
 formal_alike f g same formal = λ is_nil. no_key f.key g.key (ap (λ x. x.key) same) (formal (sym (ap (λ x. x.adorn) same) ∙ is_nil))
 
 -- a message, a reference, an item
-schema_alike : (m n : Schema) → unplaced_message n ≡ unplaced_message m → IsSchema m → IsSchema n
+schema_alike : (m n : Schema) → message_without_offsets n ≡ message_without_offsets m → IsSchema m → IsSchema n
 schema_alike m n same schema =
-    let params : map unplaced_formal n.params ≡ map unplaced_formal m.params = ap (λ x. x.params) same in
-    record { some = some_alike unplaced_formal m.params n.params params schema.some; each = all_alike unplaced_formal IsFormal formal_alike m.params n.params params schema.each }
+    let params : map formal_without_offsets n.params ≡ map formal_without_offsets m.params = ap (λ x. x.params) same in
+    record { some = some_alike formal_without_offsets m.params n.params params schema.some; each = all_alike formal_without_offsets IsFormal formal_alike m.params n.params params schema.each }
 
-reference_alike : (r s : Reference) → unplaced_reference s ≡ unplaced_reference r → IsReference r → IsReference s
+reference_alike : (r s : Reference) → reference_without_offsets s ≡ reference_without_offsets r → IsReference r → IsReference s
 reference_alike r s same reference =
     record {
-      some = some_alike unplaced_word r.roles s.roles (ap (λ x. x.roles) same) reference.some;
-      each = all_alike unplaced_formal IsFormal formal_alike r.params s.params (ap (λ x. x.params) same) reference.each;
+      some = some_alike word_without_offset r.roles s.roles (ap (λ x. x.roles) same) reference.some;
+      each = all_alike formal_without_offsets IsFormal formal_alike r.params s.params (ap (λ x. x.params) same) reference.each;
     }
 
 messages_same : (m n : Schema) → item.Message m ≡ item.Message n → m ≡ n
@@ -68,25 +68,25 @@ references_same r s same = cc
 no_item : (m : Schema) (r : Reference) → item.Message m ≡ item.Reference r → ⊥
 no_item m r same = cc
 
-item_alike : (i j : Item) → unplaced_item j ≡ unplaced_item i → IsItem i → IsItem j
-item_alike (item.Message m) (item.Message n) same good = schema_alike m n (messages_same (unplaced_message n) (unplaced_message m) same) good
-item_alike (item.Message m) (item.Reference s) same good = absurd (no_item (unplaced_message m) (unplaced_reference s) (sym same))
-item_alike (item.Reference r) (item.Message n) same good = absurd (no_item (unplaced_message n) (unplaced_reference r) same)
-item_alike (item.Reference r) (item.Reference s) same good = reference_alike r s (references_same (unplaced_reference s) (unplaced_reference r) same) good
+item_alike : (i j : Item) → item_without_offsets j ≡ item_without_offsets i → IsItem i → IsItem j
+item_alike (item.Message m) (item.Message n) same good = schema_alike m n (messages_same (message_without_offsets n) (message_without_offsets m) same) good
+item_alike (item.Message m) (item.Reference s) same good = absurd (no_item (message_without_offsets m) (reference_without_offsets s) (sym same))
+item_alike (item.Reference r) (item.Message n) same good = absurd (no_item (message_without_offsets n) (reference_without_offsets r) same)
+item_alike (item.Reference r) (item.Reference s) same good = reference_alike r s (references_same (reference_without_offsets s) (reference_without_offsets r) same) good
 
 -- a protocol
-declaration_alike : (d e : Declaration) → unplaced_declaration e ≡ unplaced_declaration d → IsDeclaration d → IsDeclaration e
+declaration_alike : (d e : Declaration) → declaration_without_offsets e ≡ declaration_without_offsets d → IsDeclaration d → IsDeclaration e
 declaration_alike d e same good =
-    let public : map unplaced_formal e.public ≡ map unplaced_formal d.public = ap (λ x. x.public) same in
+    let public : map formal_without_offsets e.public ≡ map formal_without_offsets d.public = ap (λ x. x.public) same in
     record {
-      some_role = some_alike unplaced_word d.roles e.roles (ap (λ x. x.roles) same) good.some_role;
-      some_public = some_alike unplaced_formal d.public e.public public good.some_public;
-      each_public = all_alike unplaced_formal IsFormal formal_alike d.public e.public public good.each_public;
-      each_item = all_alike unplaced_item IsItem item_alike d.body e.body (ap (λ x. x.body) same) good.each_item;
+      some_role = some_alike word_without_offset d.roles e.roles (ap (λ x. x.roles) same) good.some_role;
+      some_public = some_alike formal_without_offsets d.public e.public public good.some_public;
+      each_public = all_alike formal_without_offsets IsFormal formal_alike d.public e.public public good.each_public;
+      each_item = all_alike item_without_offsets IsItem item_alike d.body e.body (ap (λ x. x.body) same) good.each_item;
     }
 
 -- a document
-pub formed_alike : (d e : Document) → unplaced e ≡ unplaced d → IsWellFormed d → IsWellFormed e
+pub formed_alike : (d e : Document) → without_offsets e ≡ without_offsets d → IsDocument d → IsDocument e
 formed_alike d e same formed =
-    let protocols : map unplaced_declaration e.protocols ≡ map unplaced_declaration d.protocols = ap (λ x. x.protocols) same in
-    record { some = some_alike unplaced_declaration d.protocols e.protocols protocols formed.some; each = all_alike unplaced_declaration IsDeclaration declaration_alike d.protocols e.protocols protocols formed.each }
+    let protocols : map declaration_without_offsets e.protocols ≡ map declaration_without_offsets d.protocols = ap (λ x. x.protocols) same in
+    record { some = some_alike declaration_without_offsets d.protocols e.protocols protocols formed.some; each = all_alike declaration_without_offsets IsDeclaration declaration_alike d.protocols e.protocols protocols formed.each }

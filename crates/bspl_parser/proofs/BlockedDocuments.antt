@@ -12,7 +12,7 @@ use Rattle.bspl_parser.specs.declared.word.Word.{Word}
 use Rattle.bspl_parser.specs.Grammar.{signs_of_word, signs_of_formal, signs_of_item, signs_of_private, signs_of_declaration, signs_of_document}
 use Rattle.bspl_parser.specs.Reading.{◌>>=◌}
 use Rattle.bspl_parser.specs.Sign.{Sign, Named, Plain, Either, listed}
-use Rattle.bspl_parser.specs.Spelling.{IsItem, IsDeclaration, IsWellFormed}
+use Rattle.bspl_parser.specs.Spelling.{IsItem, IsDeclaration, IsDocument}
 use Rattle.bspl_parser.specs.TokenReading.{begins_with, word_at, symbol_at}
 use Rattle.bspl_parser.specs.PhraseReading.{with_front, many_at, listed_at, item_at, private_at, declaration_at, document_at}
 use Rattle.bspl_parser.proofs.Spelled.{Spelled}
@@ -79,13 +79,13 @@ declaration_blocks =
     body_blocks (λ private body. record { name = name; roles = roles; public = public; private = private; body = body }))))))))
 
 -- a document
-pub document_blocks : Blocks document_at signs_of_document IsWellFormed
+pub document_blocks : Blocks document_at signs_of_document IsDocument
 unfolding document_at
 document_blocks =
     let more = phrases_steady repeat.Rest declaration_at all_declarations (step_shortens repeat.Rest declaration_at _ _ AnyTokens declaration_reads declarations_repeat) rest_notes in
     let more_blocks : Blocks (many_at repeat.Rest declaration_at) (λ (ds : List Declaration). flat_map signs_of_declaration ds) (All IsDeclaration) = many_blocks repeat.Rest declaration_at signs_of_declaration IsDeclaration all_declarations (step_shortens repeat.Rest declaration_at _ _ AnyTokens declaration_reads declarations_repeat) rest_notes (step_sound repeat.Rest declaration_at signs_of_declaration IsDeclaration AnyTokens declaration_reads) declaration_blocks in
     let sound : (ts rest : List Token) (ds : List Declaration) → many_at repeat.Rest declaration_at ts ≡ Ok (ds, rest) → Spelled (flat_map signs_of_declaration ds) ts rest × All IsDeclaration ds = many-sound repeat.Rest declaration_at signs_of_declaration IsDeclaration AnyTokens declaration_reads in
-    blocks_as document_at (λ (v : Declaration × List Declaration). signs_of_declaration v.0 ++ flat_map signs_of_declaration v.1) (λ v. IsDeclaration v.0 × All IsDeclaration v.1) signs_of_document IsWellFormed (λ v. record { protocols = v.0 ∷ v.1 }) (λ v. refl)
+    blocks_as document_at (λ (v : Declaration × List Declaration). signs_of_declaration v.0 ++ flat_map signs_of_declaration v.1) (λ v. IsDeclaration v.0 × All IsDeclaration v.1) signs_of_document IsDocument (λ v. record { protocols = v.0 ∷ v.1 }) (λ v. refl)
     (λ v good. record { some = λ is. cc; each = All-cons IsDeclaration v.0 v.1 good.0 good.1 })
     (then_blocks declaration_at (λ first ts. with_front (first ∷ []) (many_at repeat.Rest declaration_at ts) >>= λ all. Ok (record { protocols = all.0 }, all.1)) signs_of_declaration IsDeclaration (λ (ds : List Declaration). flat_map signs_of_declaration ds) (All IsDeclaration)
     all_declarations (λ d. d) declaration_reads.sound declaration_blocks

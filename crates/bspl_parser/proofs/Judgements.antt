@@ -11,7 +11,7 @@ use Rattle.bspl_parser.specs.Grammar.{signs_of_document}
 use Rattle.bspl_parser.specs.Judgement.{IsText, IsViable, IsBadSyntax, IsRefusedFor, place_of}
 use Rattle.bspl_parser.specs.PhraseReading.{document_at}
 use Rattle.bspl_parser.specs.Scanning.{IsScanFault}
-use Rattle.bspl_parser.specs.Spelling.{IsWellFormed, Spells}
+use Rattle.bspl_parser.specs.Spelling.{IsDocument, Spells}
 use Rattle.bspl_parser.specs.Token.{offset_of}
 use Rattle.bspl_parser.specs.Tokens.{Tokens, IsBadByte}
 use Rattle.bspl_parser.proofs.Declarations.{document_sound, document_complete}
@@ -27,7 +27,7 @@ byte_refused text (At place) end offset bad is = subst (IsBadByte text) (sym is)
 byte_refused text End end offset bad is = absurd bad
 
 -- what can be gone on with is viable
-viable_of : (front : List Token) (more : List Token) (d : Document) → IsWellFormed d → Spelled (signs_of_document d) (front ++ more) [] → IsViable front
+viable_of : (front : List Token) (more : List Token) (d : Document) → IsDocument d → Spelled (signs_of_document d) (front ++ more) [] → IsViable front
 viable_of front more d formed spelled = (more, d, record { formed = formed; signed = whole_from_Spelled (signs_of_document d) (front ++ more) spelled })
 
 -- where reading stops at a token no document begins so

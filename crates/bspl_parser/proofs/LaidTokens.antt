@@ -7,7 +7,7 @@ use Rattle.bspl_parser.specs.declared.symbol.Symbol.{Symbol}
 use Rattle.bspl_parser.specs.declared.symbol.Symbol.TheVariants.{Arrow, OpenBrace, CloseBrace, Comma, Colon}
 use Rattle.bspl_parser.specs.declared.token.Token.TheVariants.{Name, Fixed}
 use Rattle.bspl_parser.specs.declared.word.Word.{Word}
-use Rattle.bspl_parser.specs.Alike.{unplaced_word}
+use Rattle.bspl_parser.specs.Alike.{word_without_offset}
 use Rattle.bspl_parser.specs.Grammar.{signs_of_word, symbol_of}
 use Rattle.bspl_parser.specs.Sign.{Sign, Named, Placed, Plain, Matches}
 use Rattle.bspl_parser.specs.Symbol.{spelling}
@@ -19,9 +19,9 @@ use Rattle.bspl_parser.proofs.NamingLemmas.{accepts}
 use Rattle.bspl_parser.proofs.Texts.{IsMarkText, short_arrow_mark, openbrace_mark, closebrace_mark, comma_mark, colon_mark}
 
 -- a name
-pub name_laid : (w : Word) → Lays IsSeparated w.text signs_of_word (λ v. unplaced_word v ≡ unplaced_word w)
+pub name_laid : (w : Word) → Lays IsSeparated w.text signs_of_word (λ v. word_without_offset v ≡ word_without_offset w)
 name_laid w =
-    Lays-as signs_of_word (λ v. unplaced_word v ≡ unplaced_word w) (λ (o : ℕ). record w { offset = o }) (λ o. refl) (λ o like. refl)
+    Lays-as signs_of_word (λ v. word_without_offset v ≡ word_without_offset w) (λ (o : ℕ). record w { offset = o }) (λ o. refl) (λ o like. refl)
     (token_laid IsSeparated w.text (λ o. Name (record w { offset = o })) (λ o. Named (record w { offset = o })) (λ o. refl) (λ o. refl) (λ o. refl) (word_alone w.text (name_is_accepted w.text w.named)))
 
 -- a reserved word, as a sign that says it

@@ -12,41 +12,41 @@ use Rattle.bspl_parser.specs.declared.word.Word.{Word}
 use Rattle.bspl_parser.specs.Judgement.{IsText}
 
 -- the name, as if it began the text
-abbrev pub unplaced_word : Word → Word
-unplaced_word w = record w { offset = 0 }
+abbrev pub word_without_offset : Word → Word
+word_without_offset w = record w { offset = 0 }
 
 -- whether the word `key` is there, but not where
-abbrev pub unplaced_key : Option ℕ → Option ℕ
-unplaced_key key = option_map (λ offset. 0) key
+abbrev pub key_without_offset : Option ℕ → Option ℕ
+key_without_offset key = option_map (λ offset. 0) key
 
 -- a parameter without places
-abbrev pub unplaced_formal : Formal → Formal
-unplaced_formal f = record f { offset = 0; name = unplaced_word f.name; key = unplaced_key f.key }
+abbrev pub formal_without_offsets : Formal → Formal
+formal_without_offsets f = record f { offset = 0; name = word_without_offset f.name; key = key_without_offset f.key }
 
 -- a message without places
-abbrev pub unplaced_message : Schema → Schema
-unplaced_message m = record { sender = unplaced_word m.sender; receiver = unplaced_word m.receiver; name = unplaced_word m.name; params = map unplaced_formal m.params }
+abbrev pub message_without_offsets : Schema → Schema
+message_without_offsets m = record { sender = word_without_offset m.sender; receiver = word_without_offset m.receiver; name = word_without_offset m.name; params = map formal_without_offsets m.params }
 
 -- a reference without places
-abbrev pub unplaced_reference : Reference → Reference
-unplaced_reference r = record { protocol = unplaced_word r.protocol; roles = map unplaced_word r.roles; params = map unplaced_formal r.params }
+abbrev pub reference_without_offsets : Reference → Reference
+reference_without_offsets r = record { protocol = word_without_offset r.protocol; roles = map word_without_offset r.roles; params = map formal_without_offsets r.params }
 
 -- an item without places
-abbrev pub unplaced_item : Item → Item
-unplaced_item (item.Message m) = item.Message (unplaced_message m)
-unplaced_item (item.Reference r) = item.Reference (unplaced_reference r)
+abbrev pub item_without_offsets : Item → Item
+item_without_offsets (item.Message m) = item.Message (message_without_offsets m)
+item_without_offsets (item.Reference r) = item.Reference (reference_without_offsets r)
 
 -- a protocol without places
-abbrev pub unplaced_declaration : Declaration → Declaration
-unplaced_declaration d = record { name = unplaced_word d.name; roles = map unplaced_word d.roles; public = map unplaced_formal d.public; private = map unplaced_word d.private; body = map unplaced_item d.body }
+abbrev pub declaration_without_offsets : Declaration → Declaration
+declaration_without_offsets d = record { name = word_without_offset d.name; roles = map word_without_offset d.roles; public = map formal_without_offsets d.public; private = map word_without_offset d.private; body = map item_without_offsets d.body }
 
 -- a document without places
-abbrev pub unplaced : Document → Document
-unplaced d = record { protocols = map unplaced_declaration d.protocols }
+abbrev pub without_offsets : Document → Document
+without_offsets d = record { protocols = map declaration_without_offsets d.protocols }
 
 -- equal apart from places
 abbrev pub AreAlike : Document → Document → Type 0
-AreAlike d e = unplaced d ≡ unplaced e
+AreAlike d e = without_offsets d ≡ without_offsets e
 
 -- the text is that of a document which is equal to this one apart from places
 pub record ReadsBack (text : List ℕ) (d : Document) : Type 0 where

@@ -40,11 +40,11 @@ pub record IsDeclaration (d : Declaration) : Type 0 where
   pub each_item : All IsItem d.body
 
 -- there is a protocol, and each is well formed
-pub record IsWellFormed (d : Document) : Type 0 where
+pub record IsDocument (d : Document) : Type 0 where
   pub some : d.protocols ≢ []
   pub each : All IsDeclaration d.protocols
 
 -- the tokens spell the document: it is well formed, and they are its signs one by one
 pub record Spells (tokens : List Token) (d : Document) : Type 0 where
-  pub formed : IsWellFormed d
+  pub formed : IsDocument d
   pub signed : AllZip Matches (signs_of_document d) tokens

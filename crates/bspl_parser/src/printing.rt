@@ -4,7 +4,7 @@ ghost use Rattle.bspl_parser.specs.Alike.{AreAlike, ReadsBack};
 ghost use Rattle.bspl_parser.specs.Grammar.{symbol_of};
 ghost use Rattle.bspl_parser.specs.Judgement.{IsText};
 ghost use Rattle.bspl_parser.specs.Layout.{printed_word, printed_key, printed_formal, printed_message, printed_reference, item_line, private_line, printed_declaration, printed};
-ghost use Rattle.bspl_parser.specs.Spelling.{IsWellFormed};
+ghost use Rattle.bspl_parser.specs.Spelling.{IsDocument};
 
 use super::document::{Adorn, Declaration, Document, Formal, Item, Reference, Schema};
 use super::layout::{Print, add_each, add_joined, add_line, add_list_line};
@@ -16,7 +16,7 @@ use std::alloc::Global;
 /// The text of a document in its one layout: behind two spaces a line for the roles, for the public
 /// and the private parameters and for each item, and between two protocols an empty line.
 pub fn print(alloc: Global, document: &Document) -> Result<Bytes, NoMemory>
-    requires formed { IsWellFormed document.now }
+    requires formed { IsDocument document.now }
     ensures layout { IfOk result (λ text. text ≡ printed document.now) }
     ensures read_back { IfOk result (λ text. ReadsBack text document.now) }
 {
@@ -28,8 +28,8 @@ pub fn print(alloc: Global, document: &Document) -> Result<Bytes, NoMemory>
 /// A law: what a text spells is well formed, and the layout of a well-formed document spells nothing
 /// but that document, apart from places.
 pub fn reads_back()
-    ensures formed { (text : List ℕ) (d : Spelled) → IsText text d → IsWellFormed d }
-    ensures alike { (d e : Spelled) → IsWellFormed d → IsText (printed d) e → AreAlike d e }
+    ensures formed { (text : List ℕ) (d : Spelled) → IsText text d → IsDocument d }
+    ensures alike { (d e : Spelled) → IsDocument d → IsText (printed d) e → AreAlike d e }
 {}
 
 impl Print for Declaration {

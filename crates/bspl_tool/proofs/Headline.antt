@@ -3,7 +3,7 @@ use Rattle.std.proofs.Common.{◌≡◌, ℕ, List, [], length, take, Option, So
 use Rattle.std.specs.Io.KnownBytes.{Appends}
 use Rattle.std.proofs.lemmas.List.{append_cancel_left, take_all}
 use Rattle.bspl_types.specs.declared.expanded.Expanded.{Expanded}
-use Rattle.bspl_io.specs.Sink.{AppendsFront}
+use Rattle.bspl_io.specs.Sink.{AppendsPrefix}
 use Rattle.bspl_tool.specs.declared.asking.Task.{Task}
 use Rattle.bspl_tool.specs.declared.asking.Task.TheVariants.{Expand, Verify}
 use Rattle.bspl_tool.specs.declared.reply.Reply.{Reply}
@@ -45,7 +45,7 @@ said_by_verdict words left left' (reply.Done text) n replies says =
     said_by_answer words left replies.bytes done.task done.name done.protocol text n replies.told done.asked done.declares done.answer says
 
 -- what was appended is a front of what was to be written
-pub safe_after_front : (words : List (List ℕ)) (left left' old new : Option (List ℕ)) (r : Reply) → RepliesTo words left left' r → AppendsFront old new (reply_text r) → SafeWhereSaid words left old new
+pub safe_after_front : (words : List (List ℕ)) (left left' old new : Option (List ℕ)) (r : Reply) → RepliesTo words left left' r → AppendsPrefix old new (reply_text r) → SafeWhereSaid words left old new
 safe_after_front words left left' None new r replies (n, appended) = tt
 safe_after_front words left left' (Some before) None r replies (n, appended) = tt
 safe_after_front words left left' (Some before) (Some after) r replies (n, appended) = λ out is_after says.

@@ -2,7 +2,7 @@
 use Rattle.std.specs.Prelude.{◌≡◌, ℕ, Bool, List, ◌++◌, Option, IfSome, ◌⊎◌}
 use Rattle.std.specs.Io.KnownBytes.{Appends, Keeps}
 use Rattle.std.specs.List.{Contains}
-use Rattle.bspl_io.specs.Sink.{AppendsFront}
+use Rattle.bspl_io.specs.Sink.{AppendsPrefix}
 use Rattle.bspl_types.specs.declared.expanded.Expanded.{Expanded}
 use Rattle.enactment_model.specs.Safety.{SafeProtocol}
 use Rattle.bspl_tool.specs.declared.asking.Task.TheVariants.{Verify}
@@ -34,7 +34,7 @@ pub record WritesFront (words : List (List ℕ)) (left old new : Option (List �
   pub out : List ℕ
   pub status : Status
   pub right : Output words bytes out status
-  pub appended : AppendsFront old new out
+  pub appended : AppendsPrefix old new out
 
 -- what was read and written stands in the output relation where the status is an answer
 abbrev pub IsRight : List (List ℕ) → Option (List ℕ) → Option (List ℕ) → Option (List ℕ) → Option (List ℕ) → Status → Type 0

@@ -1,5 +1,5 @@
 ghost use Rattle.std.specs.Prelude.{◌≡◌, List, ℕ, IfOk, IsErrOf, map, string_bytes};
-ghost use Rattle.bspl_io.specs.Faults.{Rose};
+ghost use Rattle.bspl_io.specs.Faults.{HasCounted};
 ghost use Rattle.bspl_tool.specs.Command.{Asks, AsksForInput};
 ghost use Rattle.bspl_tool.specs.Reply.{reply_text, reply_status, AnswersOn, IsRefusal, Judges, RepliesTo};
 
@@ -69,10 +69,10 @@ impl Reply {
 /// The reply to the words and the input, which is read where the words ask for it.
 pub fn reply_to<R: Source>(alloc: Global, words: &[String], input: &mut R) -> Result<Reply, Silence>
     ensures right { IfOk result
-        (RepliesTo (map string_bytes words.now) (R.left input.old) (R.left input.new)) }
+        (RepliesTo (map string_bytes words.now) (R.remaining input.old) (R.remaining input.new)) }
     ensures asked { IsErrOf result Silence.ReadFault → AsksForInput (map string_bytes words.now) }
     ensures fault { IsErrOf result Silence.ReadFault
-        → Rose (R.faults input.old) (R.faults input.new) }
+        → HasCounted (R.faults input.old) (R.faults input.new) }
 {
     match read_words(alloc, words)? {
         Asked::Nothing => Ok(Reply::Usage),
@@ -88,9 +88,9 @@ fn read_and_judge<R: Source>(
     input: &mut R,
 ) -> Result<Reply, Silence>
     ensures right { IfOk result (λ reply. (words : List (List ℕ)) → Asks words task name.now
-        → RepliesTo words (R.left input.old) (R.left input.new) reply) }
+        → RepliesTo words (R.remaining input.old) (R.remaining input.new) reply) }
     ensures fault { IsErrOf result Silence.ReadFault
-        → Rose (R.faults input.old) (R.faults input.new) }
+        → HasCounted (R.faults input.old) (R.faults input.new) }
 {
     match read_all(alloc, input, INPUT_LIMIT) {
         Ok(text) => judge(alloc, task, name, text.as_slice()),

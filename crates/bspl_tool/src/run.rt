@@ -1,5 +1,5 @@
 ghost use Rattle.std.specs.Prelude.{◌≡◌, map, string_bytes};
-ghost use Rattle.bspl_io.specs.Faults.{Rose};
+ghost use Rattle.bspl_io.specs.Faults.{HasCounted};
 ghost use Rattle.bspl_tool.specs.Call.{IsRight, SafeWhereSaid};
 ghost use Rattle.bspl_tool.specs.Command.{AsksForInput};
 
@@ -16,16 +16,16 @@ pub fn bspl<R: Source, W: Sink>(
     input: &mut R,
     output: &mut W,
 ) -> Status
-    ensures output { IsRight (map string_bytes words.now) (R.left input.old) (R.left input.new)
-        (W.written output.old) (W.written output.new) result }
+    ensures output { IsRight (map string_bytes words.now) (R.remaining input.old) (R.remaining input.new)
+        (W.contents output.old) (W.contents output.new) result }
     ensures read_fault { result ≡ Status.ReadFault → AsksForInput (map string_bytes words.now)
-        × Rose (R.faults input.old) (R.faults input.new) }
+        × HasCounted (R.faults input.old) (R.faults input.new) }
     ensures write_fault { result ≡ Status.WriteFault
-        → Rose (W.faults output.old) (W.faults output.new) }
+        → HasCounted (W.faults output.old) (W.faults output.new) }
 
     // The headline: the line `safety safe` is written only of a protocol that is safe in every legal run.
-    ensures safe { SafeWhereSaid (map string_bytes words.now) (R.left input.old)
-        (W.written output.old) (W.written output.new) }
+    ensures safe { SafeWhereSaid (map string_bytes words.now) (R.remaining input.old)
+        (W.contents output.old) (W.contents output.new) }
 {
     let reply = match reply_to(alloc, words, input) {
         Ok(reply) => reply,

@@ -3,7 +3,7 @@ use Rattle.std.proofs.Common.{◌≡◌, ℕ, ◌+◌, ◌<◌, Bool, true, fals
 use Rattle.std.specs.List.{filter, enumerate_from}
 use Rattle.std.proofs.lemmas.List.{take_more}
 use Rattle.bspl_types.specs.declared.protocol.ParamInfo.{ParamInfo}
-use Rattle.bspl_types.specs.Shape.{key_places}
+use Rattle.bspl_types.specs.Shape.{key_indices}
 
 -- the places of keys from a number on
 places_from : ℕ → List ParamInfo → List ℕ
@@ -30,9 +30,9 @@ places_from-push n (q ∷ params) p place is_place =
     ∙ ap (λ ks. ks ++ cond p.key (place ∷ []) []) (sym (first_of_pairs q.key n q (filter (λ (_, p). p.key) (enumerate_from (n + 1) params))))
 
 -- the same in a loop over the parameters
-pub key_places_more : (params : List ParamInfo) (i : ℕ) (p : ParamInfo) → i < length params → p ≡ get_or params i p → key_places (take (i + 1) params) ≡ key_places (take i params) ++ cond p.key (i ∷ []) []
+pub key_places_more : (params : List ParamInfo) (i : ℕ) (p : ParamInfo) → i < length params → p ≡ get_or params i p → key_indices (take (i + 1) params) ≡ key_indices (take i params) ++ cond p.key (i ∷ []) []
 unfolding places_from
 key_places_more params i p within stands =
-    ap key_places (take_more params i p within)
-    ∙ ap (λ q. key_places (take i params ++ q ∷ [])) (sym stands)
+    ap key_indices (take_more params i p within)
+    ∙ ap (λ q. key_indices (take i params ++ q ∷ [])) (sym stands)
     ∙ places_from-push 0 (take i params) p i (let long : length (take i params) ≡ i = grind (arith, length-take) in omega (arith, long))

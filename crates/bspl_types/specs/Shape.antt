@@ -14,9 +14,9 @@ pub record AreNamed {X : Type 0} (name : X → List ℕ) (items : List X) : Type
   pub apart : AllPairs (λ x y. name x ≢ name y) items
 
 -- public, and adorned `in` or `out`
-abbrev pub may_be_key : Option Adornment → Bool
-may_be_key None = false
-may_be_key (Some adornment) = has_value adornment
+abbrev pub is_public_value : Option Adornment → Bool
+is_public_value None = false
+is_public_value (Some adornment) = has_value adornment
 
 -- exactly the first so many parameters are public, and only those adorned `in` or `out` are marked as keys
 pub record IsDeclared (public : ℕ) (params : List ParamInfo) : Type 0 where
@@ -24,11 +24,11 @@ pub record IsDeclared (public : ℕ) (params : List ParamInfo) : Type 0 where
   pub within : public ≤ length params
   pub public_adorned : All (λ p. p.adornment ≢ None) (take public params)
   pub private_bare : All (λ p. p.adornment ≡ None) (drop public params)
-  pub keys_bound : All (λ p. IsTrue p.key → IsTrue (may_be_key p.adornment)) params
+  pub keys_bound : All (λ p. IsTrue p.key → IsTrue (is_public_value p.adornment)) params
 
 -- the places of the parameters that are marked as keys, in order
-abbrev pub key_places : List ParamInfo → List ℕ
-key_places params = map (λ (place, _). place) (filter (λ (_, p). p.key) (enumerate_from 0 params))
+abbrev pub key_indices : List ParamInfo → List ℕ
+key_indices params = map (λ (place, _). place) (filter (λ (_, p). p.key) (enumerate_from 0 params))
 
 -- its roles and parameters exist, and it carries at least one parameter and not too many
 pub record IsMessageOf (roles params : ℕ) (m : Message) : Type 0 where
@@ -46,13 +46,13 @@ pub record IsWithinLimits (roles params keys messages : ℕ) : Type 0 where
   pub few_messages : messages ≤ MESSAGE_LIMIT
 
 -- a well-formed expansion
-pub record IsShape (name : List ℕ) (roles : List (List ℕ)) (params : List ParamInfo) (public : ℕ) (keys : List ℕ) (messages : List Message) : Type 0 where
+pub record IsWellFormed (name : List ℕ) (roles : List (List ℕ)) (params : List ParamInfo) (public : ℕ) (keys : List ℕ) (messages : List Message) : Type 0 where
   pub named : IsTrue (is_name name)
   pub role_names : AreNamed (λ name. name) roles
   pub some_role : 0 < length roles
   pub param_names : AreNamed (λ p. p.name) params
   pub message_names : AreNamed (λ m. m.name) messages
   pub declared : IsDeclared public params
-  pub key_list : keys ≡ key_places params
+  pub key_list : keys ≡ key_indices params
   pub each_message : All (IsMessageOf (length roles) (length params)) messages
   pub counts : IsWithinLimits (length roles) (length params) (length keys) (length messages)

@@ -2,7 +2,7 @@ ghost use Rattle.std.specs.Prelude.{◌≡◌, ◌↔◌, IsTrue, IfOk};
 ghost use Rattle.bspl_types.specs.Admission.{IsAdmitted};
 
 use super::expanded::Expanded;
-use super::memory::{Duplicate, NoMemory};
+use list_base::{NoMemory, TryClone};
 use std::marker::Model;
 
 /// A protocol that was admitted. Contracts see its expansion.
@@ -44,7 +44,7 @@ impl Admitted {
         ensures { IfOk result (λ other. other ≡ self.now) }
     {
         Ok(Admitted {
-            expanded: self.expanded.copy()?,
+            expanded: self.expanded.try_clone()?,
         })
     }
 }

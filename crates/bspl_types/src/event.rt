@@ -2,8 +2,8 @@ ghost use Rattle.std.specs.Prelude.{◌≡◌, ◌↔◌, IsTrue};
 
 use super::expanded::Expanded;
 use super::key::{Key, Values};
-use super::list::Seq;
 use super::pairs::{agree, count_valued};
+use list_base::Seq;
 
 /// One message with its values, under one key.
 ///

@@ -1,12 +1,11 @@
 ghost use Rattle.std.specs.Prelude.{◌≡◌, IfOk, IfSome, IfNone};
-ghost use Rattle.bspl_types.specs.Shape.{IsShape, key_places};
+ghost use Rattle.bspl_types.specs.Shape.{IsWellFormed, key_indices};
 
 use super::limits::PARAM_LIMIT;
-use super::list::Seq;
-use super::memory::{Duplicate, NoMemory};
 use super::protocol::{Message, MessageList, ParamInfo, ParamInfoList};
-use super::shape::{is_well_formed, key_places};
+use super::shape::{is_well_formed, key_indices};
 use super::{Name, NameList, NumberList};
+use list_base::{NoMemory, Seq, TryClone};
 use std::alloc::Global;
 
 /// A protocol after expansion: messages alone, in order, with their parameters by place.
@@ -21,7 +20,7 @@ pub struct Expanded {
     pub public: u32,
     pub keys: NumberList,
     pub messages: MessageList,
-    pub ghost shape: { IsShape name roles params public keys messages },
+    pub ghost shape: { IsWellFormed name roles params public keys messages },
 }
 
 impl Expanded {
@@ -39,12 +38,12 @@ impl Expanded {
         ensures made { IfOk result (λ made.
             IfSome made (λ x. HasParts x name roles params public messages)) }
         ensures refused { IfOk result (λ made.
-            IfNone made (¬ IsShape name roles params public (key_places params) messages)) }
+            IfNone made (¬ IsWellFormed name roles params public (key_indices params) messages)) }
     {
         if params.len() > PARAM_LIMIT {
             return Ok(None);
         }
-        let keys = key_places(alloc, params.as_slice())?;
+        let keys = key_indices(alloc, params.as_slice())?;
         if is_well_formed(
             name.as_slice(),
             roles.as_slice(),
@@ -67,15 +66,15 @@ impl Expanded {
     }
 }
 
-impl Duplicate for Expanded {
-    fn copy(&self) -> Result<Expanded, NoMemory> {
+impl TryClone for Expanded {
+    fn try_clone(&self) -> Result<Expanded, NoMemory> {
         Ok(Expanded {
-            name: self.name.copy()?,
-            roles: self.roles.copy()?,
-            params: self.params.copy()?,
+            name: self.name.try_clone()?,
+            roles: self.roles.try_clone()?,
+            params: self.params.try_clone()?,
             public: self.public,
-            keys: self.keys.copy()?,
-            messages: self.messages.copy()?,
+            keys: self.keys.try_clone()?,
+            messages: self.messages.try_clone()?,
         })
     }
 }

@@ -4,9 +4,9 @@ ghost use Rattle.std.specs.Str.{bytes_eq};
 ghost use Rattle.bspl_types.specs.Name.{is_name};
 ghost use Rattle.bspl_types.specs.Shape.{AreNamed};
 
-use super::list::Seq;
 use super::names::is_name;
 use super::protocol::{Message, ParamInfo};
+use list_base::Seq;
 
 /// What has a name of its own.
 pub trait Named {
@@ -51,7 +51,7 @@ pub fn are_named<T: Named>(items: &[T]) -> bool
 }
 
 /// The place of the first that has the name.
-pub fn place_of<T: Named>(items: &[T], name: &[u8]) -> Option<usize>
+pub fn index_of<T: Named>(items: &[T], name: &[u8]) -> Option<usize>
     ensures { result ≡ position (λ x. bytes_eq (T.name x) name.now) items.now }
 {
     items.iter().position(|x| x.name() == name)

@@ -2,8 +2,7 @@ ghost use Rattle.std.specs.Prelude.{◌≡◌};
 ghost use Rattle.bspl_types.specs.Adornment.{has_value};
 
 use super::Name;
-use super::list::Seq;
-use super::memory::{Duplicate, NoMemory};
+use list_base::{NoMemory, Seq, TryClone};
 
 /// What a message asks of its sender's knowledge of a parameter (Singh 2011).
 #[derive(Clone, Copy, Debug, PartialEq, Eq)]
@@ -61,27 +60,27 @@ pub struct ParamInfo {
 /// The parameters of a protocol, the public ones first.
 pub type ParamInfoList = Seq<ParamInfo>;
 
-impl Duplicate for Carried {
-    fn copy(&self) -> Result<Carried, NoMemory> {
+impl TryClone for Carried {
+    fn try_clone(&self) -> Result<Carried, NoMemory> {
         Ok(*self)
     }
 }
 
-impl Duplicate for Message {
-    fn copy(&self) -> Result<Message, NoMemory> {
+impl TryClone for Message {
+    fn try_clone(&self) -> Result<Message, NoMemory> {
         Ok(Message {
-            name: self.name.copy()?,
+            name: self.name.try_clone()?,
             sender: self.sender,
             receiver: self.receiver,
-            carried: self.carried.copy()?,
+            carried: self.carried.try_clone()?,
         })
     }
 }
 
-impl Duplicate for ParamInfo {
-    fn copy(&self) -> Result<ParamInfo, NoMemory> {
+impl TryClone for ParamInfo {
+    fn try_clone(&self) -> Result<ParamInfo, NoMemory> {
         Ok(ParamInfo {
-            name: self.name.copy()?,
+            name: self.name.try_clone()?,
             adornment: self.adornment,
             key: self.key,
         })

@@ -1,6 +1,6 @@
 use super::{
-    Admitted, Adornment, Carried, Duplicate, Event, Expanded, Instance, Key, Message, Name,
-    NoMemory, ParamInfo, Seq, Value, Values, is_admitted, place_of,
+    Admitted, Adornment, Carried, Event, Expanded, Instance, Key, Message, Name, NoMemory,
+    ParamInfo, Seq, TryClone, Value, Values, index_of, is_admitted,
 };
 use std::alloc::Global;
 use std::process::Abort;
@@ -151,9 +151,9 @@ fn parts_have_their_places(rt: HostRuntime) -> Result<(), Fail> {
     let parts: Parts = (AB, &[ITEM, ID], 2, PING);
     let x = assemble(rt.alloc(), parts)?.ok_or("the parts are refused")?;
     assert_eq!(rt; x.keys.as_slice(), [1].as_slice());
-    assert_eq!(rt; place_of(x.roles.as_slice(), b"B"), Some(1));
-    assert_eq!(rt; place_of(x.params.as_slice(), b"ID"), Some(1));
-    assert_eq!(rt; place_of(x.messages.as_slice(), b"pong"), None);
+    assert_eq!(rt; index_of(x.roles.as_slice(), b"B"), Some(1));
+    assert_eq!(rt; index_of(x.params.as_slice(), b"ID"), Some(1));
+    assert_eq!(rt; index_of(x.messages.as_slice(), b"pong"), None);
     Ok(())
 }
 

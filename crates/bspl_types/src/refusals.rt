@@ -1,5 +1,5 @@
 use super::Name;
-use super::memory::NoMemory;
+use list_base::NoMemory;
 use std::alloc::{AllocError, AllocFailed};
 
 /// What is counted against a limit.

@@ -1,13 +1,13 @@
 ghost use Rattle.std.specs.Prelude.{◌≡◌, ◌≢◌, ◌↔◌, ◌<◌, ◌^◌, length, IsTrue, IfOk, None};
 ghost use Rattle.std.specs.List.{All};
-ghost use Rattle.bspl_types.specs.Shape.{IsDeclared, IsMessageOf, IsShape, IsWithinLimits, key_places, may_be_key};
+ghost use Rattle.bspl_types.specs.Shape.{IsDeclared, IsMessageOf, IsWellFormed, IsWithinLimits, key_indices, is_public_value};
 
 use super::limits::{CARRIED_LIMIT, KEY_LIMIT, MESSAGE_LIMIT, PARAM_LIMIT, ROLE_LIMIT};
-use super::memory::NoMemory;
 use super::named::are_named;
 use super::names::is_name;
 use super::protocol::{Adornment, Carried, Message, ParamInfo};
 use super::{Name, NumberList, Seq};
+use list_base::NoMemory;
 use std::alloc::Global;
 
 /// Whether an expansion may have these parts, of which `keys` are the places of the keys.
@@ -19,8 +19,8 @@ pub fn is_well_formed(
     keys: &[u32],
     messages: &[Message],
 ) -> bool
-    requires { keys.now ≡ key_places params.now }
-    ensures { IsTrue result ↔ IsShape name.now roles.now params.now public keys.now messages.now }
+    requires { keys.now ≡ key_indices params.now }
+    ensures { IsTrue result ↔ IsWellFormed name.now roles.now params.now public keys.now messages.now }
 {
     let role_count = roles.len();
     let param_count = params.len();
@@ -43,7 +43,7 @@ fn is_declared(public: usize, params: &[ParamInfo]) -> bool
         return false;
     }
     let (first, rest) = params.split_at(public);
-    are_adorned(first) && are_bare(rest) && may_be_keys(params)
+    are_adorned(first) && are_bare(rest) && are_public_values(params)
 }
 
 fn are_adorned(params: &[ParamInfo]) -> bool
@@ -58,14 +58,16 @@ fn are_bare(params: &[ParamInfo]) -> bool
     params.iter().all(|p| p.adornment.is_none())
 }
 
-fn may_be_keys(params: &[ParamInfo]) -> bool
-    ensures { IsTrue result ↔ All (λ p. IsTrue p.key → IsTrue (may_be_key p.adornment)) params.now }
+fn are_public_values(params: &[ParamInfo]) -> bool
+    ensures { IsTrue result ↔ All (λ p. IsTrue p.key → IsTrue (is_public_value p.adornment)) params.now }
 {
-    params.iter().all(|p| !p.key || may_be_key(p.adornment))
+    params
+        .iter()
+        .all(|p| !p.key || is_public_value(p.adornment))
 }
 
-fn may_be_key(adornment: Option<Adornment>) -> bool
-    ensures { result ≡ may_be_key adornment }
+fn is_public_value(adornment: Option<Adornment>) -> bool
+    ensures { result ≡ is_public_value adornment }
 {
     match adornment {
         None => false,
@@ -74,9 +76,9 @@ fn may_be_key(adornment: Option<Adornment>) -> bool
 }
 
 /// The places of the parameters that are marked as keys.
-pub fn key_places(alloc: Global, params: &[ParamInfo]) -> Result<NumberList, NoMemory>
+pub fn key_indices(alloc: Global, params: &[ParamInfo]) -> Result<NumberList, NoMemory>
     requires { length params.now < 2 ^ 32 }
-    ensures { IfOk result (λ keys. keys ≡ key_places params.now) }
+    ensures { IfOk result (λ keys. keys ≡ key_indices params.now) }
 {
     let mut keys = Seq::new(alloc);
     for (place, p) in params.iter().enumerate() {

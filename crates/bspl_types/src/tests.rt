@@ -1,4 +1,4 @@
-use super::{Duplicate, Key, NumberList, Value, Values, is_name};
+use super::{Key, NumberList, TryClone, Value, Values, is_name};
 use std::test::Fail;
 
 const ZERO: Value = Value::Number(0);
@@ -92,7 +92,7 @@ fn lists_grow_and_shrink_at_the_end(rt: HostRuntime) -> Result<(), Fail> {
     assert_eq!(rt; list.len(), 4);
     assert_eq!(rt; *list.at(1), 5);
 
-    let copy = list.copy()?;
+    let copy = list.try_clone()?;
     for want in [Some(7), Some(6), Some(5), Some(4), None] {
         assert_eq!(rt; list.pop(), want);
     }

@@ -7,7 +7,7 @@ use Rattle.std.proofs.lemmas.List.Elements.{Contains-append_left, Contains-push_
 use Rattle.clause_core.specs.declared.literal.Lit.{Lit}
 use Rattle.clause_core.specs.Literal.{rank}
 use Rattle.clause_core.specs.Clause.{IsAscending, HasExactly}
-use Rattle.clause_core.specs.Adding.{Adds}
+use Rattle.clause_core.specs.Adding.{Inserts}
 use Rattle.clause_core.proofs.LiteralLemmas.{same_rank}
 use Rattle.clause_core.proofs.ClauseLemmas.{ascending_push}
 use Rattle.clause_core.proofs.Members.{end_same}
@@ -33,14 +33,14 @@ last_rank kept lit e some up none_above =
           ],
     )
 
-pub adds_double : (kept : List Lit) (lit : Lit) → IsAscending kept → Contains kept lit → Adds kept lit kept
+pub adds_double : (kept : List Lit) (lit : Lit) → IsAscending kept → Contains kept lit → Inserts kept lit kept
 adds_double kept lit up double =
     record {
       ascending = up;
       members = λ l. (inl, λ either. elim either [ inl old ↦ old | inr is_lit ↦ rw is_lit at double ]);
     }
 
-pub adds_last : (kept : List Lit) (lit : Lit) → IsAscending kept → ((l : Lit) → Contains kept l → rank l ≤ rank lit) → ¬ Contains kept lit → Adds kept lit (kept ++ lit ∷ [])
+pub adds_last : (kept : List Lit) (lit : Lit) → IsAscending kept → ((l : Lit) → Contains kept l → rank l ≤ rank lit) → ¬ Contains kept lit → Inserts kept lit (kept ++ lit ∷ [])
 adds_last kept lit up none_above new =
     record {
       ascending = ascending_push kept lit up (λ l among. elim (cases_eq (rank l) (rank lit)) [
@@ -64,7 +64,7 @@ passed_below sorted i kept e within rising passed l among =
     let is : get_or sorted at.0 e ≡ l = sym (get_or-take i sorted at.0 e before) ∙ at.2 e in
     rw is at (rising at.0 i e (omega arith) within)
 
-pub passes_next : (sorted : List Lit) (i : ℕ) (kept new : List Lit) (e : Lit) → i < length sorted → Adds kept (get_or sorted i e) new → IsDistinct sorted i kept → IsDistinct sorted (i + 1) new
+pub passes_next : (sorted : List Lit) (i : ℕ) (kept new : List Lit) (e : Lit) → i < length sorted → Inserts kept (get_or sorted i e) new → IsDistinct sorted i kept → IsDistinct sorted (i + 1) new
 passes_next sorted i kept new e within adds passed =
     let next = get_or sorted i e in
     record {

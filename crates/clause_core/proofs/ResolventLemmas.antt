@@ -2,7 +2,7 @@
 use Rattle.std.proofs.Common.{◌≡◌, inl, inr, ℕ, Bool, List, Contains}
 use Rattle.clause_core.specs.declared.literal.Lit.{Lit}
 use Rattle.clause_core.specs.Literal.{negated, MakesTrue}
-use Rattle.clause_core.specs.Clause.{Satisfies, Follows}
+use Rattle.clause_core.specs.Clause.{Satisfies, Entails}
 use Rattle.clause_core.specs.Resolvent.{IsResolvent}
 use Rattle.clause_core.proofs.LiteralLemmas.{same_or_not, one_of_both}
 use Rattle.clause_core.proofs.ClauseLemmas.{equal_clauses}
@@ -15,7 +15,7 @@ satisfied : (v : ℕ → Bool) (r : List Lit) (l : Lit) → Contains r l → Mak
 satisfied v r l among is_true = (among.0, l, among.1, among.2, is_true)
 
 -- a valuation makes a literal of each clause true; they are not the pivot and its negation
-pub resolvent_follows : (c d r : List Lit) (l : Lit) → IsResolvent c l d r → Follows c d r
+pub resolvent_follows : (c d r : List Lit) (l : Lit) → IsResolvent c l d r → Entails c d r
 resolvent_follows c d r l is v (i, x, in_c, at_x, x_true) (j, y, in_d, at_y, y_true) =
     elim (same_or_not x l) [
       | inr kept ↦ satisfied v r x ((is.union.members x).1 (inl ((i, in_c, at_x), kept))) x_true

@@ -28,5 +28,5 @@ abbrev pub IsUnsatisfiable : List (List Lit) → Type 0
 IsUnsatisfiable clauses = (v : ℕ → Bool) → ¬ SatisfiesAll v clauses
 
 -- a valuation that satisfies both clauses satisfies the third
-abbrev pub Follows : List Lit → List Lit → List Lit → Type 0
-Follows c d r = (v : ℕ → Bool) → Satisfies v c → Satisfies v d → Satisfies v r
+abbrev pub Entails : List Lit → List Lit → List Lit → Type 0
+Entails c d r = (v : ℕ → Bool) → Satisfies v c → Satisfies v d → Satisfies v r

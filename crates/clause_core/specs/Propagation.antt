@@ -17,7 +17,7 @@ pub record LeavesOnly (values : ℕ → Option Bool) (clause : List Lit) (litera
   pub others : (l : Lit) → Contains clause l → l ≢ literal → MakesFalse values l
 
 -- no clause is false, and none leaves only one literal: unit propagation has nothing to do
-pub record IsQuiet (values : ℕ → Option Bool) (clauses : List (List Lit)) : Type 0 where
+pub record IsPropagated (values : ℕ → Option Bool) (clauses : List (List Lit)) : Type 0 where
   pub no_false : All (λ clause. ¬ Falsifies values clause) clauses
   pub no_unit : All (λ clause. (l : Lit) → ¬ LeavesOnly values clause l) clauses
 
@@ -26,4 +26,4 @@ pub record IsLacked (clauses : List (List Lit)) (clause : List Lit) : Type 0 whe
   pub literal : Lit
   pub values : ℕ → Option Bool
   pub leaves : LeavesOnly values clause literal
-  pub quiet : IsQuiet values clauses
+  pub quiet : IsPropagated values clauses

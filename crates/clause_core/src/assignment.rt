@@ -3,7 +3,7 @@ ghost use Rattle.clause_core.specs.Assignment.{valuation};
 ghost use Rattle.clause_core.specs.Clause.{Satisfies, VariablesExist};
 
 use super::clause::Clause;
-use bspl_types::{NoMemory, Seq};
+use list_base::{NoMemory, Seq};
 use std::alloc::Global;
 use std::marker::Model;
 

@@ -3,7 +3,7 @@ ghost use Rattle.clause_core.specs.Clause.{IsAscending, HasExactly, VariablesExi
 
 use super::distinct::distinct;
 use super::literal::Lit;
-use bspl_types::{Duplicate, NoMemory, Seq};
+use list_base::{NoMemory, Seq, TryClone};
 use std::alloc::Global;
 use std::marker::Model;
 
@@ -68,10 +68,10 @@ impl Clause {
     }
 }
 
-impl Duplicate for Clause {
-    fn copy(&self) -> Result<Clause, NoMemory> {
+impl TryClone for Clause {
+    fn try_clone(&self) -> Result<Clause, NoMemory> {
         Ok(Clause {
-            lits: self.lits.copy()?,
+            lits: self.lits.try_clone()?,
         })
     }
 }

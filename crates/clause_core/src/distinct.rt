@@ -3,10 +3,10 @@ ghost use Rattle.std.specs.List.Sorted.{IsNonDecreasingBy};
 ghost use Rattle.clause_core.specs.declared.literal.Lit.{Lit};
 ghost use Rattle.clause_core.specs.Literal.{rank};
 ghost use Rattle.clause_core.specs.Clause.{IsAscending, HasExactly};
-ghost use Rattle.clause_core.specs.Adding.{Adds};
+ghost use Rattle.clause_core.specs.Adding.{Inserts};
 
 use super::literal::Lit;
-use bspl_types::{NoMemory, Seq};
+use list_base::{NoMemory, Seq};
 use std::alloc::Global;
 
 /// The literals of a sorted list, each of them once.
@@ -26,7 +26,7 @@ pub fn distinct(alloc: Global, sorted: &[Lit]) -> Result<Seq<Lit>, NoMemory>
 fn add(kept: &mut Seq<Lit>, lit: Lit) -> Result<(), NoMemory>
     requires ascends { IsAscending kept.old }
     requires none_above { (l : Lit) → Contains kept.old l → rank l ≤ rank lit }
-    ensures { OnOk result (Adds kept.old lit kept.new) }
+    ensures { OnOk result (Inserts kept.old lit kept.new) }
 {
     if ends_in(kept.as_slice(), lit) {
         return Ok(());

@@ -1,6 +1,6 @@
 ghost use Rattle.std.specs.Prelude.{◌≡◌, List};
 ghost use Rattle.clause_core.specs.declared.literal.Lit.{Lit};
-ghost use Rattle.clause_core.specs.Clause.{IsAscending, HasExactly, Follows};
+ghost use Rattle.clause_core.specs.Clause.{IsAscending, HasExactly, Entails};
 ghost use Rattle.clause_core.specs.Resolvent.{IsResolvent};
 
 /// Two clauses with the same literals are one clause.
@@ -17,5 +17,5 @@ pub fn resolvents_agree()
 
 /// A resolvent holds wherever both clauses hold.
 pub fn resolvents_follow()
-    ensures { (c d r : List Lit) (l : Lit) → IsResolvent c l d r → Follows c d r }
+    ensures { (c d r : List Lit) (l : Lit) → IsResolvent c l d r → Entails c d r }
 {}

@@ -1,7 +1,7 @@
 ghost use Rattle.std.specs.Prelude.{◌≡◌, ℕ, Bool, ◌↔◌};
 ghost use Rattle.clause_core.specs.Literal.{rank, negated, MakesTrue};
 
-use bspl_types::{Duplicate, NoMemory};
+use list_base::{NoMemory, TryClone};
 
 /// A variable, counted from 1, or its negation.
 #[derive(Clone, Copy, Debug, PartialEq, Eq)]
@@ -29,8 +29,8 @@ impl Lit {
     }
 }
 
-impl Duplicate for Lit {
-    fn copy(&self) -> Result<Lit, NoMemory> {
+impl TryClone for Lit {
+    fn try_clone(&self) -> Result<Lit, NoMemory> {
         Ok(*self)
     }
 }

@@ -3,7 +3,7 @@ ghost use Rattle.clause_core.specs.Clause.{IsAscending};
 ghost use Rattle.clause_core.specs.Resolvent.{IsUnion};
 
 use super::literal::Lit;
-use bspl_types::{NoMemory, Seq};
+use list_base::{NoMemory, Seq};
 use std::alloc::Global;
 
 /// The first list without `left` and the second without `right`, in one ascending list.

@@ -1,11 +1,11 @@
 ghost use Rattle.std.specs.Prelude.{◌↔◌, IsTrue, IfOk, IsErrOf};
-ghost use Rattle.clause_core.specs.Clause.{Follows};
+ghost use Rattle.clause_core.specs.Clause.{Entails};
 ghost use Rattle.clause_core.specs.Resolvent.{CanResolve, IsResolvent};
 
 use super::clause::Clause;
 use super::literal::Lit;
 use super::merging::merged;
-use bspl_types::NoMemory;
+use list_base::NoMemory;
 use std::alloc::Global;
 
 /// Why two clauses have no resolvent.
@@ -31,7 +31,7 @@ impl From<NoMemory> for ResolveRefusal {
 pub fn resolve(alloc: Global, c: &Clause, pivot: Lit, d: &Clause) -> Result<Clause, ResolveRefusal>
     ensures ok { IfOk result (IsResolvent c.now pivot d.now) }
     ensures pivot { IsErrOf result ResolveRefusal.NoPivot ↔ ¬ CanResolve c.now pivot d.now }
-    ensures sound { IfOk result (Follows c.now d.now) }
+    ensures sound { IfOk result (Entails c.now d.now) }
 {
     if !can_resolve(c, pivot, d) {
         return Err(ResolveRefusal::NoPivot);

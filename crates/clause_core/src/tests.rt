@@ -1,5 +1,5 @@
 use super::{Assignment, Clause, Formula, Lit, ResolveRefusal, resolve};
-use bspl_types::{Duplicate, NoMemory, Seq};
+use list_base::{NoMemory, Seq, TryClone};
 use std::alloc::Global;
 use std::test::Fail;
 
@@ -24,7 +24,7 @@ fn clauses_ascend_without_doubles(rt: HostRuntime) -> Result<(), Fail> {
     let c = clause(rt.alloc(), &[3, -1, 2, -1, 1, 3])?;
     let wanted = [lit(-1), lit(1), lit(2), lit(3)];
     assert_eq!(rt; c.lits(), wanted.as_slice());
-    assert_eq!(rt; c.copy()?.lits(), wanted.as_slice());
+    assert_eq!(rt; c.try_clone()?.lits(), wanted.as_slice());
     assert!(rt; c.has(lit(2)));
     assert!(rt; !c.has(lit(-2)));
     assert_eq!(rt; clause(rt.alloc(), &[])?.lits().len(), 0);
@@ -77,7 +77,7 @@ fn assignments_satisfy(rt: HostRuntime) -> Result<(), Fail> {
 fn formulas_have_their_variables(rt: HostRuntime) -> Result<(), Fail> {
     let mut clauses = Seq::new(rt.alloc());
     clauses.push(clause(rt.alloc(), &[-2, 3])?)?;
-    assert!(rt; Formula::of(2, clauses.copy()?).is_none());
+    assert!(rt; Formula::of(2, clauses.try_clone()?).is_none());
     let f = Formula::of(3, clauses).ok_or("three variables")?;
     assert_eq!(rt; f.vars, 3);
     assert_eq!(rt; f.clauses.len(), 1);

@@ -2,8 +2,8 @@ ghost use Rattle.std.specs.Prelude.{◌≡◌, ◌++◌, IfOk, OnOk};
 ghost use Rattle.dimacs.specs.Answer.{answer_text, assignment_lines, count_text, effort_line, value_line, value_lines, verdict_lines};
 
 use super::verdict::Verdict;
-use bspl_types::{Bytes, NoMemory};
 use clause_core::{Assignment, Lit};
+use list_base::{Bytes, NoMemory};
 use refutation_log::{push_number, push_pivot};
 use sat_solver::Effort;
 use std::alloc::Global;

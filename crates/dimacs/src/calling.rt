@@ -1,5 +1,5 @@
 ghost use Rattle.std.specs.Prelude.{◌≡◌, IsTrue};
-ghost use Rattle.bspl_io.specs.Faults.{Rose};
+ghost use Rattle.bspl_io.specs.Faults.{HasCounted};
 ghost use Rattle.dimacs.specs.Call.{Writes, is_verdict};
 
 use super::reply::{Silence, reply_to};
@@ -16,11 +16,11 @@ pub fn run<R: Source, W: Sink>(
 ) -> Status
     // A status that is a verdict comes with the lines of a verdict that is right.
     ensures right { IsTrue (is_verdict result) →
-        Writes (R.left input.old) (W.written output.old) (W.written output.new) result }
+        Writes (R.remaining input.old) (W.contents output.old) (W.contents output.new) result }
     ensures read_fault { result ≡ Status.ReadFault →
-        Rose (R.faults input.old) (R.faults input.new) }
+        HasCounted (R.faults input.old) (R.faults input.new) }
     ensures write_fault { result ≡ Status.WriteFault →
-        Rose (W.faults output.old) (W.faults output.new) }
+        HasCounted (W.faults output.old) (W.faults output.new) }
 {
     let reply = match reply_to(alloc, words, input) {
         Ok(reply) => reply,

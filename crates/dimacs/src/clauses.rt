@@ -2,8 +2,8 @@ ghost use Rattle.std.specs.Prelude.{[], IfOk, IfSome};
 ghost use Rattle.dimacs.specs.Token.{AreClauses};
 
 use super::token::Token;
-use bspl_types::{NoMemory, Seq};
 use clause_core::{Clause, ClauseList};
+use list_base::{NoMemory, Seq};
 use std::alloc::Global;
 
 /// The clauses that the tokens are, unless the last one has no end.

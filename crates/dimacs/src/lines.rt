@@ -7,8 +7,8 @@ use super::header::start_of;
 use super::refusal::Refusal;
 use super::token::Token;
 use super::words::{push_words, uncommented};
-use bspl_types::Seq;
 use clause_core::Formula;
+use list_base::Seq;
 use refutation_log::{Flaw, cut};
 use std::alloc::Global;
 

@@ -1,6 +1,6 @@
 ghost use Rattle.std.specs.Prelude.{◌≡◌};
 
-use bspl_types::NoMemory;
+use list_base::NoMemory;
 
 /// Why there is no verdict on a text.
 #[derive(Clone, Copy, Debug, PartialEq, Eq)]

@@ -1,5 +1,5 @@
 ghost use Rattle.std.specs.Prelude.{◌≡◌, ◌≤◌, ◌++◌, ℕ, List, Option, codes, IfOk, IfSome, IsErrOf};
-ghost use Rattle.bspl_io.specs.Faults.{Rose};
+ghost use Rattle.bspl_io.specs.Faults.{HasCounted};
 ghost use Rattle.refutation_log.specs.LogText.{numeral};
 ghost use Rattle.dimacs.specs.Call.{IsReply, reply_status, reply_text};
 
@@ -10,7 +10,7 @@ use super::refusal::Refusal;
 use super::status::Status;
 use super::verdict::Verdict;
 use bspl_io::{ReadRefusal, Source, read_all};
-use bspl_types::{Bytes, NoMemory};
+use list_base::{Bytes, NoMemory};
 use refutation_log::push_number;
 use std::alloc::Global;
 
@@ -66,9 +66,9 @@ impl Reply {
 
 /// The reply to the words and the input, which is read where the words are a command line.
 pub fn reply_to<R: Source>(alloc: Global, words: &[String], input: &mut R) -> Result<Reply, Silence>
-    ensures right { IfOk result (IsReply (R.left input.old)) }
+    ensures right { IfOk result (IsReply (R.remaining input.old)) }
     ensures fault { IsErrOf result Silence.ReadFault →
-        Rose (R.faults input.old) (R.faults input.new) }
+        HasCounted (R.faults input.old) (R.faults input.new) }
 {
     let Some(budget) = budget_of(words) else {
         return Ok(Reply::Usage);

@@ -1,6 +1,6 @@
 use super::{Status, run};
 use bspl_io::{PlainSink, PlainSource};
-use bspl_types::Bytes;
+use list_base::Bytes;
 use std::alloc::{AllocError, Global};
 use std::test::Fail;
 

@@ -4,7 +4,7 @@ ghost use Rattle.dimacs.specs.Dimacs.{is_blank, words_of, line_words};
 ghost use Rattle.dimacs.specs.Token.{blank_parts, words_left, token_word};
 
 use super::token::{Token, token_of};
-use bspl_types::Seq;
+use list_base::Seq;
 use refutation_log::Flaw;
 
 fn is_blank(byte: u8) -> bool

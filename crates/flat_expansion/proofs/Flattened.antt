@@ -9,7 +9,7 @@ use Rattle.bspl_types.specs.declared.expanded.Expanded.{Expanded}
 use Rattle.bspl_types.specs.declared.protocol.Adornment.{Adornment}
 use Rattle.bspl_types.specs.declared.protocol.Message.{Message}
 use Rattle.bspl_types.specs.declared.protocol.ParamInfo.{ParamInfo}
-use Rattle.bspl_types.specs.Shape.{IsDeclared, IsMessageOf, may_be_key}
+use Rattle.bspl_types.specs.Shape.{IsDeclared, IsMessageOf, is_public_value}
 use Rattle.bspl_parser.specs.declared.document.Adorn.{Adorn}
 use Rattle.bspl_parser.specs.declared.document.Adorn.TheVariants.{Nil}
 use Rattle.bspl_parser.specs.declared.document.Declaration.{Declaration}
@@ -17,10 +17,10 @@ use Rattle.bspl_parser.specs.declared.document.Formal.{Formal}
 use Rattle.bspl_parser.specs.declared.document.Item.{Item}
 use Rattle.bspl_parser.specs.declared.document.Item.TheVariants as item
 use Rattle.bspl_parser.specs.declared.word.Word.{Word}
-use Rattle.bspl_parser.specs.Alike.{unplaced_word, unplaced_formal, unplaced_item}
+use Rattle.bspl_parser.specs.Alike.{word_without_offset, formal_without_offsets, item_without_offsets}
 use Rattle.bspl_parser.specs.Spelling.{IsDeclaration, IsFormal, IsItem}
-use Rattle.flat_expansion.specs.Expansion.{adornment_of, public_param, private_param, IsCarried, IsExpansionOf, IsImage}
-use Rattle.flat_expansion.specs.Flat.{IsBare, IsItemOf, IsPrivateOf, IsPublicOf, IsUnkeyed, IsWordOf}
+use Rattle.flat_expansion.specs.Expansion.{adornment_of, public_param, private_param, IsCarried, IsExpansionOf, IsMessageOfItem}
+use Rattle.flat_expansion.specs.Flat.{IsCanonical, IsItemOf, IsPrivateOf, IsPublicOf, IsUnkeyed, IsWordOf}
 use Rattle.flat_expansion.proofs.Mapped.{as_long}
 use Rattle.flat_expansion.proofs.Zipped.{flipped, mapped_back, mapped_same, seconds}
 
@@ -33,7 +33,7 @@ pub record IsMade (x : Expanded) (d : Declaration) : Type 0 where
   pub body : AllZip (IsItemOf x.roles x.params) x.messages d.body
 
 -- a message has the meaning of its item
-image_made : (roles : List (List ℕ)) (params : List ParamInfo) (m : Message) (i : Item) → IsItemOf roles params m i → IsImage roles params i m
+image_made : (roles : List (List ℕ)) (params : List ParamInfo) (m : Message) (i : Item) → IsItemOf roles params m i → IsMessageOfItem roles params i m
 image_made roles params m (item.Message s) made = made.means
 image_made roles params m (item.Reference r) made = absurd made
 
@@ -53,12 +53,12 @@ flat_made x d made = record {
       let private = mapped_back IsPrivateOf private_param (λ p w is_w. is_w.declares) (drop x.public x.params) d.private made.private in
       sym (take-append-drop x.public x.params) ∙ (λ i. sym public i ++ sym private i);
   public = sym (public_length x d made);
-  images = flipped (IsItemOf x.roles x.params) (IsImage x.roles x.params) (image_made x.roles x.params) x.messages d.body made.body;
+  images = flipped (IsItemOf x.roles x.params) (IsMessageOfItem x.roles x.params) (image_made x.roles x.params) x.messages d.body made.body;
 }
 
 -- an item says nothing of places
-item_unplaced : (roles : List (List ℕ)) (params : List ParamInfo) (m : Message) (i : Item) → IsItemOf roles params m i → unplaced_item i ≡ i
-item_unplaced roles params m (item.Message s) made = ap item.Message made.unplaced
+item_unplaced : (roles : List (List ℕ)) (params : List ParamInfo) (m : Message) (i : Item) → IsItemOf roles params m i → item_without_offsets i ≡ i
+item_unplaced roles params m (item.Message s) made = ap item.Message made.without_offsets
 item_unplaced roles params m (item.Reference r) made = absurd made
 
 -- and has no key in a message
@@ -67,14 +67,14 @@ item_unkeyed roles params m (item.Message s) made = made.unkeyed
 item_unkeyed roles params m (item.Reference r) made = absurd made
 
 -- the protocol says nothing of places, and has no key in a message
-pub bare_made : (x : Expanded) (d : Declaration) → IsMade x d → IsBare d
+pub bare_made : (x : Expanded) (d : Declaration) → IsMade x d → IsCanonical d
 bare_made x d made = record {
-  unplaced = λ i. record {
-    name = made.name.unplaced i;
-    roles = mapped_same IsWordOf unplaced_word (λ n w word. word.unplaced) x.roles d.roles made.roles i;
-    public = mapped_same IsPublicOf unplaced_formal (λ p f is_f. is_f.unplaced) (take x.public x.params) d.public made.public i;
-    private = mapped_same IsPrivateOf unplaced_word (λ p w is_w. is_w.unplaced) (drop x.public x.params) d.private made.private i;
-    body = mapped_same (IsItemOf x.roles x.params) unplaced_item (item_unplaced x.roles x.params) x.messages d.body made.body i;
+  without_offsets = λ i. record {
+    name = made.name.without_offsets i;
+    roles = mapped_same IsWordOf word_without_offset (λ n w word. word.without_offsets) x.roles d.roles made.roles i;
+    public = mapped_same IsPublicOf formal_without_offsets (λ p f is_f. is_f.without_offsets) (take x.public x.params) d.public made.public i;
+    private = mapped_same IsPrivateOf word_without_offset (λ p w is_w. is_w.without_offsets) (drop x.public x.params) d.private made.private i;
+    body = mapped_same (IsItemOf x.roles x.params) item_without_offsets (item_unplaced x.roles x.params) x.messages d.body made.body i;
   };
   unkeyed = seconds (λ (m : Message). Unit {0}) (IsItemOf x.roles x.params) IsUnkeyed (λ m i any is_i. item_unkeyed x.roles x.params m i is_i) x.messages d.body (λ k e within. tt) made.body;
 }
@@ -85,13 +85,13 @@ none_left xs [] long some empty = absurd (omega (arith, long, some))
 none_left xs (y ∷ ys) long some empty = absurd cc
 
 -- a key that may bind is not that of a `nil`
-bare_key : (key : Option ℕ) (a : Adorn) → (IsTrue (is_some key) → IsTrue (may_be_key (adornment_of a))) → a ≡ Nil → key ≡ None
+bare_key : (key : Option ℕ) (a : Adorn) → (IsTrue (is_some key) → IsTrue (is_public_value (adornment_of a))) → a ≡ Nil → key ≡ None
 bare_key None a bound is_nil = refl
-bare_key (Some k) a bound is_nil = absurd (false≢true (subst (λ (b : Adorn). IsTrue (may_be_key (adornment_of b))) is_nil (bound refl)))
+bare_key (Some k) a bound is_nil = absurd (false≢true (subst (λ (b : Adorn). IsTrue (is_public_value (adornment_of b))) is_nil (bound refl)))
 
 -- a public parameter is well formed
-formal_made : (p : ParamInfo) (f : Formal) → (IsTrue p.key → IsTrue (may_be_key p.adornment)) → IsPublicOf p f → IsFormal f
-formal_made p f bound is_f = bare_key f.key f.adorn (subst (λ (q : ParamInfo). IsTrue q.key → IsTrue (may_be_key q.adornment)) (sym is_f.declares) bound)
+formal_made : (p : ParamInfo) (f : Formal) → (IsTrue p.key → IsTrue (is_public_value p.adornment)) → IsPublicOf p f → IsFormal f
+formal_made p f bound is_f = bare_key f.key f.adorn (subst (λ (q : ParamInfo). IsTrue q.key → IsTrue (is_public_value q.adornment)) (sym is_f.declares) bound)
 
 -- and so is an item
 item_made : (roles : List (List ℕ)) (params : List ParamInfo) (m : Message) (i : Item) → IsMessageOf (length roles) (length params) m → IsItemOf roles params m i → IsItem i
@@ -107,8 +107,8 @@ formed_made x d made = record {
   some_role = none_left x.roles d.roles (as_long IsWordOf x.roles d.roles made.roles) x.shape.some_role;
   some_public = none_left (take x.public x.params) d.public (as_long IsPublicOf (take x.public x.params) d.public made.public) (omega (arith, as_long IsPublicOf (take x.public x.params) d.public made.public, public_length x d made, x.shape.declared.some_public));
   each_public =
-      seconds (λ (p : ParamInfo). IsTrue p.key → IsTrue (may_be_key p.adornment)) IsPublicOf IsFormal formal_made (take x.public x.params) d.public
-      (All-take (λ (p : ParamInfo). IsTrue p.key → IsTrue (may_be_key p.adornment)) x.public x.params x.shape.declared.keys_bound) made.public;
+      seconds (λ (p : ParamInfo). IsTrue p.key → IsTrue (is_public_value p.adornment)) IsPublicOf IsFormal formal_made (take x.public x.params) d.public
+      (All-take (λ (p : ParamInfo). IsTrue p.key → IsTrue (is_public_value p.adornment)) x.public x.params x.shape.declared.keys_bound) made.public;
   each_item = seconds (IsMessageOf (length x.roles) (length x.params)) (IsItemOf x.roles x.params) IsItem (item_made x.roles x.params) x.messages d.body x.shape.each_message made.body;
 }
 
@@ -117,7 +117,7 @@ pub private_unkeyed : (public : ℕ) (params : List ParamInfo) → IsDeclared pu
 private_unkeyed public params declared k e within =
     let p = get_or (drop public params) k e in
     ⊎_elim
-    (λ is_key. absurd (false≢true (subst (λ (a : Option Adornment). IsTrue (may_be_key a)) (declared.private_bare k e within) (All-drop (λ (p : ParamInfo). IsTrue p.key → IsTrue (may_be_key p.adornment)) public params declared.keys_bound k e within is_key))))
+    (λ is_key. absurd (false≢true (subst (λ (a : Option Adornment). IsTrue (is_public_value a)) (declared.private_bare k e within) (All-drop (λ (p : ParamInfo). IsTrue p.key → IsTrue (is_public_value p.adornment)) public params declared.keys_bound k e within is_key))))
     (λ is_none. is_none)
     (cases_Bool p.key)
 

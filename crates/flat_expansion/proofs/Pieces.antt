@@ -8,8 +8,8 @@ use Rattle.bspl_types.specs.Shape.{AreNamed}
 use Rattle.bspl_parser.specs.declared.document.Adorn.{Adorn}
 use Rattle.bspl_parser.specs.declared.document.Formal.{Formal}
 use Rattle.bspl_parser.specs.declared.word.Word.{Word}
-use Rattle.bspl_parser.specs.Alike.{unplaced_formal}
-use Rattle.flat_expansion.specs.Expansion.{adornment_of, param_place, role_place, IsCarried}
+use Rattle.bspl_parser.specs.Alike.{formal_without_offsets}
+use Rattle.flat_expansion.specs.Expansion.{adornment_of, param_index, role_index, IsCarried}
 use Rattle.flat_expansion.specs.Flat.{IsFormalOf, IsSchemaOf, IsWordOf}
 use Rattle.flat_expansion.proofs.OwnPlace.{own_place}
 use Rattle.flat_expansion.proofs.Zipped.{flipped, mapped_same, seconds}
@@ -18,16 +18,16 @@ use Rattle.flat_expansion.proofs.Zipped.{flipped, mapped_same, seconds}
 pub formal_made : (params : List ParamInfo) (c : Carried) (p : ParamInfo) (b : Adorn) (w : Word) → AreNamed (λ p. p.name) params → c.param < length params → p ≡ get_or params c.param p → adornment_of b ≡ Some c.adornment → IsWordOf p.name w → IsFormalOf params c (record { adorn = b; offset = 0; name = w; key = None })
 formal_made params c p b w named within stands adorned word = record {
   carries = record {
-    place = subst (λ text. param_place params text ≡ Some c.param) (sym word.named) (own_place (λ (p : ParamInfo). p.name) params c.param p named.apart within stands);
+    place = subst (λ text. param_index params text ≡ Some c.param) (sym word.named) (own_place (λ (p : ParamInfo). p.name) params c.param p named.apart within stands);
     adorned = adorned;
   };
   unkeyed = refl;
-  unplaced = λ i. record { adorn = b; offset = 0; name = word.unplaced i; key = None };
+  without_offsets = λ i. record { adorn = b; offset = 0; name = word.without_offsets i; key = None };
 }
 
 -- a role is found by its word
-role_met : (roles : List (List ℕ)) (k : ℕ) (role : List ℕ) (w : Word) → AreNamed (λ name. name) roles → k < length roles → role ≡ get_or roles k role → IsWordOf role w → role_place roles w.text ≡ Some k
-role_met roles k role w named within stands word = subst (λ text. role_place roles text ≡ Some k) (sym word.named) (own_place (λ name. name) roles k role named.apart within stands)
+role_met : (roles : List (List ℕ)) (k : ℕ) (role : List ℕ) (w : Word) → AreNamed (λ name. name) roles → k < length roles → role ≡ get_or roles k role → IsWordOf role w → role_index roles w.text ≡ Some k
+role_met roles k role w named within stands word = subst (λ text. role_index roles text ≡ Some k) (sym word.named) (own_place (λ name. name) roles k role named.apart within stands)
 
 -- a message, with the words for its roles, its name and its parameters
 pub schema_made : (roles : List (List ℕ)) (params : List ParamInfo) (m : Message) (sender receiver : List ℕ) (from to name : Word) (formals : List Formal) →
@@ -42,10 +42,10 @@ schema_made roles params m sender receiver from to name formals named within wit
     carries = flipped (IsFormalOf params) (IsCarried params) (λ c f made. made.carries) m.carried formals all;
   };
   unkeyed = seconds (λ (c : Carried). Unit {0}) (IsFormalOf params) (λ (f : Formal). f.key ≡ None) (λ c f any made. made.unkeyed) m.carried formals (λ k e within. tt) all;
-  unplaced = λ i. record {
-    sender = is_from.unplaced i;
-    receiver = is_to.unplaced i;
-    name = is_name.unplaced i;
-    params = mapped_same (IsFormalOf params) unplaced_formal (λ c f made. made.unplaced) m.carried formals all i;
+  without_offsets = λ i. record {
+    sender = is_from.without_offsets i;
+    receiver = is_to.without_offsets i;
+    name = is_name.without_offsets i;
+    params = mapped_same (IsFormalOf params) formal_without_offsets (λ c f made. made.without_offsets) m.carried formals all i;
   };
 }

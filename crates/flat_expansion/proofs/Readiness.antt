@@ -8,7 +8,7 @@ use Rattle.bspl_types.specs.declared.protocol.Adornment.TheVariants as bound
 use Rattle.bspl_types.specs.declared.protocol.Carried.{Carried}
 use Rattle.bspl_types.specs.declared.protocol.Message.{Message}
 use Rattle.bspl_types.specs.declared.protocol.ParamInfo.{ParamInfo}
-use Rattle.bspl_types.specs.Shape.{IsMessageOf, key_places}
+use Rattle.bspl_types.specs.Shape.{IsMessageOf, key_indices}
 use Rattle.bspl_parser.specs.declared.document.Adorn.{Adorn}
 use Rattle.bspl_parser.specs.declared.document.Adorn.TheVariants.{In, Out, Nil, Any, Opt}
 use Rattle.bspl_parser.specs.declared.document.Declaration.{Declaration}
@@ -19,8 +19,8 @@ use Rattle.bspl_parser.specs.declared.document.Schema.{Schema}
 use Rattle.bspl_parser.specs.Spelling.{IsItem, IsSchema}
 use Rattle.protocol_names.specs.Names.{texts, param_words}
 use Rattle.protocol_names.proofs.Places.{has_place}
-use Rattle.flat_expansion.specs.Expansion.{adornment_of, params_of, role_place, IsCarried, IsExpansionOf, IsImage, IsMessageFor}
-use Rattle.flat_expansion.specs.Ready.{IsAdorned, IsReady, IsReadyItem, IsReadyMessage}
+use Rattle.flat_expansion.specs.Expansion.{adornment_of, params_of, role_index, IsCarried, IsExpansionOf, IsMessageOfItem, IsMessageFor}
+use Rattle.flat_expansion.specs.Ready.{IsAdorned, IsWellScoped, IsWellScopedItem, IsWellScopedMessage}
 use Rattle.flat_expansion.proofs.Mapped.{as_long, partners}
 use Rattle.flat_expansion.proofs.Placed.{first_place, named_place}
 use Rattle.flat_expansion.proofs.Shaped.{param_texts, shape_of}
@@ -41,7 +41,7 @@ carried_found d f known adorned =
     (record { param = at.0; adornment = bound.0 }, record { place = at.2; adorned = bound.1 }, at.1)
 
 -- a declared role has a place
-role_found : (roles : List (List ℕ)) (text : List ℕ) → Contains roles text → (k : ℕ) × (k < length roles) × (role_place roles text ≡ Some k)
+role_found : (roles : List (List ℕ)) (text : List ℕ) → Contains roles text → (k : ℕ) × (k < length roles) × (role_index roles text ≡ Some k)
 role_found roles text known = first_place (λ role. bytes_eq role text) roles ((has_place roles text).1 known)
 
 -- what is not empty has partners
@@ -50,7 +50,7 @@ some_partners [] ys some long = absurd (some refl)
 some_partners (x ∷ xs) ys some long = omega (arith, long)
 
 -- a message that is ready has an image
-message_found : (d : Declaration) (s : Schema) → IsSchema s → IsReadyMessage d s → (m : Message) × IsMessageFor (texts d.roles) (params_of d) s m × IsMessageOf (length (texts d.roles)) (length (params_of d)) m
+message_found : (d : Declaration) (s : Schema) → IsSchema s → IsWellScopedMessage d s → (m : Message) × IsMessageFor (texts d.roles) (params_of d) s m × IsMessageOf (length (texts d.roles)) (length (params_of d)) m
 message_found d s formed ready =
     let sender = role_found (texts d.roles) s.sender.text ready.known_sender in
     let receiver = role_found (texts d.roles) s.receiver.text ready.known_receiver in
@@ -68,14 +68,14 @@ message_found d s formed ready =
     )
 
 -- an item that is ready has an image
-image_found : (d : Declaration) (i : Item) → IsItem i → IsReadyItem d i → (m : Message) × IsImage (texts d.roles) (params_of d) i m × IsMessageOf (length (texts d.roles)) (length (params_of d)) m
+image_found : (d : Declaration) (i : Item) → IsItem i → IsWellScopedItem d i → (m : Message) × IsMessageOfItem (texts d.roles) (params_of d) i m × IsMessageOf (length (texts d.roles)) (length (params_of d)) m
 image_found d (item.Message s) formed ready = message_found d s formed ready
 image_found d (item.Reference r) formed ready = absurd ready
 
 -- a protocol that is ready has an expansion
-pub expands : (d : Declaration) → IsReady d → (x : Expanded) × IsExpansionOf d x
+pub expands : (d : Declaration) → IsWellScoped d → (x : Expanded) × IsExpansionOf d x
 expands d ready =
-    let images = partners (IsImage (texts d.roles) (params_of d)) (IsMessageOf (length (texts d.roles)) (length (params_of d))) d.body (λ k e within. image_found d (get_or d.body k e) (ready.formed.each_item k e within) (ready.messages k e within)) in (
-      record { name = d.name.text; roles = texts d.roles; params = params_of d; public = length d.public; keys = key_places (params_of d); messages = images.0; shape = shape_of d images.0 ready images.1 images.2 },
+    let images = partners (IsMessageOfItem (texts d.roles) (params_of d)) (IsMessageOf (length (texts d.roles)) (length (params_of d))) d.body (λ k e within. image_found d (get_or d.body k e) (ready.formed.each_item k e within) (ready.messages k e within)) in (
+      record { name = d.name.text; roles = texts d.roles; params = params_of d; public = length d.public; keys = key_indices (params_of d); messages = images.0; shape = shape_of d images.0 ready images.1 images.2 },
       record { named = refl; roles = refl; params = refl; public = refl; images = images.1 },
     )

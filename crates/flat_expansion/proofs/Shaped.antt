@@ -9,7 +9,7 @@ use Rattle.std.proofs.Math.Seq.{take-append_seam, drop-append_seam}
 use Rattle.bspl_types.specs.declared.protocol.Message.{Message}
 use Rattle.bspl_types.specs.declared.protocol.ParamInfo.{ParamInfo}
 use Rattle.bspl_types.specs.Name.{is_name}
-use Rattle.bspl_types.specs.Shape.{AreNamed, IsDeclared, IsMessageOf, IsShape, IsWithinLimits, key_places, may_be_key}
+use Rattle.bspl_types.specs.Shape.{AreNamed, IsDeclared, IsMessageOf, IsWellFormed, IsWithinLimits, key_indices, is_public_value}
 use Rattle.bspl_parser.specs.declared.document.Adorn.{Adorn}
 use Rattle.bspl_parser.specs.declared.document.Adorn.TheVariants.{In, Out, Nil, Any, Opt}
 use Rattle.bspl_parser.specs.declared.document.Declaration.{Declaration}
@@ -19,8 +19,8 @@ use Rattle.bspl_parser.specs.declared.document.Item.TheVariants as item
 use Rattle.bspl_parser.specs.declared.word.Word.{Word}
 use Rattle.bspl_parser.specs.Spelling.{IsDeclaration}
 use Rattle.protocol_names.specs.Names.{texts, message_words, param_words}
-use Rattle.flat_expansion.specs.Expansion.{adornment_of, public_param, private_param, params_of, IsImage}
-use Rattle.flat_expansion.specs.Ready.{AreApart, IsAdorned, IsReady, IsWithin}
+use Rattle.flat_expansion.specs.Expansion.{adornment_of, public_param, private_param, params_of, IsMessageOfItem}
+use Rattle.flat_expansion.specs.Ready.{AreDistinct, IsAdorned, IsWellScoped, IsWithin}
 use Rattle.flat_expansion.proofs.Mapped.{all_of_mapped, as_long, mapped_pairs, pairs_of_mapped}
 
 -- what is not empty has an item
@@ -33,11 +33,11 @@ words_named : (words : List Word) → All (λ n. IsTrue (is_name n)) (texts word
 words_named words = All-map (λ n. IsTrue (is_name n)) (λ (w : Word). w.text) words (λ k e within. (get_or words k e).named)
 
 -- words that are apart have names that are apart
-words_apart : (words : List Word) → AreApart words → AllPairs (λ a b. a ≢ b) (texts words)
+words_apart : (words : List Word) → AreDistinct words → AllPairs (λ a b. a ≢ b) (texts words)
 words_apart words apart = mapped_pairs (λ a b. a ≢ b) (λ (w : Word). w.text) words apart.apart
 
 -- items whose names are those of such words have names of their own
-named_as : {X : Type 0} (name : X → List ℕ) (xs : List X) (words : List Word) → map name xs ≡ texts words → AreApart words → AreNamed name xs
+named_as : {X : Type 0} (name : X → List ℕ) (xs : List X) (words : List Word) → map name xs ≡ texts words → AreDistinct words → AreNamed name xs
 named_as name xs words same apart = record {
   named = all_of_mapped (λ n. IsTrue (is_name n)) name xs (subst (All (λ n. IsTrue (is_name n))) (sym same) (words_named words));
   apart = pairs_of_mapped (λ a b. a ≢ b) name xs (subst (AllPairs (λ a b. a ≢ b)) (sym same) (words_apart words apart));
@@ -50,7 +50,7 @@ param_texts [] (w ∷ ws) = ap (λ ns. w.text ∷ ns) (param_texts [] ws)
 param_texts (f ∷ fs) ws = ap (λ ns. f.name.text ∷ ns) (param_texts fs ws)
 
 -- and so have the messages
-pub message_texts : (roles : List (List ℕ)) (params : List ParamInfo) (d : Declaration) (body : List Item) (ms : List Message) → AllZip (IsImage roles params) body ms → map (λ m. m.name) ms ≡ texts (message_words (record d { body = body }))
+pub message_texts : (roles : List (List ℕ)) (params : List ParamInfo) (d : Declaration) (body : List Item) (ms : List Message) → AllZip (IsMessageOfItem roles params) body ms → map (λ m. m.name) ms ≡ texts (message_words (record d { body = body }))
 message_texts roles params d [] [] images = refl
 message_texts roles params d [] (m ∷ ms) images = absurd images
 message_texts roles params d (i ∷ body) [] images = absurd images
@@ -58,7 +58,7 @@ message_texts roles params d (item.Reference r ∷ body) (m ∷ ms) images = abs
 message_texts roles params d (item.Message s ∷ body) (m ∷ ms) images = λ j. images.0.named j ∷ message_texts roles params d body ms images.1 j
 
 -- a key binds
-key_binds : (a : Adorn) (key : Option ℕ) → (a ≡ Nil → key ≡ None) → a ≢ Any → a ≢ Opt → IsTrue (is_some key) → IsTrue (may_be_key (adornment_of a))
+key_binds : (a : Adorn) (key : Option ℕ) → (a ≡ Nil → key ≡ None) → a ≢ Any → a ≢ Opt → IsTrue (is_some key) → IsTrue (is_public_value (adornment_of a))
 key_binds In key bare not_any not_opt some = refl
 key_binds Out key bare not_any not_opt some = refl
 key_binds Nil key bare not_any not_opt some = absurd (false≢true (subst (λ (k : Option ℕ). IsTrue (is_some k)) (bare refl) some))
@@ -87,10 +87,10 @@ declared d formed adorned = record {
       (subst (All (λ (p : ParamInfo). p.adornment ≡ None)) (sym (drop-append_seam (map public_param d.public) (map private_param d.private)))
       (All-map (λ (p : ParamInfo). p.adornment ≡ None) private_param d.private (λ k e within. refl)));
   keys_bound =
-      All-append (λ (p : ParamInfo). IsTrue p.key → IsTrue (may_be_key p.adornment)) (map public_param d.public) (map private_param d.private)
-      (All-map (λ (p : ParamInfo). IsTrue p.key → IsTrue (may_be_key p.adornment)) public_param d.public
+      All-append (λ (p : ParamInfo). IsTrue p.key → IsTrue (is_public_value p.adornment)) (map public_param d.public) (map private_param d.private)
+      (All-map (λ (p : ParamInfo). IsTrue p.key → IsTrue (is_public_value p.adornment)) public_param d.public
       (λ k e within. key_binds (get_or d.public k e).adorn (get_or d.public k e).key (formed.each_public k e within) (adorned k e within).not_any (adorned k e within).not_opt))
-      (All-map (λ (p : ParamInfo). IsTrue p.key → IsTrue (may_be_key p.adornment)) private_param d.private (λ k e within is_key. absurd (false≢true is_key)));
+      (All-map (λ (p : ParamInfo). IsTrue p.key → IsTrue (is_public_value p.adornment)) private_param d.private (λ k e within is_key. absurd (false≢true is_key)));
 }
 
 -- one more that counts in both lists, or in neither
@@ -107,7 +107,7 @@ as_many_keys n (f ∷ fs) ws =
     (as_many_keys (n + 1) fs ws)
 
 -- there are not too many of each
-counted : (d : Declaration) (ms : List Message) → IsWithin d → length ms ≡ length d.body → IsWithinLimits (length (texts d.roles)) (length (params_of d)) (length (key_places (params_of d))) (length ms)
+counted : (d : Declaration) (ms : List Message) → IsWithin d → length ms ≡ length d.body → IsWithinLimits (length (texts d.roles)) (length (params_of d)) (length (key_indices (params_of d))) (length ms)
 counted d ms within long = record {
   few_roles = omega (arith, length-map d.roles (λ (w : Word). w.text), within.few_roles);
   few_params = omega (arith, length-map (params_of d) (λ (p : ParamInfo). p.name), ap length (param_texts d.public d.private), length-map (param_words d) (λ (w : Word). w.text), within.few_params);
@@ -116,7 +116,7 @@ counted d ms within long = record {
 }
 
 -- with the images of its items it has the shape of an expansion
-pub shape_of : (d : Declaration) (ms : List Message) → IsReady d → AllZip (IsImage (texts d.roles) (params_of d)) d.body ms → All (IsMessageOf (length (texts d.roles)) (length (params_of d))) ms → IsShape d.name.text (texts d.roles) (params_of d) (length d.public) (key_places (params_of d)) ms
+pub shape_of : (d : Declaration) (ms : List Message) → IsWellScoped d → AllZip (IsMessageOfItem (texts d.roles) (params_of d)) d.body ms → All (IsMessageOf (length (texts d.roles)) (length (params_of d))) ms → IsWellFormed d.name.text (texts d.roles) (params_of d) (length d.public) (key_indices (params_of d)) ms
 shape_of d ms ready images each = record {
   named = d.name.named;
   role_names = record { named = words_named d.roles; apart = words_apart d.roles ready.apart.roles };
@@ -126,5 +126,5 @@ shape_of d ms ready images each = record {
   declared = declared d ready.formed ready.adorned;
   key_list = refl;
   each_message = each;
-  counts = counted d ms ready.within (as_long (IsImage (texts d.roles) (params_of d)) d.body ms images);
+  counts = counted d ms ready.within (as_long (IsMessageOfItem (texts d.roles) (params_of d)) d.body ms images);
 }

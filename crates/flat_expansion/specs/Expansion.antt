@@ -39,29 +39,29 @@ abbrev pub params_of : Declaration → List ParamInfo
 params_of d = map public_param d.public ++ map private_param d.private
 
 -- the first place of the role's name
-abbrev pub role_place : List (List ℕ) → List ℕ → Option ℕ
-role_place roles name = position (λ role. bytes_eq role name) roles
+abbrev pub role_index : List (List ℕ) → List ℕ → Option ℕ
+role_index roles name = position (λ role. bytes_eq role name) roles
 
 -- the first place of the parameter's name
-abbrev pub param_place : List ParamInfo → List ℕ → Option ℕ
-param_place params name = position (λ p. bytes_eq p.name name) params
+abbrev pub param_index : List ParamInfo → List ℕ → Option ℕ
+param_index params name = position (λ p. bytes_eq p.name name) params
 
 -- the parameter's place and its adornment
 pub record IsCarried (params : List ParamInfo) (f : Formal) (c : Carried) : Type 0 where
-  pub place : param_place params f.name.text ≡ Some c.param
+  pub place : param_index params f.name.text ≡ Some c.param
   pub adorned : adornment_of f.adorn ≡ Some c.adornment
 
 -- the message of a schema: its roles and parameters by their places
 pub record IsMessageFor (roles : List (List ℕ)) (params : List ParamInfo) (s : Schema) (m : Message) : Type 0 where
   pub named : m.name ≡ s.name.text
-  pub sent : role_place roles s.sender.text ≡ Some m.sender
-  pub received : role_place roles s.receiver.text ≡ Some m.receiver
+  pub sent : role_index roles s.sender.text ≡ Some m.sender
+  pub received : role_index roles s.receiver.text ≡ Some m.receiver
   pub carries : AllZip (IsCarried params) s.params m.carried
 
 -- a reference is no message
-abbrev pub IsImage : List (List ℕ) → List ParamInfo → Item → Message → Type 0
-IsImage roles params (item.Message s) m = IsMessageFor roles params s m
-IsImage roles params (item.Reference r) m = ⊥
+abbrev pub IsMessageOfItem : List (List ℕ) → List ParamInfo → Item → Message → Type 0
+IsMessageOfItem roles params (item.Message s) m = IsMessageFor roles params s m
+IsMessageOfItem roles params (item.Reference r) m = ⊥
 
 -- the expansion of a protocol whose body has messages alone
 pub record IsExpansionOf (d : Declaration) (x : Expanded) : Type 0 where
@@ -69,4 +69,4 @@ pub record IsExpansionOf (d : Declaration) (x : Expanded) : Type 0 where
   pub roles : x.roles ≡ map (λ w. w.text) d.roles
   pub params : x.params ≡ params_of d
   pub public : x.public ≡ length d.public
-  pub images : AllZip (IsImage x.roles x.params) d.body x.messages
+  pub images : AllZip (IsMessageOfItem x.roles x.params) d.body x.messages

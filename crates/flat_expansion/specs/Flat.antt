@@ -10,7 +10,7 @@ use Rattle.bspl_parser.specs.declared.document.Item.{Item}
 use Rattle.bspl_parser.specs.declared.document.Item.TheVariants as item
 use Rattle.bspl_parser.specs.declared.document.Schema.{Schema}
 use Rattle.bspl_parser.specs.declared.word.Word.{Word}
-use Rattle.bspl_parser.specs.Alike.{unplaced_word, unplaced_formal, unplaced_message, unplaced_declaration}
+use Rattle.bspl_parser.specs.Alike.{word_without_offset, formal_without_offsets, message_without_offsets, declaration_without_offsets}
 use Rattle.flat_expansion.specs.Expansion.{public_param, private_param, IsCarried, IsMessageFor}
 
 -- the word `key` stands at no parameter of a message
@@ -19,36 +19,36 @@ IsUnkeyed (item.Message s) = All (λ f. f.key ≡ None) s.params
 IsUnkeyed (item.Reference r) = ⊥
 
 -- nothing has a place in a text, and `key` stands at public parameters alone
-pub record IsBare (d : Declaration) : Type 0 where
-  pub unplaced : unplaced_declaration d ≡ d
+pub record IsCanonical (d : Declaration) : Type 0 where
+  pub without_offsets : declaration_without_offsets d ≡ d
   pub unkeyed : All IsUnkeyed d.body
 
 -- the word for a name
 pub record IsWordOf (name : List ℕ) (w : Word) : Type 0 where
   pub named : w.text ≡ name
-  pub unplaced : unplaced_word w ≡ w
+  pub without_offsets : word_without_offset w ≡ w
 
 -- a public parameter
 pub record IsPublicOf (p : ParamInfo) (f : Formal) : Type 0 where
   pub declares : public_param f ≡ p
-  pub unplaced : unplaced_formal f ≡ f
+  pub without_offsets : formal_without_offsets f ≡ f
 
 -- a private parameter
 pub record IsPrivateOf (p : ParamInfo) (w : Word) : Type 0 where
   pub declares : private_param w ≡ p
-  pub unplaced : unplaced_word w ≡ w
+  pub without_offsets : word_without_offset w ≡ w
 
 -- a parameter of a message
 pub record IsFormalOf (params : List ParamInfo) (c : Carried) (f : Formal) : Type 0 where
   pub carries : IsCarried params f c
   pub unkeyed : f.key ≡ None
-  pub unplaced : unplaced_formal f ≡ f
+  pub without_offsets : formal_without_offsets f ≡ f
 
 -- a message
 pub record IsSchemaOf (roles : List (List ℕ)) (params : List ParamInfo) (m : Message) (s : Schema) : Type 0 where
   pub means : IsMessageFor roles params s m
   pub unkeyed : All (λ f. f.key ≡ None) s.params
-  pub unplaced : unplaced_message s ≡ s
+  pub without_offsets : message_without_offsets s ≡ s
 
 -- an item of the body, which is a message
 abbrev pub IsItemOf : List (List ℕ) → List ParamInfo → Message → Item → Type 0

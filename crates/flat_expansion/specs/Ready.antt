@@ -18,7 +18,7 @@ pub record IsAdorned (f : Formal) : Type 0 where
   pub not_opt : f.adorn ≢ Opt
 
 -- its roles and its parameters are declared, it has no `any` and no `opt`, and it carries not too many
-pub record IsReadyMessage (d : Declaration) (s : Schema) : Type 0 where
+pub record IsWellScopedMessage (d : Declaration) (s : Schema) : Type 0 where
   pub known_sender : Contains (texts d.roles) s.sender.text
   pub known_receiver : Contains (texts d.roles) s.receiver.text
   pub known_params : All (λ f. Contains (texts (param_words d)) f.name.text) s.params
@@ -26,19 +26,19 @@ pub record IsReadyMessage (d : Declaration) (s : Schema) : Type 0 where
   pub few : length s.params ≤ CARRIED_LIMIT
 
 -- a message that is ready, and no reference
-abbrev pub IsReadyItem : Declaration → Item → Type 0
-IsReadyItem d (Message s) = IsReadyMessage d s
-IsReadyItem d (Reference r) = ⊥
+abbrev pub IsWellScopedItem : Declaration → Item → Type 0
+IsWellScopedItem d (Message s) = IsWellScopedMessage d s
+IsWellScopedItem d (Reference r) = ⊥
 
 -- no two of the words are one name
-pub record AreApart (words : List Word) : Type 0 where
+pub record AreDistinct (words : List Word) : Type 0 where
   pub apart : AllPairs (λ v w. v.text ≢ w.text) words
 
 -- the roles have names of their own, and so have the parameters, public and private, and the messages
-pub record HasOwnNames (d : Declaration) : Type 0 where
-  pub roles : AreApart d.roles
-  pub params : AreApart (param_words d)
-  pub messages : AreApart (message_words d)
+pub record HasDistinctNames (d : Declaration) : Type 0 where
+  pub roles : AreDistinct d.roles
+  pub params : AreDistinct (param_words d)
+  pub messages : AreDistinct (message_words d)
 
 -- there are not too many of each
 pub record IsWithin (d : Declaration) : Type 0 where
@@ -48,9 +48,9 @@ pub record IsWithin (d : Declaration) : Type 0 where
   pub few_messages : length d.body ≤ MESSAGE_LIMIT
 
 -- a protocol that can be expanded
-pub record IsReady (d : Declaration) : Type 0 where
+pub record IsWellScoped (d : Declaration) : Type 0 where
   pub formed : IsDeclaration d
-  pub messages : All (IsReadyItem d) d.body
+  pub messages : All (IsWellScopedItem d) d.body
   pub adorned : All IsAdorned d.public
-  pub apart : HasOwnNames d
+  pub apart : HasDistinctNames d
   pub within : IsWithin d

@@ -5,8 +5,8 @@ ghost use Rattle.flat_expansion.specs.Expansion.{adornment_of, public_param, pri
 use super::images::messages_of;
 use bspl_parser::{Adorn, Declaration, Formal, Word};
 use bspl_types::{
-    Adornment, Duplicate, Expanded, NameList, NoMemory, PARAM_LIMIT, ParamInfo, ParamInfoList,
-    ROLE_LIMIT, Seq,
+    Adornment, Expanded, NameList, NoMemory, PARAM_LIMIT, ParamInfo, ParamInfoList, ROLE_LIMIT,
+    Seq, TryClone,
 };
 use std::alloc::Global;
 
@@ -32,7 +32,7 @@ pub fn expansion_of(alloc: Global, d: &Declaration) -> Result<Option<Expanded>, 
     };
     Expanded::assemble(
         alloc,
-        d.name.text.copy()?,
+        d.name.text.try_clone()?,
         roles,
         params,
         public as u32,
@@ -45,7 +45,7 @@ fn role_names(alloc: Global, words: &[Word]) -> Result<NameList, NoMemory>
 {
     let mut names = Seq::new(alloc);
     for word in words {
-        names.push(word.text.copy()?)?;
+        names.push(word.text.try_clone()?)?;
     }
     Ok(names)
 }
@@ -72,7 +72,7 @@ fn public_param(f: &Formal) -> Result<ParamInfo, NoMemory>
     ensures { IfOk result (λ p. p ≡ public_param f.now) }
 {
     Ok(ParamInfo {
-        name: f.name.text.copy()?,
+        name: f.name.text.try_clone()?,
         adornment: adornment_of(f.adorn),
         key: f.key.is_some(),
     })
@@ -82,7 +82,7 @@ fn private_param(w: &Word) -> Result<ParamInfo, NoMemory>
     ensures { IfOk result (λ p. p ≡ private_param w.now) }
 {
     Ok(ParamInfo {
-        name: w.text.copy()?,
+        name: w.text.try_clone()?,
         adornment: None,
         key: false,
     })

@@ -1,14 +1,14 @@
 ghost use Rattle.std.specs.Prelude.{◌≡◌, ◌≢◌, false, IsTrue, IfOk, None, Some, is_some};
 ghost use Rattle.std.specs.List.{All, AllZip};
 ghost use Rattle.bspl_types.specs.Name.{is_name};
-ghost use Rattle.bspl_parser.specs.Alike.{unplaced_key};
+ghost use Rattle.bspl_parser.specs.Alike.{key_without_offset};
 ghost use Rattle.bspl_parser.specs.Spelling.{IsDeclaration};
 ghost use Rattle.flat_expansion.specs.Expansion.{adornment_of, IsExpansionOf};
-ghost use Rattle.flat_expansion.specs.Flat.{IsBare, IsPrivateOf, IsPublicOf, IsWordOf};
+ghost use Rattle.flat_expansion.specs.Flat.{IsCanonical, IsPrivateOf, IsPublicOf, IsWordOf};
 
 use super::schemas::items_of;
 use bspl_parser::{Adorn, Declaration, Formal, FormalList, Word, WordList};
-use bspl_types::{Adornment, Duplicate, Expanded, Name, NoMemory, ParamInfo, Seq};
+use bspl_types::{Adornment, Expanded, Name, NoMemory, ParamInfo, Seq, TryClone};
 use std::alloc::Global;
 
 /// A protocol of messages alone that has the expansion. No word in it has a place in a text, so it
@@ -16,7 +16,7 @@ use std::alloc::Global;
 pub fn declaration_of(alloc: Global, x: &Expanded) -> Result<Declaration, NoMemory>
     ensures flat { IfOk result (λ d. IsExpansionOf d x.now) }
     ensures formed { IfOk result IsDeclaration }
-    ensures bare { IfOk result IsBare }
+    ensures bare { IfOk result IsCanonical }
 {
     let params = x.params.as_slice();
     let (public, private) = params.split_at(x.public as usize);
@@ -35,7 +35,7 @@ pub(crate) fn word_of(name: &Name) -> Result<Word, NoMemory>
     ensures { IfOk result (IsWordOf name.now) }
 {
     Ok(Word {
-        text: name.copy()?,
+        text: name.try_clone()?,
         offset: 0,
     })
 }
@@ -81,7 +81,7 @@ fn public_formal(p: &ParamInfo) -> Result<Formal, NoMemory>
 
 fn key_mark(key: bool) -> Option<u64>
     ensures marked { is_some result ≡ key }
-    ensures unplaced { unplaced_key result ≡ result }
+    ensures without_offsets { key_without_offset result ≡ result }
 {
     if key { Some(0) } else { None }
 }

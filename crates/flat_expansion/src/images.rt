@@ -2,12 +2,12 @@ ghost use Rattle.std.specs.Prelude.{◌≡◌, ◌<◌, ◌^◌, ℕ, List, leng
 ghost use Rattle.std.specs.List.{AllZip};
 ghost use Rattle.bspl_types.specs.declared.protocol.Carried.{Carried as Param};
 ghost use Rattle.bspl_types.specs.declared.protocol.Message.{Message as Sent};
-ghost use Rattle.flat_expansion.specs.Expansion.{role_place, param_place, IsCarried, IsMessageFor, IsImage};
+ghost use Rattle.flat_expansion.specs.Expansion.{role_index, param_index, IsCarried, IsMessageFor, IsMessageOfItem};
 
 use super::expansion::adornment_of;
 use bspl_parser::{Formal, Item, Schema};
 use bspl_types::{
-    Carried, CarriedList, Duplicate, Message, MessageList, Name, NoMemory, ParamInfo, Seq, place_of,
+    Carried, CarriedList, Message, MessageList, Name, NoMemory, ParamInfo, Seq, TryClone, index_of,
 };
 use std::alloc::Global;
 
@@ -21,8 +21,8 @@ pub fn messages_of(
     requires few_roles { length roles.now < 2 ^ 32 }
     requires few_params { length params.now < 2 ^ 32 }
     ensures { IfOk result (λ found. MatchOption found
-        ((ms : List Sent) → ¬ AllZip (IsImage roles.now params.now) body.now ms)
-        (AllZip (IsImage roles.now params.now) body.now)) }
+        ((ms : List Sent) → ¬ AllZip (IsMessageOfItem roles.now params.now) body.now ms)
+        (AllZip (IsMessageOfItem roles.now params.now) body.now)) }
 {
     let mut messages = Seq::new(alloc);
     for item in body {
@@ -43,8 +43,8 @@ fn image_of(
     requires few_roles { length roles.now < 2 ^ 32 }
     requires few_params { length params.now < 2 ^ 32 }
     ensures { IfOk result (λ found. MatchOption found
-        ((m : Sent) → ¬ IsImage roles.now params.now item.now m)
-        (IsImage roles.now params.now item.now)) }
+        ((m : Sent) → ¬ IsMessageOfItem roles.now params.now item.now m)
+        (IsMessageOfItem roles.now params.now item.now)) }
 {
     match item {
         Item::Message(schema) => message_for(alloc, roles, params, schema),
@@ -64,28 +64,28 @@ fn message_for(
         ((m : Sent) → ¬ IsMessageFor roles.now params.now schema.now m)
         (IsMessageFor roles.now params.now schema.now)) }
 {
-    let Some(sender) = role_place(roles, schema.sender.text.as_slice()) else {
+    let Some(sender) = role_index(roles, schema.sender.text.as_slice()) else {
         return Ok(None);
     };
-    let Some(receiver) = role_place(roles, schema.receiver.text.as_slice()) else {
+    let Some(receiver) = role_index(roles, schema.receiver.text.as_slice()) else {
         return Ok(None);
     };
     let Some(carried) = all_carried(alloc, params, schema.params.as_slice())? else {
         return Ok(None);
     };
     Ok(Some(Message {
-        name: schema.name.text.copy()?,
+        name: schema.name.text.try_clone()?,
         sender,
         receiver,
         carried,
     }))
 }
 
-fn role_place(roles: &[Name], name: &[u8]) -> Option<u32>
+fn role_index(roles: &[Name], name: &[u8]) -> Option<u32>
     requires { length roles.now < 2 ^ 32 }
-    ensures { result ≡ role_place roles.now name.now }
+    ensures { result ≡ role_index roles.now name.now }
 {
-    place_of(roles, name).map(|place| place as u32)
+    index_of(roles, name).map(|place| place as u32)
 }
 
 fn all_carried(
@@ -113,7 +113,7 @@ fn carried(params: &[ParamInfo], formal: &Formal) -> Option<Carried>
     ensures { MatchOption result
         ((c : Param) → ¬ IsCarried params.now formal.now c) (IsCarried params.now formal.now) }
 {
-    let place = place_of(params, formal.name.text.as_slice())?;
+    let place = index_of(params, formal.name.text.as_slice())?;
     let adornment = adornment_of(formal.adorn)?;
     Some(Carried {
         param: place as u32,

@@ -9,7 +9,7 @@ mod schemas;
 
 pub use expansion::expansion_of;
 pub use flattening::declaration_of;
-pub use ready::{expansion_of_ready, expansions_are_unique, ready_protocols_expand};
+pub use ready::{expansion_of_well_scoped, expansions_are_unique, well_scoped_protocols_expand};
 
 #[cfg(test)]
 mod limit_tests;

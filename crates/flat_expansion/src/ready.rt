@@ -2,7 +2,7 @@ ghost use Rattle.std.specs.Prelude.{◌≡◌, IfOk};
 ghost use Rattle.bspl_types.specs.declared.expanded.Expanded.{Expanded as Protocol};
 ghost use Rattle.bspl_parser.specs.declared.document.Declaration.{Declaration as Declared};
 ghost use Rattle.flat_expansion.specs.Expansion.{IsExpansionOf};
-ghost use Rattle.flat_expansion.specs.Ready.{IsReady};
+ghost use Rattle.flat_expansion.specs.Ready.{IsWellScoped};
 
 use super::expansion::expansion_of;
 use bspl_parser::Declaration;
@@ -10,8 +10,8 @@ use bspl_types::{Expanded, NoMemory};
 use std::alloc::Global;
 
 /// A law: a protocol that is ready has an expansion.
-pub fn ready_protocols_expand()
-    ensures { (d : Declared) → IsReady d → (x : Protocol) × IsExpansionOf d x }
+pub fn well_scoped_protocols_expand()
+    ensures { (d : Declared) → IsWellScoped d → (x : Protocol) × IsExpansionOf d x }
 {}
 
 /// A law: no protocol has two expansions.
@@ -20,8 +20,8 @@ pub fn expansions_are_unique()
 {}
 
 /// The expansion of a protocol that is ready.
-pub fn expansion_of_ready(alloc: Global, d: &Declaration) -> Result<Expanded, NoMemory>
-    requires { IsReady d.now }
+pub fn expansion_of_well_scoped(alloc: Global, d: &Declaration) -> Result<Expanded, NoMemory>
+    requires { IsWellScoped d.now }
     ensures { IfOk result (IsExpansionOf d.now) }
 {
     match expansion_of(alloc, d)? {

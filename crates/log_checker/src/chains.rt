@@ -4,8 +4,8 @@ ghost use Rattle.log_checker.specs.Stops.{ResolvesTo, LinkStops, ChainStops};
 
 use super::numbering::numbered;
 use super::refusal::Fault;
-use bspl_types::Duplicate;
 use clause_core::{Clause, ResolveRefusal, resolve};
+use list_base::Duplicate;
 use refutation_log::{Chain, Link};
 use std::alloc::Global;
 
@@ -30,7 +30,7 @@ pub fn chain_clause(
     }
     match folded {
         Some(clause) => Ok(clause),
-        None => Ok(first.copy()?),
+        None => Ok(first.try_clone()?),
     }
 }
 

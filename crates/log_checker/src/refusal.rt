@@ -1,4 +1,4 @@
-use bspl_types::NoMemory;
+use list_base::NoMemory;
 
 /// Why a log is not accepted. Steps and links count from 1.
 #[derive(Clone, Copy, Debug, PartialEq, Eq)]

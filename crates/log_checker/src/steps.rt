@@ -4,8 +4,8 @@ ghost use Rattle.log_checker.specs.Stops.{StepsStop, rejection};
 
 use super::chains::chain_clause;
 use super::refusal::{Fault, Reject};
-use bspl_types::Seq;
 use clause_core::{Clause, ClauseList};
+use list_base::Seq;
 use refutation_log::Chain;
 use std::alloc::Global;
 

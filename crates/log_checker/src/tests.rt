@@ -1,6 +1,6 @@
 use super::{Reject, check_log};
-use bspl_types::{NoMemory, Seq};
 use clause_core::{Clause, ClauseList, Formula, Lit};
+use list_base::{NoMemory, Seq};
 use refutation_log::{Chain, ChainList, Link, Log};
 use std::alloc::Global;
 use std::test::Fail;

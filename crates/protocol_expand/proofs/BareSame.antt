@@ -21,9 +21,9 @@ use Rattle.bspl_parser.specs.declared.document.Formal.{Formal}
 use Rattle.bspl_parser.specs.declared.document.Item.{Item}
 use Rattle.bspl_parser.specs.declared.document.Item.TheVariants as item
 use Rattle.bspl_parser.specs.declared.word.Word.{Word}
-use Rattle.bspl_parser.specs.Alike.{unplaced_declaration, unplaced_formal, unplaced_item, unplaced_key, unplaced_word}
+use Rattle.bspl_parser.specs.Alike.{declaration_without_offsets, formal_without_offsets, item_without_offsets, key_without_offset, word_without_offset}
 use Rattle.bspl_parser.specs.Layout.{printed}
-use Rattle.flat_expansion.specs.Expansion.{adornment_of, private_param, public_param, IsCarried, IsExpansionOf, IsImage}
+use Rattle.flat_expansion.specs.Expansion.{adornment_of, private_param, public_param, IsCarried, IsExpansionOf, IsMessageOfItem}
 use Rattle.flat_expansion.specs.Flat.{IsUnkeyed}
 use Rattle.protocol_expand.specs.Printed.{IsPrinted}
 use Rattle.protocol_expand.proofs.PlainPairs.{same_images, same_partners}
@@ -34,7 +34,7 @@ one_naming : (text : List ℕ) → IsProp (IsTrue (is_name text))
 one_naming text = hlevel props
 
 -- words of one text are one, but for their places
-same_word : (v w : Word) → v.text ≡ w.text → unplaced_word v ≡ unplaced_word w
+same_word : (v w : Word) → v.text ≡ w.text → word_without_offset v ≡ word_without_offset w
 same_word v w same = λ i. record {
   text = same i;
   offset = 0;
@@ -62,14 +62,14 @@ same_adorn : (a b : Adorn) → adornment_of a ≢ None → adornment_of b ≢ No
 same_adorn a b some some' same = sym (adorned_back a some) ∙ ap adorn_of same ∙ adorned_back b some'
 
 -- the word `key` is there in both or in neither
-same_key : (k l : Option ℕ) → is_some k ≡ is_some l → unplaced_key k ≡ unplaced_key l
+same_key : (k l : Option ℕ) → is_some k ≡ is_some l → key_without_offset k ≡ key_without_offset l
 same_key None None same = refl
 same_key None (Some l) same = absurd cc
 same_key (Some k) None same = absurd cc
 same_key (Some k) (Some l) same = refl
 
 -- parameters of one text, adornment and mark are one, but for their places
-same_formal : (f g : Formal) → f.adorn ≡ g.adorn → f.name.text ≡ g.name.text → is_some f.key ≡ is_some g.key → unplaced_formal f ≡ unplaced_formal g
+same_formal : (f g : Formal) → f.adorn ≡ g.adorn → f.name.text ≡ g.name.text → is_some f.key ≡ is_some g.key → formal_without_offsets f ≡ formal_without_offsets g
 same_formal f g adorn name key = λ i. record { adorn = adorn i; offset = 0; name = same_word f.name g.name name i; key = same_key f.key g.key key i }
 
 -- names with one place are one
@@ -79,12 +79,12 @@ same_name {X} name xs a b k d at at' =
     ∙ (bytes_eq-Decides (name (get_or xs k d)) b).0 (position-Some (λ (x : X). bytes_eq (name x) b) xs k d at').1
 
 -- public parameters of one meaning
-same_public : (f g : Formal) → adornment_of f.adorn ≢ None → adornment_of g.adorn ≢ None → public_param f ≡ public_param g → unplaced_formal f ≡ unplaced_formal g
+same_public : (f g : Formal) → adornment_of f.adorn ≢ None → adornment_of g.adorn ≢ None → public_param f ≡ public_param g → formal_without_offsets f ≡ formal_without_offsets g
 same_public f g some some' same =
     same_formal f g (same_adorn f.adorn g.adorn some some' (ap (λ (p : ParamInfo). p.adornment) same)) (ap (λ (p : ParamInfo). p.name) same) (ap (λ (p : ParamInfo). p.key) same)
 
 -- private ones
-same_private : (v w : Word) → Unit {0} → Unit {0} → private_param v ≡ private_param w → unplaced_word v ≡ unplaced_word w
+same_private : (v w : Word) → Unit {0} → Unit {0} → private_param v ≡ private_param w → word_without_offset v ≡ word_without_offset w
 same_private v w any any' same = same_word v w (ap (λ (p : ParamInfo). p.name) same)
 
 -- what a parameter of a message is adorned with
@@ -92,7 +92,7 @@ adorned_so : (a : Adorn) (b : Adornment) → adornment_of a ≡ Some b → adorn
 adorned_so a b is none = let never : Some b ≡ None = sym is ∙ none in cc
 
 -- parameters of messages that are carried in one way
-same_carried : (params : List ParamInfo) (f g : Formal) (c : Carried) → f.key ≡ None → g.key ≡ None → IsCarried params f c → IsCarried params g c → unplaced_formal f ≡ unplaced_formal g
+same_carried : (params : List ParamInfo) (f g : Formal) (c : Carried) → f.key ≡ None → g.key ≡ None → IsCarried params f c → IsCarried params g c → formal_without_offsets f ≡ formal_without_offsets g
 same_carried params f g c bare bare' carried carried' =
     same_formal f g
     (same_adorn f.adorn g.adorn (adorned_so f.adorn c.adornment carried.adorned) (adorned_so g.adorn c.adornment carried'.adorned) (carried.adorned ∙ sym carried'.adorned))
@@ -100,28 +100,28 @@ same_carried params f g c bare bare' carried carried' =
     (ap is_some (bare ∙ sym bare'))
 
 -- items of one message
-same_item : (roles : List (List ℕ)) (params : List ParamInfo) (i j : Item) (m : Message) → IsUnkeyed i → IsUnkeyed j → IsImage roles params i m → IsImage roles params j m → unplaced_item i ≡ unplaced_item j
+same_item : (roles : List (List ℕ)) (params : List ParamInfo) (i j : Item) (m : Message) → IsUnkeyed i → IsUnkeyed j → IsMessageOfItem roles params i m → IsMessageOfItem roles params j m → item_without_offsets i ≡ item_without_offsets j
 same_item roles params (item.Reference r) j m bare bare' image image' = absurd bare
 same_item roles params (item.Message s) (item.Reference r) m bare bare' image image' = absurd bare'
 same_item roles params (item.Message s) (item.Message t) m bare bare' image image' = λ i. item.Message (record {
   sender = same_word s.sender t.sender (same_name (λ name. name) roles s.sender.text t.sender.text m.sender [] image.sent image'.sent) i;
   receiver = same_word s.receiver t.receiver (same_name (λ name. name) roles s.receiver.text t.receiver.text m.receiver [] image.received image'.received) i;
   name = same_word s.name t.name (sym image.named ∙ image'.named) i;
-  params = same_partners (λ (f : Formal). f.key ≡ None) (IsCarried params) unplaced_formal (same_carried params) s.params t.params m.carried bare bare' image.carries image'.carries i;
+  params = same_partners (λ (f : Formal). f.key ≡ None) (IsCarried params) formal_without_offsets (same_carried params) s.params t.params m.carried bare bare' image.carries image'.carries i;
 })
 
 -- protocols of one expansion are one, but for their places
-same_unplaced : (p q : Declaration) (x : Expanded) → IsExpansionOf p x → IsExpansionOf q x → All IsUnkeyed p.body → All IsUnkeyed q.body → unplaced_declaration p ≡ unplaced_declaration q
+same_unplaced : (p q : Declaration) (x : Expanded) → IsExpansionOf p x → IsExpansionOf q x → All IsUnkeyed p.body → All IsUnkeyed q.body → declaration_without_offsets p ≡ declaration_without_offsets q
 same_unplaced p q x expands expands' bare bare' = λ i. record {
   name = same_word p.name q.name (sym expands.named ∙ expands'.named) i;
-  roles = same_images (λ (w : Word). Unit {0}) (λ (w : Word). w.text) unplaced_word (λ v w any any' same. same_word v w same) p.roles q.roles (λ k e within. tt) (λ k e within. tt) (sym expands.roles ∙ expands'.roles) i;
-  public = same_images (λ (f : Formal). adornment_of f.adorn ≢ None) public_param unplaced_formal same_public p.public q.public (public_adorned p x expands) (public_adorned q x expands') (public_part p x expands ∙ sym (public_part q x expands')) i;
-  private = same_images (λ (w : Word). Unit {0}) private_param unplaced_word same_private p.private q.private (λ k e within. tt) (λ k e within. tt) (private_part p x expands ∙ sym (private_part q x expands')) i;
-  body = same_partners IsUnkeyed (IsImage x.roles x.params) unplaced_item (same_item x.roles x.params) p.body q.body x.messages bare bare' expands.images expands'.images i;
+  roles = same_images (λ (w : Word). Unit {0}) (λ (w : Word). w.text) word_without_offset (λ v w any any' same. same_word v w same) p.roles q.roles (λ k e within. tt) (λ k e within. tt) (sym expands.roles ∙ expands'.roles) i;
+  public = same_images (λ (f : Formal). adornment_of f.adorn ≢ None) public_param formal_without_offsets same_public p.public q.public (public_adorned p x expands) (public_adorned q x expands') (public_part p x expands ∙ sym (public_part q x expands')) i;
+  private = same_images (λ (w : Word). Unit {0}) private_param word_without_offset same_private p.private q.private (λ k e within. tt) (λ k e within. tt) (private_part p x expands ∙ sym (private_part q x expands')) i;
+  body = same_partners IsUnkeyed (IsMessageOfItem x.roles x.params) item_without_offsets (same_item x.roles x.params) p.body q.body x.messages bare bare' expands.images expands'.images i;
 }
 
 -- so an expansion has one text
 pub one_text : (x : Expanded) (one other : List ℕ) → IsPrinted x one → IsPrinted x other → one ≡ other
 one_text x one other is is' =
-    let same : is.flat ≡ is'.flat = sym is.bare.unplaced ∙ same_unplaced is.flat is'.flat x is.expands is'.expands is.bare.unkeyed is'.bare.unkeyed ∙ is'.bare.unplaced in
+    let same : is.flat ≡ is'.flat = sym is.bare.without_offsets ∙ same_unplaced is.flat is'.flat x is.expands is'.expands is.bare.unkeyed is'.bare.unkeyed ∙ is'.bare.without_offsets in
     is.layout ∙ ap (λ (p : Declaration). printed (record { protocols = p ∷ [] })) same ∙ sym is'.layout

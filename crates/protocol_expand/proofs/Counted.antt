@@ -17,7 +17,7 @@ use Rattle.bspl_parser.specs.declared.document.Schema.{Schema}
 use Rattle.protocol_names.specs.Names.{key_words, param_words}
 use Rattle.protocol_paths.specs.Flat.{IsFlat, IsImageFormal, IsImageItem, entry, privates_at}
 use Rattle.protocol_paths.specs.Path.{Step, end_of, message_paths, paths}
-use Rattle.protocol_paths.specs.Place.{Place, place_at, start}
+use Rattle.protocol_paths.specs.Scope.{Scope, scope_at, start}
 use Rattle.protocol_paths.proofs.Entries.{same_end}
 use Rattle.protocol_limits.specs.Counts.{carried_count, key_count, message_count, private_count, wide_within}
 use Rattle.protocol_limits.specs.Limits.{IsWithin as IsWithinLimits, is_over, limit, limits}
@@ -48,13 +48,13 @@ within_at protocols number k within is_place =
     not_over l.count l.most (none_found is_over (limits protocols number) within k (limit Messages 0 0) is_place)
 
 -- there is an entry for each private parameter at the ends of paths
-entries_long : (place : Place) (list : List (List Step)) → length (flat_map (λ path. privates_at (place_at place path)) list) ≡ length (flat_map (λ path. (end_of place.protocol path).private) list)
+entries_long : (place : Scope) (list : List (List Step)) → length (flat_map (λ path. privates_at (scope_at place path)) list) ≡ length (flat_map (λ path. (end_of place.protocol path).private) list)
 entries_long place [] = refl
 entries_long place (path ∷ list) =
-    let here = privates_at (place_at place path) in
+    let here = privates_at (scope_at place path) in
     let own = (end_of place.protocol path).private in
     let long : length here ≡ length own = length-map _ _ ∙ ap (λ (p : Declaration). length p.private) (same_end place path) in
-    length-append here (flat_map (λ p. privates_at (place_at place p)) list)
+    length-append here (flat_map (λ p. privates_at (scope_at place p)) list)
     ∙ (λ i. long i + entries_long place list i)
     ∙ sym (length-append own (flat_map (λ p. (end_of place.protocol p).private) list))
 
@@ -114,9 +114,9 @@ CarriesFew (Message s) = length s.params ≤ CARRIED_LIMIT
 CarriesFew (Reference r) = ⊥
 
 -- an image carries as many as its message
-image_few : (place : Place) (x : List Step × Schema) (i : Item) → width x ≤ CARRIED_LIMIT → IsImageItem place x i → CarriesFew i
+image_few : (place : Scope) (x : List Step × Schema) (i : Item) → width x ≤ CARRIED_LIMIT → IsImageItem place x i → CarriesFew i
 image_few place (path, m) (Reference r) few image = absurd image
-image_few place (path, m) (Message s) few image = omega (arith, few, as_long (IsImageFormal (place_at place path)) m.params s.params image.carries)
+image_few place (path, m) (Message s) few image = omega (arith, few, as_long (IsImageFormal (scope_at place path)) m.params s.params image.carries)
 
 -- what was found at the asked protocol
 carried_at : (protocols : List Declaration) (number : ℕ) (top : Declaration) → slice_get protocols number ≡ Some top → carried_count protocols number ≡ first_width (message_paths (length protocols) protocols top)

@@ -18,7 +18,7 @@ use Rattle.protocol_names.specs.Fault.{HasNoFault, IsDuplicate, repeated, IsFaul
 use Rattle.protocol_names.specs.Finding.{HasNone, stands}
 use Rattle.protocol_names.specs.Names.{IsSameArity, names_of, param_words, params_used, protocol_of, roles_used, texts}
 use Rattle.protocol_names.proofs.Places.{has_place}
-use Rattle.flat_expansion.specs.Ready.{AreApart, IsAdorned}
+use Rattle.flat_expansion.specs.Ready.{AreDistinct, IsAdorned}
 
 -- the item's roles and parameters are declared, and adorned as an expansion's are
 pub record IsFaultless (p : Declaration) (i : Item) : Type 0 where
@@ -93,7 +93,7 @@ stands_before words i j e before within =
     (i, omega (arith, inside, length-map (take j words) (λ (w : Word). w.text)), here)
 
 -- words without a duplicate are apart
-words_are_apart : (words : List Word) → HasNone (IsDuplicate words) → AreApart words
+words_are_apart : (words : List Word) → HasNone (IsDuplicate words) → AreDistinct words
 words_are_apart words no_fault = record {
   apart = λ i j e before within same.
       let w = get_or words j e in
@@ -106,5 +106,5 @@ words_are_apart words no_fault = record {
 }
 
 -- so are the roles of a protocol
-pub declared_roles_are_apart : (d : Document) (p : Declaration) → HasNoFault d → Contains d.protocols p → AreApart p.roles
+pub declared_roles_are_apart : (d : Document) (p : Declaration) → HasNoFault d → Contains d.protocols p → AreDistinct p.roles
 declared_roles_are_apart d p no_fault among = words_are_apart p.roles (λ kind offset fault. none_in d p no_fault among kind offset (inl (inl fault)))

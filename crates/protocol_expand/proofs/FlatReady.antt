@@ -9,16 +9,16 @@ use Rattle.bspl_parser.specs.declared.document.Formal.{Formal}
 use Rattle.bspl_parser.specs.declared.document.Item.{Item}
 use Rattle.bspl_parser.specs.declared.document.Item.TheVariants.{Message, Reference}
 use Rattle.bspl_parser.specs.declared.word.Word.{Word}
-use Rattle.bspl_parser.specs.Spelling.{IsDeclaration, IsFormal, IsItem, IsWellFormed}
+use Rattle.bspl_parser.specs.Spelling.{IsDeclaration, IsFormal, IsItem, IsDocument}
 use Rattle.protocol_paths.specs.Flat.{IsFlat}
-use Rattle.flat_expansion.specs.Ready.{AreApart, IsAdorned, IsReady, IsReadyItem}
+use Rattle.flat_expansion.specs.Ready.{AreDistinct, IsAdorned, IsWellScoped, IsWellScopedItem}
 use Rattle.protocol_expand.specs.Asked.{IsFlatFor}
 use Rattle.protocol_expand.specs.Repeats.{AreOwn}
 use Rattle.protocol_expand.proofs.Counted.{CarriesFew, counts_are_within, messages_carry_few}
 use Rattle.protocol_expand.proofs.Resolved.{IsResolvedItem, items_are_resolved, public_is_adorned, roles_are_apart}
 
 -- a protocol of a document is as well formed as the document
-top_formed : (d : Document) (number : ℕ) (top : Declaration) → IsWellFormed d → slice_get d.protocols number ≡ Some top → IsDeclaration top
+top_formed : (d : Document) (number : ℕ) (top : Declaration) → IsDocument d → slice_get d.protocols number ≡ Some top → IsDeclaration top
 top_formed d number top formed stands =
     subst (λ (p : Declaration). IsDeclaration p) (get_or_from_slice_get d.protocols number top top stands)
     (formed.each number top (slice_get_within d.protocols number top stands))
@@ -29,7 +29,7 @@ item_formed flat (Message s) resolved = resolved.formed
 item_formed flat (Reference r) resolved = absurd resolved
 
 -- and with not too many parameters it is ready
-item_ready : (flat : Declaration) (i : Item) → IsResolvedItem flat i → CarriesFew i → IsReadyItem flat i
+item_ready : (flat : Declaration) (i : Item) → IsResolvedItem flat i → CarriesFew i → IsWellScopedItem flat i
 item_ready flat (Reference r) resolved few = absurd resolved
 item_ready flat (Message s) resolved few = record {
   known_sender = resolved.known_sender;
@@ -49,7 +49,7 @@ flat_formed protocols top flat formed flattened items = record {
 }
 
 -- a protocol that an asked one stands for is ready to be expanded, if its names are its own
-pub flat_is_ready : (d : Document) (name : List ℕ) (flat : Declaration) → IsWellFormed d → IsFlatFor d name flat → AreOwn flat → IsReady flat
+pub flat_is_ready : (d : Document) (name : List ℕ) (flat : Declaration) → IsDocument d → IsFlatFor d name flat → AreOwn flat → IsWellScoped flat
 flat_is_ready d name flat formed stands_for own =
     let number = stands_for.number in
     let top = stands_for.top in
@@ -63,7 +63,7 @@ flat_is_ready d name flat formed stands_for own =
       messages = λ k e inside. item_ready flat (get_or flat.body k e) (resolved k e inside) (few k e inside);
       adorned = subst (All IsAdorned) (sym flattened.public) (public_is_adorned d name number top asked);
       apart = record {
-        roles = subst AreApart (sym flattened.roles) (roles_are_apart d name number top asked);
+        roles = subst AreDistinct (sym flattened.roles) (roles_are_apart d name number top asked);
         params = own.params;
         messages = own.messages;
       };

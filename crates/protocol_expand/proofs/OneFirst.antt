@@ -12,7 +12,7 @@ use Rattle.protocol_names.specs.Finding.{IsFirst, IsNotAfter, rank}
 use Rattle.protocol_names.specs.Names.{texts}
 use Rattle.reference_graph.specs.Counting.{saturated}
 use Rattle.protocol_limits.specs.Limits.{IsFirstOver, Limit}
-use Rattle.flat_expansion.specs.Ready.{AreApart}
+use Rattle.flat_expansion.specs.Ready.{AreDistinct}
 use Rattle.protocol_expand.specs.Repeats.{IsFirstRepeated}
 
 -- the kind of a rank
@@ -67,7 +67,7 @@ meeting (z ∷ front) (z' ∷ front') back back' x y same =
     ]
 
 -- words are not apart if one has the name of one before it
-not_apart : (words front back : List Word) (w : Word) → words ≡ front ++ w ∷ back → AreApart words → Contains (texts front) w.text → ⊥
+not_apart : (words front back : List Word) (w : Word) → words ≡ front ++ w ∷ back → AreDistinct words → Contains (texts front) w.text → ⊥
 not_apart words front back w parts words_apart again =
     let text = λ (v : Word). v.text in
     let inside : again.0 < length front = omega (arith, length-map front text, again.1) in
@@ -85,5 +85,5 @@ one_repeated words offset other one two =
     ]
 
 -- and there is none where words are apart
-pub none_repeated : (words : List Word) (offset : ℕ) → AreApart words → IsFirstRepeated words offset → ⊥
+pub none_repeated : (words : List Word) (offset : ℕ) → AreDistinct words → IsFirstRepeated words offset → ⊥
 none_repeated words offset apart repeated = not_apart words repeated.front repeated.back repeated.word repeated.parts apart repeated.again

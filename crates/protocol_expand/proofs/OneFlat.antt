@@ -9,7 +9,7 @@ use Rattle.bspl_parser.specs.declared.word.Word.{Word}
 use Rattle.bspl_parser.proofs.WordLemmas.{Word_same}
 use Rattle.protocol_paths.specs.Flat.{IsFlat, IsImage, IsImageFormal, IsImageItem, entry}
 use Rattle.protocol_paths.specs.Path.{Step, message_paths}
-use Rattle.protocol_paths.specs.Place.{Place, param_at, place_at, role_at, start}
+use Rattle.protocol_paths.specs.Scope.{Scope, param_at, scope_at, role_at, start}
 use Rattle.protocol_paths.specs.Renamed.{IsRenamed}
 use Rattle.flat_expansion.proofs.Expanding.{one_list}
 
@@ -18,7 +18,7 @@ one_word : (name : List ℕ) (w one other : Word) → IsRenamed name w one → I
 one_word name w one other is_one is_other = Word_same one other (is_one.text ∙ sym is_other.text) (is_one.offset ∙ sym is_other.offset)
 
 -- so is a parameter
-one_formal : (place : Place) (f one other : Formal) → IsImageFormal place f one → IsImageFormal place f other → one ≡ other
+one_formal : (place : Scope) (f one other : Formal) → IsImageFormal place f one → IsImageFormal place f other → one ≡ other
 one_formal place f one other is_one is_other = λ i. record {
   adorn = (is_one.adorn ∙ sym is_other.adorn) i;
   offset = (is_one.offset ∙ sym is_other.offset) i;
@@ -27,7 +27,7 @@ one_formal place f one other is_one is_other = λ i. record {
 }
 
 -- and a message
-one_message : (place : Place) (m one other : Schema) → IsImage place m one → IsImage place m other → one ≡ other
+one_message : (place : Scope) (m one other : Schema) → IsImage place m one → IsImage place m other → one ≡ other
 one_message place m one other is_one is_other = λ i. record {
   sender = one_word (role_at place m.sender.text) m.sender one.sender other.sender is_one.sent is_other.sent i;
   receiver = one_word (role_at place m.receiver.text) m.receiver one.receiver other.receiver is_one.received is_other.received i;
@@ -36,10 +36,10 @@ one_message place m one other is_one is_other = λ i. record {
 }
 
 -- at the end of a path stands one message
-one_item : (place : Place) (at : List Step × Schema) (one other : Item) → IsImageItem place at one → IsImageItem place at other → one ≡ other
+one_item : (place : Scope) (at : List Step × Schema) (one other : Item) → IsImageItem place at one → IsImageItem place at other → one ≡ other
 one_item place (path, m) (Reference r) other is_one is_other = absurd is_one
 one_item place (path, m) (Message one) (Reference r) is_one is_other = absurd is_other
-one_item place (path, m) (Message one) (Message other) is_one is_other = ap Message (one_message (place_at place path) m one other is_one is_other)
+one_item place (path, m) (Message one) (Message other) is_one is_other = ap Message (one_message (scope_at place path) m one other is_one is_other)
 
 -- words of the same entries are the same
 one_entries : (one other : List Word) → map entry one ≡ map entry other → one ≡ other

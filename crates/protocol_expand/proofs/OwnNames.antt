@@ -8,14 +8,14 @@ use Rattle.bspl_parser.specs.declared.document.Declaration.{Declaration}
 use Rattle.bspl_parser.specs.declared.word.Word.{Word}
 use Rattle.protocol_names.specs.Names.{message_words, param_words, texts}
 use Rattle.flat_expansion.specs.Expansion.{IsExpansionOf}
-use Rattle.flat_expansion.specs.Ready.{AreApart}
+use Rattle.flat_expansion.specs.Ready.{AreDistinct}
 use Rattle.flat_expansion.proofs.Mapped.{mapped_pairs, pairs_of_mapped}
 use Rattle.protocol_expand.specs.Repeats.{AreOwn, RepeatsName}
 use Rattle.protocol_expand.proofs.OneFirst.{none_repeated}
 use Rattle.protocol_expand.proofs.PlainParts.{declared_messages, declared_params}
 
 -- words are apart where what is named so is
-pub names_apart : {X : Type 0} (name : X → List ℕ) (xs : List X) (words : List Word) → map name xs ≡ texts words → AllPairs (λ a b. name a ≢ name b) xs → AreApart words
+pub names_apart : {X : Type 0} (name : X → List ℕ) (xs : List X) (words : List Word) → map name xs ≡ texts words → AllPairs (λ a b. name a ≢ name b) xs → AreDistinct words
 names_apart name xs words same apart = record {
   apart = pairs_of_mapped (λ a b. a ≢ b) (λ (w : Word). w.text) words (subst (AllPairs (λ a b. a ≢ b)) same (mapped_pairs (λ a b. a ≢ b) name xs apart));
 }

@@ -5,7 +5,7 @@ use Rattle.bspl_types.specs.declared.expanded.Expanded.{Expanded}
 use Rattle.bspl_parser.specs.declared.document.Declaration.{Declaration}
 use Rattle.bspl_parser.specs.declared.document.Document.{Document}
 use Rattle.protocol_names.specs.Fault.{IsDuplicate, IsFaultIn}
-use Rattle.protocol_names.specs.Finding.{Either, HasNone, OfSome}
+use Rattle.protocol_names.specs.Finding.{EitherFault, HasNone, OfSome}
 use Rattle.protocol_names.specs.Names.{protocol_words}
 use Rattle.protocol_paths.specs.Flat.{IsFlat}
 use Rattle.protocol_limits.specs.Graph.{number_of}
@@ -31,7 +31,7 @@ plain_expands d p x alone plain expands = record {
     number = 0;
     top = p;
     asked = record {
-      faultless = subst (λ ps. HasNone (Either (IsDuplicate (protocol_words ps)) (OfSome (IsFaultIn ps) ps))) (sym alone) (without_fault p x plain expands);
+      faultless = subst (λ ps. HasNone (EitherFault (IsDuplicate (protocol_words ps)) (OfSome (IsFaultIn ps) ps))) (sym alone) (without_fault p x plain expands);
       found = subst (λ ps. number_of ps p.name.text ≡ Some 0) (sym alone) (first_number p);
       stands = subst (λ (ps : List Declaration). slice_get ps 0 ≡ Some p) (sym alone) refl;
     };

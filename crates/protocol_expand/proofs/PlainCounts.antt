@@ -10,7 +10,7 @@ use Rattle.bspl_types.specs.declared.limits.TheConstants.{CARRIED_LIMIT, KEY_LIM
 use Rattle.bspl_types.specs.declared.protocol.Message.{Message}
 use Rattle.bspl_types.specs.declared.protocol.ParamInfo.{ParamInfo}
 use Rattle.bspl_types.specs.declared.refusals.What.TheVariants.{Carried, Depth, Keys, Messages, Parameters, Protocols, Roles}
-use Rattle.bspl_types.specs.Shape.{key_places}
+use Rattle.bspl_types.specs.Shape.{key_indices}
 use Rattle.bspl_parser.specs.declared.document.Declaration.{Declaration}
 use Rattle.bspl_parser.specs.declared.document.Item.{Item}
 use Rattle.bspl_parser.specs.declared.document.Item.TheVariants as item
@@ -22,7 +22,7 @@ use Rattle.protocol_limits.specs.Limits.{IsWithin}
 use Rattle.protocol_limits.specs.Wide.{first_wide, or_else}
 use Rattle.protocol_limits.proofs.LimitLemmas.{after_carried, after_depth, after_keys, after_params, after_protocols, after_roles, over_later, params_at, roles_at}
 use Rattle.protocol_limits.proofs.WideOrder.{wide_at, wide_here-suc}
-use Rattle.flat_expansion.specs.Expansion.{public_param, private_param, IsCarried, IsExpansionOf, IsImage}
+use Rattle.flat_expansion.specs.Expansion.{public_param, private_param, IsCarried, IsExpansionOf, IsMessageOfItem}
 use Rattle.flat_expansion.proofs.Mapped.{as_long}
 use Rattle.flat_expansion.proofs.Shaped.{as_many_keys}
 use Rattle.protocol_expand.specs.Expansion.{IsPlain}
@@ -35,7 +35,7 @@ unfolding key_count
 keys_here p = refl
 
 -- no message has too many parameters
-none_wide : (protocols : List Declaration) (found : ℕ → ℕ) (roles : List (List ℕ)) (params : List ParamInfo) (body : List Item) (ms : List Message) → AllZip (IsImage roles params) body ms → All (λ m. length m.carried ≤ CARRIED_LIMIT) ms → first_wide protocols found body ≡ 0
+none_wide : (protocols : List Declaration) (found : ℕ → ℕ) (roles : List (List ℕ)) (params : List ParamInfo) (body : List Item) (ms : List Message) → AllZip (IsMessageOfItem roles params) body ms → All (λ m. length m.carried ≤ CARRIED_LIMIT) ms → first_wide protocols found body ≡ 0
 none_wide protocols found roles params [] ms images few = refl
 none_wide protocols found roles params (i ∷ body) [] images few = absurd images
 none_wide protocols found roles params (item.Reference r ∷ body) (m ∷ ms) images few = absurd images.0
@@ -63,7 +63,7 @@ few_params p x plain expands =
 
 -- nor keys
 few_keys : (p : Declaration) (x : Expanded) → IsExpansionOf p x → key_count (p ∷ []) 0 ≤ KEY_LIMIT
-few_keys p x expands = omega (arith, keys_here p, ap length (x.shape.key_list ∙ ap key_places expands.params), as_many_keys 0 p.public p.private, x.shape.counts.few_keys)
+few_keys p x expands = omega (arith, keys_here p, ap length (x.shape.key_list ∙ ap key_indices expands.params), as_many_keys 0 p.public p.private, x.shape.counts.few_keys)
 
 -- nor messages
 few_messages : (p : Declaration) (x : Expanded) → IsPlain p → IsExpansionOf p x → message_count (p ∷ []) 0 ≤ MESSAGE_LIMIT

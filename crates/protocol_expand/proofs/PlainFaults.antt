@@ -20,22 +20,22 @@ use Rattle.bspl_parser.specs.declared.document.Item.TheVariants as item
 use Rattle.bspl_parser.specs.declared.word.Word.{Word}
 use Rattle.protocol_names.specs.declared.fault.FaultKind.{FaultKind as Kind}
 use Rattle.protocol_names.specs.declared.fault.FaultKind.TheVariants.{BadAdornment, Unknown}
-use Rattle.protocol_names.specs.Fault.{IsDuplicate, IsFaultIn, IsForeignKey, IsItemFault, IsNamedTwice, IsParamFault, IsUnknown, IsUnsupported, IsUseFault, repeated}
-use Rattle.protocol_names.specs.Finding.{Either, HasNone, OfSome}
+use Rattle.protocol_names.specs.Fault.{IsDuplicate, IsFaultIn, IsForeignKey, IsItemFault, IsNamedTwice, IsParamFault, IsUnknown, IsUnsupported, IsTargetFault, repeated}
+use Rattle.protocol_names.specs.Finding.{EitherFault, HasNone, OfSome}
 use Rattle.protocol_names.specs.Names.{message_words, names_of, param_words, protocol_words, texts}
 use Rattle.protocol_names.proofs.Faults.{no_key}
 use Rattle.protocol_names.proofs.Findings.{stands_not}
 use Rattle.protocol_names.proofs.Places.{has_place}
-use Rattle.flat_expansion.specs.Expansion.{adornment_of, param_place, role_place, IsCarried, IsExpansionOf, IsImage}
+use Rattle.flat_expansion.specs.Expansion.{adornment_of, param_index, role_index, IsCarried, IsExpansionOf, IsMessageOfItem}
 use Rattle.flat_expansion.specs.Flat.{IsUnkeyed}
-use Rattle.flat_expansion.specs.Ready.{AreApart}
+use Rattle.flat_expansion.specs.Ready.{AreDistinct}
 use Rattle.protocol_expand.specs.Expansion.{IsPlain}
 use Rattle.protocol_expand.proofs.PlainPairs.{firsts}
 use Rattle.protocol_expand.proofs.OwnNames.{names_apart, own_names}
 use Rattle.protocol_expand.proofs.PlainParts.{declared_params, public_adorned}
 
 -- there is no fault of either sort
-none_of_two : (One Other : Kind → ℕ → Type 0) → HasNone One → HasNone Other → HasNone (Either One Other)
+none_of_two : (One Other : Kind → ℕ → Type 0) → HasNone One → HasNone Other → HasNone (EitherFault One Other)
 none_of_two One Other no_one no_other = λ kind offset either. ⊎_elim (no_one kind offset) (no_other kind offset) either
 
 -- there is none of any item
@@ -43,7 +43,7 @@ none_of_all : {X : Type 0} (Fault : X → Kind → ℕ → Type 0) (xs : List X)
 none_of_all {X} Fault xs each = λ kind offset some. All-contains (λ (x : X). HasNone (Fault x)) xs some.item each some.among kind offset some.has
 
 -- words that are apart have no duplicate
-none_twice : (words : List Word) → AreApart words → HasNone (IsDuplicate words)
+none_twice : (words : List Word) → AreDistinct words → HasNone (IsDuplicate words)
 none_twice words apart kind offset (repeated w again) =
     let k = again.before.0 in
     let within : k < length again.front = omega (arith, again.before.1, length-map again.front (λ (v : Word). v.text)) in
@@ -57,7 +57,7 @@ none_twice words apart kind offset (repeated w again) =
     ∙ sym (ap text_of (get_or-append_seam again.front w again.back w)))
 
 -- one word is apart
-one_apart : (w : Word) → AreApart (w ∷ [])
+one_apart : (w : Word) → AreDistinct (w ∷ [])
 one_apart w = record { apart = λ i j d before within same. omega (arith, before, within) }
 
 -- an adornment of an expansion is supported
@@ -65,13 +65,13 @@ supported : (f : Formal) → adornment_of f.adorn ≢ None → HasNone (IsUnsupp
 supported f adorned = stands_not ((f.adorn ≡ Any) ⊎ (f.adorn ≡ Opt)) BadAdornment f.offset (λ other. ⊎_elim (λ is_any. adorned (ap adornment_of is_any)) (λ is_opt. adorned (ap adornment_of is_opt)) other)
 
 -- a role that has a place is declared
-known_role : (roles : List (List ℕ)) (p : Declaration) (w : Word) (k : ℕ) → roles ≡ texts p.roles → role_place roles w.text ≡ Some k → HasNone (IsUnknown (texts p.roles) w)
+known_role : (roles : List (List ℕ)) (p : Declaration) (w : Word) (k : ℕ) → roles ≡ texts p.roles → role_index roles w.text ≡ Some k → HasNone (IsUnknown (texts p.roles) w)
 known_role roles p w k role_names found =
     let known : Contains roles w.text = (has_place roles w.text).0 (ap is_some found) in
     stands_not (¬ Contains (texts p.roles) w.text) Unknown w.offset (λ absent. absent (subst (λ names. Contains names w.text) role_names known))
 
 -- and so is a parameter
-known_param : (params : List ParamInfo) (p : Declaration) (w : Word) (k : ℕ) → map (λ q. q.name) params ≡ texts (param_words p) → param_place params w.text ≡ Some k → HasNone (IsUnknown (texts (param_words p)) w)
+known_param : (params : List ParamInfo) (p : Declaration) (w : Word) (k : ℕ) → map (λ q. q.name) params ≡ texts (param_words p) → param_index params w.text ≡ Some k → HasNone (IsUnknown (texts (param_words p)) w)
 known_param params p w k param_names found =
     let name_of = λ (q : ParamInfo). q.name in
     let none : ParamInfo = record { name = w.text; adornment = None; key = false } in
@@ -82,28 +82,28 @@ known_param params p w k param_names found =
 -- a parameter of a message is without fault
 good_param : (params : List ParamInfo) (p : Declaration) → map (λ q. q.name) params ≡ texts (param_words p) → (f : Formal) (c : Carried) → f.key ≡ None → IsCarried params f c → HasNone (IsParamFault (names_of p) f)
 good_param params p param_names f c bare carries =
-    none_of_two (IsUnknown (names_of p).params f.name) (Either (IsUnsupported f) (IsForeignKey (names_of p).keys f)) (known_param params p f.name c.param param_names carries.place)
+    none_of_two (IsUnknown (names_of p).params f.name) (EitherFault (IsUnsupported f) (IsForeignKey (names_of p).keys f)) (known_param params p f.name c.param param_names carries.place)
     (none_of_two (IsUnsupported f) (IsForeignKey (names_of p).keys f) (supported f (λ none. let never : Some c.adornment ≡ None = sym carries.adorned ∙ none in cc)) (no_key (names_of p).keys f bare))
 
 -- a message is without fault
-good_item : (protocols : List Declaration) (roles : List (List ℕ)) (params : List ParamInfo) (p : Declaration) → roles ≡ texts p.roles → map (λ q. q.name) params ≡ texts (param_words p) → (i : Item) (m : Message) → IsUnkeyed i → IsImage roles params i m → HasNone (IsItemFault protocols (names_of p) i)
+good_item : (protocols : List Declaration) (roles : List (List ℕ)) (params : List ParamInfo) (p : Declaration) → roles ≡ texts p.roles → map (λ q. q.name) params ≡ texts (param_words p) → (i : Item) (m : Message) → IsUnkeyed i → IsMessageOfItem roles params i m → HasNone (IsItemFault protocols (names_of p) i)
 good_item protocols roles params p role_names param_names (item.Reference r) m bare image = absurd bare
 good_item protocols roles params p role_names param_names (item.Message s) m bare image =
     let role_faults = IsUnknown (names_of p).roles in
     let param_faults = IsParamFault (names_of p) in
-    let no_use : HasNone (IsUseFault protocols (item.Message s)) = λ kind offset fault. fault in
-    none_of_two (OfSome role_faults (s.sender ∷ s.receiver ∷ [])) (Either (OfSome param_faults s.params) (IsUseFault protocols (item.Message s)))
+    let no_use : HasNone (IsTargetFault protocols (item.Message s)) = λ kind offset fault. fault in
+    none_of_two (OfSome role_faults (s.sender ∷ s.receiver ∷ [])) (EitherFault (OfSome param_faults s.params) (IsTargetFault protocols (item.Message s)))
     (none_of_all role_faults (s.sender ∷ s.receiver ∷ [])
     (All-cons (λ (w : Word). HasNone (role_faults w)) s.sender (s.receiver ∷ []) (known_role roles p s.sender m.sender role_names image.sent)
     (All-cons (λ (w : Word). HasNone (role_faults w)) s.receiver [] (known_role roles p s.receiver m.receiver role_names image.received) (All-nil (λ (w : Word). HasNone (role_faults w))))))
-    (none_of_two (OfSome param_faults s.params) (IsUseFault protocols (item.Message s))
+    (none_of_two (OfSome param_faults s.params) (IsTargetFault protocols (item.Message s))
     (none_of_all param_faults s.params (firsts (λ (f : Formal). f.key ≡ None) (IsCarried params) (λ (f : Formal). HasNone (param_faults f)) (good_param params p param_names) s.params m.carried bare image.carries))
     no_use)
 
 -- no two names of the protocol are one
 good_names : (p : Declaration) (x : Expanded) → IsExpansionOf p x → HasNone (IsNamedTwice p)
 good_names p x expands =
-    none_of_two (IsDuplicate p.roles) (Either (IsDuplicate (param_words p)) (IsDuplicate (message_words p)))
+    none_of_two (IsDuplicate p.roles) (EitherFault (IsDuplicate (param_words p)) (IsDuplicate (message_words p)))
     (none_twice p.roles (names_apart (λ name. name) x.roles p.roles (map_itself x.roles ∙ expands.roles) x.shape.role_names.apart))
     (none_of_two (IsDuplicate (param_words p)) (IsDuplicate (message_words p))
     (none_twice (param_words p) (own_names p x expands).params)
@@ -114,14 +114,14 @@ good_names p x expands =
     map_itself (n ∷ names) = ap (λ rest. n ∷ rest) (map_itself names)
 
 -- the document of the protocol alone is without fault
-pub without_fault : (p : Declaration) (x : Expanded) → IsPlain p → IsExpansionOf p x → HasNone (Either (IsDuplicate (protocol_words (p ∷ []))) (OfSome (IsFaultIn (p ∷ [])) (p ∷ [])))
+pub without_fault : (p : Declaration) (x : Expanded) → IsPlain p → IsExpansionOf p x → HasNone (EitherFault (IsDuplicate (protocol_words (p ∷ []))) (OfSome (IsFaultIn (p ∷ [])) (p ∷ [])))
 without_fault p x plain expands =
     let faults = IsFaultIn (p ∷ []) in
     let item_faults = IsItemFault (p ∷ []) (names_of p) in
     let inside : HasNone (faults p) =
-    none_of_two (IsNamedTwice p) (Either (OfSome IsUnsupported p.public) (OfSome item_faults p.body)) (good_names p x expands)
+    none_of_two (IsNamedTwice p) (EitherFault (OfSome IsUnsupported p.public) (OfSome item_faults p.body)) (good_names p x expands)
     (none_of_two (OfSome IsUnsupported p.public) (OfSome item_faults p.body)
     (none_of_all IsUnsupported p.public (λ k e within. supported (get_or p.public k e) (public_adorned p x expands k e within)))
-    (none_of_all item_faults p.body (firsts IsUnkeyed (IsImage x.roles x.params) (λ (i : Item). HasNone (item_faults i)) (good_item (p ∷ []) x.roles x.params p expands.roles (declared_params p x expands)) p.body x.messages plain expands.images))) in
+    (none_of_all item_faults p.body (firsts IsUnkeyed (IsMessageOfItem x.roles x.params) (λ (i : Item). HasNone (item_faults i)) (good_item (p ∷ []) x.roles x.params p expands.roles (declared_params p x expands)) p.body x.messages plain expands.images))) in
     none_of_two (IsDuplicate (protocol_words (p ∷ []))) (OfSome faults (p ∷ [])) (none_twice (p.name ∷ []) (one_apart p.name))
     (none_of_all faults (p ∷ []) (All-cons (λ (q : Declaration). HasNone (faults q)) p [] inside (All-nil (λ (q : Declaration). HasNone (faults q)))))

@@ -10,7 +10,7 @@ use Rattle.bspl_parser.specs.declared.document.Schema.{Schema}
 use Rattle.protocol_names.specs.Names.{param_words, texts}
 use Rattle.protocol_paths.specs.Flat.{IsFlat, IsImage, IsImageFormal, IsImageItem}
 use Rattle.protocol_paths.specs.Path.{Step, item_messages}
-use Rattle.protocol_paths.specs.Place.{start}
+use Rattle.protocol_paths.specs.Scope.{start}
 use Rattle.protocol_paths.proofs.Bared.{bare_private, stands_same}
 use Rattle.protocol_paths.proofs.Opened.{message_alone}
 use Rattle.flat_expansion.specs.Flat.{IsUnkeyed}

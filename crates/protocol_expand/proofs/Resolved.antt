@@ -11,13 +11,13 @@ use Rattle.bspl_parser.specs.declared.document.Item.{Item}
 use Rattle.bspl_parser.specs.declared.document.Item.TheVariants.{Message, Reference}
 use Rattle.bspl_parser.specs.declared.document.Schema.{Schema}
 use Rattle.bspl_parser.specs.declared.word.Word.{Word}
-use Rattle.bspl_parser.specs.Spelling.{IsDeclaration, IsFormal, IsItem, IsSchema, IsWellFormed}
+use Rattle.bspl_parser.specs.Spelling.{IsDeclaration, IsFormal, IsItem, IsSchema, IsDocument}
 use Rattle.protocol_names.specs.Fault.{HasNoFault}
 use Rattle.protocol_names.specs.Names.{param_words, texts}
 use Rattle.protocol_paths.specs.Flat.{IsFlat, IsImage, IsImageFormal, IsImageItem, entry, privates_at}
 use Rattle.protocol_paths.specs.Path.{Step, message_paths, paths}
-use Rattle.protocol_paths.specs.Place.{Place, place_at, start}
-use Rattle.flat_expansion.specs.Ready.{AreApart, IsAdorned}
+use Rattle.protocol_paths.specs.Scope.{Scope, scope_at, start}
+use Rattle.flat_expansion.specs.Ready.{AreDistinct, IsAdorned}
 use Rattle.flat_expansion.proofs.Mapped.{all_of_mapped}
 use Rattle.flat_expansion.proofs.Zipped.{seconds}
 use Rattle.protocol_expand.specs.Asked.{IsAsked}
@@ -50,14 +50,14 @@ some_partners R (x ∷ xs) [] all some = absurd all
 some_partners R (x ∷ xs) (y ∷ ys) all some = λ empty. cc
 
 -- an image has the adornment of its parameter
-image_adorned : (place : Place) (f f' : Formal) → IsAdorned f → IsImageFormal place f f' → IsAdorned f'
+image_adorned : (place : Scope) (f f' : Formal) → IsAdorned f → IsImageFormal place f f' → IsAdorned f'
 image_adorned place f f' adorned image = record {
   not_any = λ is. adorned.not_any (sym image.adorn ∙ is);
   not_opt = λ is. adorned.not_opt (sym image.adorn ∙ is);
 }
 
 -- the image of a message that was found is resolved
-resolved : (d : Document) (flat : Declaration) (place : Place) (m m' : Schema) → IsWellFormed d → HasNoFault d → IsSound d.protocols (texts flat.roles) (texts (param_words flat)) place → Contains place.protocol.body (Message m) → IsImage place m m' → IsResolved flat m'
+resolved : (d : Document) (flat : Declaration) (place : Scope) (m m' : Schema) → IsDocument d → HasNoFault d → IsSound d.protocols (texts flat.roles) (texts (param_words flat)) place → Contains place.protocol.body (Message m) → IsImage place m m' → IsResolved flat m'
 resolved d flat place m m' formed no_fault sound here image =
     let roles = texts flat.roles in
     let params = texts (param_words flat) in
@@ -77,8 +77,8 @@ resolved d flat place m m' formed no_fault sound here image =
     }
 
 -- the same of an item of the flat body
-resolved_item : (d : Document) (flat : Declaration) (place : Place) (x : List Step × Schema) (i : Item) → IsWellFormed d → HasNoFault d → IsFound d.protocols (texts flat.roles) (texts (param_words flat)) place x → IsImageItem place x i → IsResolvedItem flat i
-resolved_item d flat place (path, m) (Message m') formed no_fault found image = resolved d flat (place_at place path) m m' formed no_fault found.sound found.stands image
+resolved_item : (d : Document) (flat : Declaration) (place : Scope) (x : List Step × Schema) (i : Item) → IsDocument d → HasNoFault d → IsFound d.protocols (texts flat.roles) (texts (param_words flat)) place x → IsImageItem place x i → IsResolvedItem flat i
+resolved_item d flat place (path, m) (Message m') formed no_fault found image = resolved d flat (scope_at place path) m m' formed no_fault found.sound found.stands image
 resolved_item d flat place (path, m) (Reference r) formed no_fault found image = absurd image
 
 -- a name of a private parameter is one of the flat protocol's
@@ -89,7 +89,7 @@ private_known flat = All-map (λ (e : List ℕ × ℕ). Contains (texts (param_w
 -- so those at the ends of all paths are known
 privates_known : (protocols : List Declaration) (top flat : Declaration) → IsFlat protocols top flat → ArePrivatesKnown protocols (texts (param_words flat)) (length protocols) (start top)
 privates_known protocols top flat is_flat = record {
-  known = all_of_gathered (λ (e : List ℕ × ℕ). Contains (texts (param_words flat)) e.0) (λ path. privates_at (place_at (start top) path)) (paths (length protocols) protocols top)
+  known = all_of_gathered (λ (e : List ℕ × ℕ). Contains (texts (param_words flat)) e.0) (λ path. privates_at (scope_at (start top) path)) (paths (length protocols) protocols top)
       (subst (All (λ (e : List ℕ × ℕ). Contains (texts (param_words flat)) e.0)) is_flat.private (private_known flat));
 }
 
@@ -112,7 +112,7 @@ start_sound protocols top flat among is_flat =
     }
 
 -- each item of the flat protocol is a message that is resolved
-pub items_are_resolved : (d : Document) (name : List ℕ) (number : ℕ) (top flat : Declaration) → IsWellFormed d → IsAsked d name number top → IsFlat d.protocols top flat → All (IsResolvedItem flat) flat.body
+pub items_are_resolved : (d : Document) (name : List ℕ) (number : ℕ) (top flat : Declaration) → IsDocument d → IsAsked d name number top → IsFlat d.protocols top flat → All (IsResolvedItem flat) flat.body
 items_are_resolved d name number top flat formed asked is_flat =
     let roles = texts flat.roles in
     let params = texts (param_words flat) in
@@ -126,5 +126,5 @@ pub public_is_adorned : (d : Document) (name : List ℕ) (number : ℕ) (top : D
 public_is_adorned d name number top asked = public_params_are_adorned d top asked.faultless (top_among d name number top asked)
 
 -- and its roles have names of their own
-pub roles_are_apart : (d : Document) (name : List ℕ) (number : ℕ) (top : Declaration) → IsAsked d name number top → AreApart top.roles
+pub roles_are_apart : (d : Document) (name : List ℕ) (number : ℕ) (top : Declaration) → IsAsked d name number top → AreDistinct top.roles
 roles_are_apart d name number top asked = declared_roles_are_apart d top asked.faultless (top_among d name number top asked)

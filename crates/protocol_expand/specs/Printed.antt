@@ -6,14 +6,14 @@ use Rattle.bspl_parser.specs.declared.document.Document.{Document}
 use Rattle.bspl_parser.specs.Judgement.{IsText}
 use Rattle.bspl_parser.specs.Layout.{printed}
 use Rattle.flat_expansion.specs.Expansion.{IsExpansionOf}
-use Rattle.flat_expansion.specs.Flat.{IsBare}
+use Rattle.flat_expansion.specs.Flat.{IsCanonical}
 use Rattle.protocol_expand.specs.Expansion.{IsExpansion}
 
 -- the layout of one protocol of messages alone that has this expansion, with the word `key` in no message
 pub record IsPrinted (x : Expanded) (text : List ℕ) : Type 0 where
   pub flat : Declaration
   pub expands : IsExpansionOf flat x
-  pub bare : IsBare flat
+  pub bare : IsCanonical flat
   pub layout : text ≡ printed (record { protocols = flat ∷ [] })
 
 -- the text is that of a document in which the protocol of the expansion's name has this expansion

@@ -1,22 +1,22 @@
 ghost use Rattle.std.specs.Prelude.{◌≡◌, IfOk, IfErr};
-ghost use Rattle.bspl_parser.specs.Spelling.{IsWellFormed};
+ghost use Rattle.bspl_parser.specs.Spelling.{IsDocument};
 ghost use Rattle.protocol_names.specs.Fault.{HasNoFault};
 ghost use Rattle.protocol_expand.specs.Expansion.{IsExpansion};
 ghost use Rattle.protocol_expand.specs.Refusing.{IsNotExpanded, refusal_at};
 
 use super::flat::expand_flat;
 use bspl_parser::Document;
-use bspl_types::{Duplicate, Expanded, Refusal, Seq};
+use bspl_types::{Expanded, Refusal, Seq, TryClone};
 use protocol_limits::{Survey, survey};
-use protocol_names::{Directory, DocumentFault, FaultKind, first_fault};
-use protocol_paths::{Marks, flatten};
+use protocol_names::{DocumentFault, FaultKind, ProtocolTable, first_fault};
+use protocol_paths::{Skippable, flatten};
 use std::alloc::Global;
 
 /// The expansion of the protocol of that name (Singh 2011), or why it has none: the document's
 /// first fault; that no protocol has the name; the first protocol that is met again along
 /// references; the first count over its limit; or two equal names of the expansion.
 pub fn expand(alloc: Global, document: &Document, name: &[u8]) -> Result<Expanded, Refusal>
-    requires formed { IsWellFormed document.now }
+    requires formed { IsDocument document.now }
     ensures ok { IfOk result (IsExpansion document.now name.now) }
     ensures refused { IfErr result (IsNotExpanded document.now name.now) }
 {
@@ -41,13 +41,13 @@ fn refusal_of(fault: DocumentFault) -> Refusal
 
 // More than 2^32 protocols are not numbered, and answered as want of memory.
 fn expand_faultless(alloc: Global, document: &Document, name: &[u8]) -> Result<Expanded, Refusal>
-    requires formed { IsWellFormed document.now }
+    requires formed { IsDocument document.now }
     requires faultless { HasNoFault document.now }
     ensures ok { IfOk result (IsExpansion document.now name.now) }
     ensures refused { IfErr result (IsNotExpanded document.now name.now) }
 {
     let protocols = document.protocols.as_slice();
-    let directory = Directory::new(alloc, protocols)?;
+    let directory = ProtocolTable::new(alloc, protocols)?;
     let Some(number) = directory.names.place(name) else {
         return Err(Refusal::NoProtocol {
             name: Seq::from_slice(alloc, name)?,
@@ -58,11 +58,11 @@ fn expand_faultless(alloc: Global, document: &Document, name: &[u8]) -> Result<E
     }
     match survey(alloc, &directory, number as u32)? {
         Survey::Cycle(node) => Err(Refusal::Recursion {
-            name: protocols[node as usize].name.text.copy()?,
+            name: protocols[node as usize].name.text.try_clone()?,
         }),
         Survey::Over { what, count } => Err(Refusal::Limit { what, count }),
         Survey::Within { messages, privates } => {
-            let marks = Marks {
+            let marks = Skippable {
                 messages: messages.as_slice(),
                 privates: privates.as_slice(),
             };

@@ -2,12 +2,12 @@ ghost use Rattle.std.specs.Prelude.{◌≡◌, ◌∷◌, [], ◌++◌, true, fa
 ghost use Rattle.std.specs.List.{Contains, flat_map};
 ghost use Rattle.bspl_parser.specs.declared.word.Word.{Word as Entry};
 ghost use Rattle.protocol_names.specs.Names.{declared_word, texts};
-ghost use Rattle.flat_expansion.specs.Ready.{AreApart};
+ghost use Rattle.flat_expansion.specs.Ready.{AreDistinct};
 ghost use Rattle.protocol_expand.specs.Repeats.{AreNoted, AreOwn, IsFirstRepeated, RepeatsName};
 
 use bspl_parser::{Declaration, Formal, Item, Word};
 use bspl_types::NoMemory;
-use protocol_names::Register;
+use protocol_names::NameTable;
 use std::alloc::Global;
 
 /// Where the first name stands that an equal one stands before: the messages are gone through in
@@ -23,10 +23,10 @@ pub fn repeated_name(alloc: Global, flat: &Declaration) -> Result<Option<u64>, N
 
 fn repeated_message(alloc: Global, body: &[Item]) -> Result<Option<u64>, NoMemory>
     ensures { IfOk result (λ found. MatchOption found
-        (AreApart (flat_map declared_word body.now))
+        (AreDistinct (flat_map declared_word body.now))
         (IsFirstRepeated (flat_map declared_word body.now))) }
 {
-    let mut names = Register::new(alloc);
+    let mut names = NameTable::new(alloc);
     for item in body {
         if let Item::Message(schema) = item {
             if is_again(&mut names, &schema.name)? {
@@ -43,10 +43,10 @@ fn repeated_param(
     private: &[Word],
 ) -> Result<Option<u64>, NoMemory>
     ensures { IfOk result (λ found. MatchOption found
-        (AreApart (map (λ f. f.name) public.now ++ private.now))
+        (AreDistinct (map (λ f. f.name) public.now ++ private.now))
         (IsFirstRepeated (map (λ f. f.name) public.now ++ private.now))) }
 {
-    let mut names = Register::new(alloc);
+    let mut names = NameTable::new(alloc);
     for formal in public {
         if is_again(&mut names, &formal.name)? {
             return Ok(Some(formal.name.offset));
@@ -61,7 +61,7 @@ fn repeated_param(
 }
 
 // Whether the name stands among the others. If not, it is put there.
-fn is_again(names: &mut Register, word: &Word) -> Result<bool, NoMemory>
+fn is_again(names: &mut NameTable, word: &Word) -> Result<bool, NoMemory>
     ensures { (words : List Entry) → AreNoted words names.old → IfOk result (λ again.
         cond again (Contains (texts words) word.now.text)
         (AreNoted (words ++ word.now ∷ []) names.new)) }

@@ -5,15 +5,15 @@ use Rattle.std.proofs.lemmas.Bool.{cases_eq, cases_lt, true≢false}
 use Rattle.std.proofs.lemmas.List.{get_or-replicate, length-replicate}
 use Rattle.std.proofs.lemmas.List.Elements.{Contains-push}
 use Rattle.std.proofs.lemmas.Option.{slice_get_within, get_or_from_slice_get, same_Some}
-use Rattle.bspl_types.specs.declared.memory.NoMemory.{NoMemory}
+use Rattle.list_base.specs.declared.memory.NoMemory.{NoMemory}
 use Rattle.bspl_parser.specs.declared.document.Declaration.{Declaration}
 use Rattle.reference_graph.specs.Path.{IsReached}
 use Rattle.reference_graph.specs.Order.{IsOrder}
 use Rattle.reference_graph.specs.Counting.{saturated}
 use Rattle.reference_graph.proofs.Membership.{member_at, place_of}
 use Rattle.reference_graph.proofs.OrderLemmas.{ends_earlier}
-use Rattle.protocol_paths.specs.declared.marks.Marks.{Marks}
-use Rattle.protocol_paths.specs.Marks.{AreMarks, IsMarked}
+use Rattle.protocol_paths.specs.declared.marks.Skippable.{Skippable}
+use Rattle.protocol_paths.specs.Skippable.{AreSkippable, IsMarked}
 use Rattle.protocol_paths.specs.Path.{message_paths, private_words}
 use Rattle.protocol_limits.specs.Counts.{message_count, private_count}
 use Rattle.protocol_limits.specs.Graph.{graph_of}
@@ -61,7 +61,7 @@ no_private protocols marks none q marked =
     nothing_in (private_words (length protocols) protocols q) (private_count protocols marked.number) (privates_counted (length protocols) marked.number protocols q marked.stands) (none marked.number marked.closed)
 
 -- marks that lend the two lists are right
-pub lent : (protocols : List Declaration) (top : ℕ) (messages privates : List Bool) → IsMarking (graph_of protocols) top (message_count protocols) messages → IsMarking (graph_of protocols) top (private_count protocols) privates → (marks : Marks) → marks.messages.now ≡ messages → marks.privates.now ≡ privates → AreMarks protocols marks
+pub lent : (protocols : List Declaration) (top : ℕ) (messages privates : List Bool) → IsMarking (graph_of protocols) top (message_count protocols) messages → IsMarking (graph_of protocols) top (private_count protocols) privates → (marks : Skippable) → marks.messages.now ≡ messages → marks.privates.now ≡ privates → AreSkippable protocols marks
 lent protocols top messages privates of_messages of_privates marks is_messages is_privates = record {
   messages = λ q marked. no_message protocols messages of_messages.none q (subst (λ (ms : List Bool). IsMarked protocols ms q) is_messages marked);
   privates = λ q marked. no_private protocols privates of_privates.none q (subst (λ (ms : List Bool). IsMarked protocols ms q) is_privates marked);

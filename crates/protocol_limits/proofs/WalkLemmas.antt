@@ -3,7 +3,7 @@ use Rattle.std.proofs.Common.{◌≡◌, ℕ, ◌<◌, List, length, map, Some, 
 use Rattle.std.specs.Prelude.{slice_get}
 use Rattle.std.proofs.lemmas.List.{length-map}
 use Rattle.std.proofs.lemmas.Option.{slice_get_within, get_or_from_slice_get, same_Some}
-use Rattle.bspl_types.specs.declared.memory.NoMemory.{NoMemory}
+use Rattle.list_base.specs.declared.memory.NoMemory.{NoMemory}
 use Rattle.bspl_parser.specs.declared.document.Declaration.{Declaration}
 use Rattle.reference_graph.specs.Counting.{depth_within, saturated, weight_below}
 use Rattle.reference_graph.specs.Order.{IsOrder, IsTopological}

@@ -2,8 +2,8 @@
 use Rattle.std.specs.Prelude.{◌≡◌, ℕ, Bool, false, List, Some, slice_get}
 use Rattle.bspl_parser.specs.declared.document.Declaration.{Declaration}
 use Rattle.reference_graph.specs.Path.{IsReached}
-use Rattle.protocol_paths.specs.declared.marks.Marks.{Marks}
-use Rattle.protocol_paths.specs.Marks.{AreMarks}
+use Rattle.protocol_paths.specs.declared.marks.Skippable.{Skippable}
+use Rattle.protocol_paths.specs.Skippable.{AreSkippable}
 use Rattle.protocol_limits.specs.Counts.{message_count, private_count}
 use Rattle.protocol_limits.specs.Graph.{graph_of}
 
@@ -16,4 +16,4 @@ pub record IsMarking (g : List (List ℕ)) (top : ℕ) (count : ℕ → ℕ) (ma
 pub record AreTold (protocols : List Declaration) (top : ℕ) (messages privates : List Bool) : Type 0 where
   pub of_messages : IsMarking (graph_of protocols) top (message_count protocols) messages
   pub of_privates : IsMarking (graph_of protocols) top (private_count protocols) privates
-  pub lent : (marks : Marks) → marks.messages.now ≡ messages → marks.privates.now ≡ privates → AreMarks protocols marks
+  pub lent : (marks : Skippable) → marks.messages.now ≡ messages → marks.privates.now ≡ privates → AreSkippable protocols marks

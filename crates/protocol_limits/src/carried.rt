@@ -7,7 +7,7 @@ use super::references::target_of;
 use super::walked::Walked;
 use bspl_parser::Item;
 use bspl_types::{CARRIED_LIMIT, NoMemory};
-use protocol_names::Directory;
+use protocol_names::ProtocolTable;
 
 /// The number of parameters of the first message that has too many, or 0 where none has.
 pub(crate) fn carried_count(walked: &Walked) -> Result<u64, NoMemory>
@@ -25,7 +25,7 @@ pub(crate) fn carried_count(walked: &Walked) -> Result<u64, NoMemory>
 }
 
 /// Of the items the first number that is not 0, by what was found for their targets.
-fn first_wide(directory: &Directory, wide: &[u64], body: &[Item]) -> u64
+fn first_wide(directory: &ProtocolTable, wide: &[u64], body: &[Item]) -> u64
     requires { length wide.now ≡ length directory.now.protocols.now }
     ensures { result ≡
         first_wide directory.now.protocols.now (λ k. slice_index_or wide.now k 0) body.now }
@@ -39,7 +39,7 @@ fn first_wide(directory: &Directory, wide: &[u64], body: &[Item]) -> u64
     0
 }
 
-fn wide_item(directory: &Directory, wide: &[u64], item: &Item) -> u64
+fn wide_item(directory: &ProtocolTable, wide: &[u64], item: &Item) -> u64
     requires { length wide.now ≡ length directory.now.protocols.now }
     ensures { result ≡
         wide_item directory.now.protocols.now (λ k. slice_index_or wide.now k 0) item.now }

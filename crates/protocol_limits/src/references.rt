@@ -4,12 +4,12 @@ ghost use Rattle.protocol_limits.specs.Graph.{graph_of, references_of, target_of
 
 use bspl_parser::{Declaration, Item};
 use bspl_types::{NoMemory, NumberList, Seq};
-use protocol_names::Directory;
+use protocol_names::ProtocolTable;
 use reference_graph::Graph;
 use std::alloc::Global;
 
 /// The references between the protocols of a document.
-pub(crate) fn graph_of(alloc: Global, directory: &Directory) -> Result<Graph, NoMemory>
+pub(crate) fn graph_of(alloc: Global, directory: &ProtocolTable) -> Result<Graph, NoMemory>
     requires { length directory.now.protocols.now < 2 ^ 32 }
     ensures { IfOk result (λ graph. graph ≡ graph_of directory.now.protocols.now) }
 {
@@ -22,7 +22,7 @@ pub(crate) fn graph_of(alloc: Global, directory: &Directory) -> Result<Graph, No
 
 fn references_of(
     alloc: Global,
-    directory: &Directory,
+    directory: &ProtocolTable,
     protocol: &Declaration,
 ) -> Result<NumberList, NoMemory>
     requires { length directory.now.protocols.now < 2 ^ 32 }
@@ -36,7 +36,11 @@ fn references_of(
     Ok(numbers)
 }
 
-fn add_target(directory: &Directory, item: &Item, numbers: &mut NumberList) -> Result<(), NoMemory>
+fn add_target(
+    directory: &ProtocolTable,
+    item: &Item,
+    numbers: &mut NumberList,
+) -> Result<(), NoMemory>
     requires { length directory.now.protocols.now < 2 ^ 32 }
     ensures { OnOk result (numbers.new ≡
         numbers.old ++ cons_option (target_of directory.now.protocols.now item.now) []) }
@@ -48,7 +52,7 @@ fn add_target(directory: &Directory, item: &Item, numbers: &mut NumberList) -> R
 }
 
 /// The number of the protocol that the item refers to, if it refers to one.
-pub(crate) fn target_of(directory: &Directory, item: &Item) -> Option<usize>
+pub(crate) fn target_of(directory: &ProtocolTable, item: &Item) -> Option<usize>
     ensures target { result ≡ target_of directory.now.protocols.now item.now }
     ensures within { IfSome result (λ number. number < length directory.now.protocols.now) }
 {

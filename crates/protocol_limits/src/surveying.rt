@@ -8,13 +8,13 @@ use super::outcome::{Stop, Survey};
 use super::references::graph_of;
 use super::walked::Walked;
 use bspl_types::NoMemory;
-use protocol_names::Directory;
+use protocol_names::ProtocolTable;
 use reference_graph::{Walk, walk};
 use std::alloc::Global;
 
 /// What speaks against expanding the protocol of that number: that the walk along references meets
 /// a protocol again, or a count over its limit.
-pub fn survey(alloc: Global, directory: &Directory, top: u32) -> Result<Survey, NoMemory>
+pub fn survey(alloc: Global, directory: &ProtocolTable, top: u32) -> Result<Survey, NoMemory>
     requires stands { top < length directory.now.protocols.now }
     requires few { length directory.now.protocols.now < 2 ^ 32 }
     ensures { IfOk result (IsSurvey directory.now.protocols.now top) }

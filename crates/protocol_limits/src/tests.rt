@@ -1,7 +1,7 @@
 use super::*;
 use bspl_parser::{Document, parse};
 use bspl_types::{Bytes, NoMemory, Seq};
-use protocol_names::Directory;
+use protocol_names::ProtocolTable;
 use std::alloc::Global;
 use std::test::Fail;
 
@@ -89,7 +89,7 @@ fn survey_at(alloc: Global, document: &Document, top: u32) -> Result<Option<Surv
     if top as usize >= protocols.len() || protocols.len() > u32::MAX as usize {
         return Ok(None);
     }
-    let directory = Directory::new(alloc, protocols)?;
+    let directory = ProtocolTable::new(alloc, protocols)?;
     Ok(Some(survey(alloc, &directory, top)?))
 }
 

@@ -1,4 +1,4 @@
-use protocol_names::Directory;
+use protocol_names::ProtocolTable;
 use reference_graph::Graph;
 use std::alloc::Global;
 
@@ -6,7 +6,7 @@ use std::alloc::Global;
 #[derive(Drop)]
 pub(crate) struct Walked<'a> {
     pub alloc: Global,
-    pub directory: &'a Directory<'a>,
+    pub directory: &'a ProtocolTable<'a>,
     pub graph: &'a Graph,
     /// What was reached, each protocol after all that it refers to.
     pub order: &'a [u32],

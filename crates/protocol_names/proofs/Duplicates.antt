@@ -3,15 +3,15 @@ use Rattle.std.proofs.Common.{◌≡◌, ℕ, ◌⊎◌, Bool, List, [], ◌∷�
 use Rattle.std.specs.Prelude.{◌↔◌, IsTrue, OnOk}
 use Rattle.std.specs.List.{Contains}
 use Rattle.std.proofs.lemmas.List.{append_assoc, length-append, map-append}
-use Rattle.bspl_types.specs.declared.memory.NoMemory.{NoMemory}
+use Rattle.list_base.specs.declared.memory.NoMemory.{NoMemory}
 use Rattle.bspl_parser.specs.declared.word.Word.{Word}
 use Rattle.protocol_names.specs.declared.fault.DocumentFault.{DocumentFault}
 use Rattle.protocol_names.specs.declared.fault.FaultKind.{FaultKind as Kind}
 use Rattle.protocol_names.specs.declared.fault.FaultKind.TheVariants.{Duplicate}
 use Rattle.protocol_names.specs.Fault.{IsDuplicate, repeated}
-use Rattle.protocol_names.specs.Finding.{Either, Finds, FaultIf, stands, earlier}
+use Rattle.protocol_names.specs.Finding.{EitherFault, FindsFirst, FaultIf, stands, earlier}
 use Rattle.protocol_names.specs.Names.{texts}
-use Rattle.protocol_names.specs.Naming.{IsNamed}
+use Rattle.protocol_names.specs.DeclaredNames.{AreDeclared}
 use Rattle.protocol_names.proofs.Findings.{finds_same, finds_two, stands_same}
 
 -- a word of a longer list stands before its end or at it
@@ -28,7 +28,7 @@ split_end (x ∷ xs) (z ∷ zs) back w v same =
     ]
 
 -- the last of the words is a duplicate if its name is among the others
-to_longer : (words : List Word) (w : Word) (kind : Kind) (offset : ℕ) → Either (IsDuplicate words) (FaultIf (Contains (texts words) w.text) Duplicate w.offset) kind offset → IsDuplicate (words ++ w ∷ []) kind offset
+to_longer : (words : List Word) (w : Word) (kind : Kind) (offset : ℕ) → EitherFault (IsDuplicate words) (FaultIf (Contains (texts words) w.text) Duplicate w.offset) kind offset → IsDuplicate (words ++ w ∷ []) kind offset
 to_longer words w kind offset (inl (repeated v again)) = repeated v (record {
   front = again.front;
   back = again.back ++ w ∷ [];
@@ -38,31 +38,31 @@ to_longer words w kind offset (inl (repeated v again)) = repeated v (record {
 to_longer words w kind offset (inr (stands among)) = repeated w (record { front = words; back = []; parts = refl; before = among })
 
 -- and the other way
-from_longer : (words : List Word) (w : Word) (kind : Kind) (offset : ℕ) → IsDuplicate (words ++ w ∷ []) kind offset → Either (IsDuplicate words) (FaultIf (Contains (texts words) w.text) Duplicate w.offset) kind offset
+from_longer : (words : List Word) (w : Word) (kind : Kind) (offset : ℕ) → IsDuplicate (words ++ w ∷ []) kind offset → EitherFault (IsDuplicate words) (FaultIf (Contains (texts words) w.text) Duplicate w.offset) kind offset
 from_longer words w kind offset (repeated v again) = elim (split_end words again.front again.back w v again.parts) [
   | inl before ↦ inl (repeated v (record { front = again.front; back = before.0; parts = before.1; before = again.before }))
   | inr at ↦ inr (subst (λ (u : Word). FaultIf (Contains (texts words) w.text) Duplicate w.offset Duplicate u.offset) at.1 (stands (subst (λ (u : Word). Contains (texts words) u.text) (sym at.1) (subst (λ ws. Contains (texts ws) v.text) (sym at.0) again.before))))
 ]
 
 -- no word is a duplicate of nothing
-pub named_none : IsNamed [] [] None
+pub named_none : AreDeclared [] [] None
 named_none = record { in_order = refl; duplicate = none }
   where
     none : (kind : Kind) (offset : ℕ) → ¬ IsDuplicate [] kind offset
     none kind offset (repeated v again) = omega (arith, ap length again.parts, length-append again.front (v ∷ again.back))
 
 -- one word more
-pub named_push : (words : List Word) (w : Word) (names names' : List (List ℕ)) (first fault first' : Option DocumentFault) (again : Bool) → IsNamed words names first → IsTrue again ↔ Contains names w.text → Finds (FaultIf (IsTrue again) Duplicate w.offset) fault → first' ≡ earlier first fault → names' ≡ names ++ w.text ∷ [] → IsNamed (words ++ w ∷ []) names' first'
+pub named_push : (words : List Word) (w : Word) (names names' : List (List ℕ)) (first fault first' : Option DocumentFault) (again : Bool) → AreDeclared words names first → IsTrue again ↔ Contains names w.text → FindsFirst (FaultIf (IsTrue again) Duplicate w.offset) fault → first' ≡ earlier first fault → names' ≡ names ++ w.text ∷ [] → AreDeclared (words ++ w ∷ []) names' first'
 named_push words w names names' first fault first' again named tests finds is_first is_names = record {
   in_order = is_names ∙ ap (λ ns. ns ++ w.text ∷ []) named.in_order ∙ sym (map-append (λ (u : Word). u.text) words (w ∷ []));
   duplicate =
       let tests_words : IsTrue again ↔ Contains (texts words) w.text = subst (λ ns. IsTrue again ↔ Contains ns w.text) named.in_order tests in
       let one = stands_same (IsTrue again) (Contains (texts words) w.text) Duplicate w.offset fault tests_words.0 tests_words.1 finds in
-      finds_same (Either (IsDuplicate words) (FaultIf (Contains (texts words) w.text) Duplicate w.offset)) (IsDuplicate (words ++ w ∷ [])) first' (to_longer words w) (from_longer words w)
+      finds_same (EitherFault (IsDuplicate words) (FaultIf (Contains (texts words) w.text) Duplicate w.offset)) (IsDuplicate (words ++ w ∷ [])) first' (to_longer words w) (from_longer words w)
       (finds_two (IsDuplicate words) (FaultIf (Contains (texts words) w.text) Duplicate w.offset) first fault first' named.duplicate one is_first);
 }
 
 -- the same where the name was taken up
-pub named_if : (words : List Word) (w : Word) (names names' : List (List ℕ)) (first fault first' : Option DocumentFault) (again : Bool) (result : Result (Unit {0}) NoMemory) → IsNamed words names first → IsTrue again ↔ Contains names w.text → Finds (FaultIf (IsTrue again) Duplicate w.offset) fault → first' ≡ earlier first fault → OnOk result (names' ≡ names ++ w.text ∷ []) → OnOk result (IsNamed (words ++ w ∷ []) names' first')
+pub named_if : (words : List Word) (w : Word) (names names' : List (List ℕ)) (first fault first' : Option DocumentFault) (again : Bool) (result : Result (Unit {0}) NoMemory) → AreDeclared words names first → IsTrue again ↔ Contains names w.text → FindsFirst (FaultIf (IsTrue again) Duplicate w.offset) fault → first' ≡ earlier first fault → OnOk result (names' ≡ names ++ w.text ∷ []) → OnOk result (AreDeclared (words ++ w ∷ []) names' first')
 named_if words w names names' first fault first' again (Ok u) named tests finds is_first is_names = named_push words w names names' first fault first' again named tests finds is_first is_names
 named_if words w names names' first fault first' again (Err e) named tests finds is_first is_names = tt

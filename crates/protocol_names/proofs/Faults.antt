@@ -9,7 +9,7 @@ use Rattle.protocol_names.specs.declared.fault.DocumentFault.{DocumentFault}
 use Rattle.protocol_names.specs.declared.fault.FaultKind.{FaultKind as Kind}
 use Rattle.protocol_names.specs.declared.fault.FaultKind.TheVariants.{Unknown, ForeignKey}
 use Rattle.protocol_names.specs.Fault.{IsForeignKey, foreign, IsUnknown}
-use Rattle.protocol_names.specs.Finding.{Finds, FaultIf, stands, HasNone}
+use Rattle.protocol_names.specs.Finding.{FindsFirst, FaultIf, stands, HasNone}
 use Rattle.protocol_names.proofs.Findings.{finds_same, stands_same}
 
 -- what the negated test says
@@ -23,7 +23,7 @@ so_not true iff never = absurd (never (iff.0 refl))
 so_not false iff never = refl
 
 -- a name is unknown where the test for it fails
-pub unknown_found : (declared : List (List ℕ)) (w : Word) (known : Bool) (found : Option DocumentFault) → IsTrue known ↔ Contains declared w.text → Finds (FaultIf (IsTrue (not known)) Unknown w.offset) found → Finds (IsUnknown declared w) found
+pub unknown_found : (declared : List (List ℕ)) (w : Word) (known : Bool) (found : Option DocumentFault) → IsTrue known ↔ Contains declared w.text → FindsFirst (FaultIf (IsTrue (not known)) Unknown w.offset) found → FindsFirst (IsUnknown declared w) found
 unknown_found declared w known found tests finds = stands_same (IsTrue (not known)) (¬ Contains declared w.text) Unknown w.offset found (not_so known tests) (so_not known tests) finds
 
 -- without the word `key` there is no fault of it
@@ -31,7 +31,7 @@ pub no_key : (keys : List (List ℕ)) (f : Formal) → f.key ≡ None → HasNon
 no_key keys f is kind offset (foreign place key never) = let differ : None ≡ Some place = sym is ∙ key in absurd (cc differ)
 
 -- and with it there is one where the test for the key fails
-pub foreign_found : (keys : List (List ℕ)) (f : Formal) (place : ℕ) (known : Bool) (found : Option DocumentFault) → f.key ≡ Some place → IsTrue known ↔ Contains keys f.name.text → Finds (FaultIf (IsTrue (not known)) ForeignKey place) found → Finds (IsForeignKey keys f) found
+pub foreign_found : (keys : List (List ℕ)) (f : Formal) (place : ℕ) (known : Bool) (found : Option DocumentFault) → f.key ≡ Some place → IsTrue known ↔ Contains keys f.name.text → FindsFirst (FaultIf (IsTrue (not known)) ForeignKey place) found → FindsFirst (IsForeignKey keys f) found
 foreign_found keys f place known found is tests finds = finds_same (FaultIf (IsTrue (not known)) ForeignKey place) (IsForeignKey keys f) found to from finds
   where
     to : (kind : Kind) (offset : ℕ) → FaultIf (IsTrue (not known)) ForeignKey place kind offset → IsForeignKey keys f kind offset

@@ -6,8 +6,8 @@ use Rattle.bspl_parser.specs.declared.document.Reference.{Reference as Use}
 use Rattle.protocol_names.specs.declared.fault.DocumentFault.{DocumentFault}
 use Rattle.protocol_names.specs.declared.fault.FaultKind.{FaultKind as Kind}
 use Rattle.protocol_names.specs.declared.fault.FaultKind.TheVariants.{Unknown, Arity}
-use Rattle.protocol_names.specs.Fault.{IsOther, IsReferenceFault, unknown_protocol, other_arity, other_adornment}
-use Rattle.protocol_names.specs.Finding.{Finds, IsFirst, IsNotAfter, OfSome}
+use Rattle.protocol_names.specs.Fault.{AdornmentDiffers, IsReferenceFault, unknown_protocol, other_arity, other_adornment}
+use Rattle.protocol_names.specs.Finding.{FindsFirst, IsFirst, IsNotAfter, OfSome}
 use Rattle.protocol_names.specs.Names.{IsSameArity, protocol_of}
 use Rattle.protocol_names.proofs.Findings.{finds_same}
 
@@ -38,10 +38,10 @@ not_the_arity protocols r q is_q differs = record { fault = other_arity q is_q d
     only kind offset (other_adornment p k o is same other) = absurd (differs (subst (IsSameArity r) (one_found _ p q is is_q) same))
 
 -- the numbers agree
-pub by_adornments : (protocols : List Declaration) (r : Use) (q : Declaration) (found : Option DocumentFault) → protocol_of protocols r.protocol.text ≡ Some q → IsSameArity r q → Finds (OfSome IsOther (zip r.params q.public)) found → Finds (IsReferenceFault protocols r) found
-by_adornments protocols r q found is_q same finds = finds_same (OfSome IsOther (zip r.params q.public)) (IsReferenceFault protocols r) found (λ kind offset other. other_adornment q kind offset is_q same other) back finds
+pub by_adornments : (protocols : List Declaration) (r : Use) (q : Declaration) (found : Option DocumentFault) → protocol_of protocols r.protocol.text ≡ Some q → IsSameArity r q → FindsFirst (OfSome AdornmentDiffers (zip r.params q.public)) found → FindsFirst (IsReferenceFault protocols r) found
+by_adornments protocols r q found is_q same finds = finds_same (OfSome AdornmentDiffers (zip r.params q.public)) (IsReferenceFault protocols r) found (λ kind offset other. other_adornment q kind offset is_q same other) back finds
   where
-    back : (kind : Kind) (offset : ℕ) → IsReferenceFault protocols r kind offset → OfSome IsOther (zip r.params q.public) kind offset
+    back : (kind : Kind) (offset : ℕ) → IsReferenceFault protocols r kind offset → OfSome AdornmentDiffers (zip r.params q.public) kind offset
     back kind offset (unknown_protocol is) = absurd (none_found _ q is is_q)
     back kind offset (other_arity p is differs) = absurd (differs (subst (IsSameArity r) (one_found _ q p is_q is) same))
-    back kind offset (other_adornment p k o is same_p other) = subst (λ (d : Declaration). OfSome IsOther (zip r.params d.public) k o) (one_found _ p q is is_q) other
+    back kind offset (other_adornment p k o is same_p other) = subst (λ (d : Declaration). OfSome AdornmentDiffers (zip r.params d.public) k o) (one_found _ p q is is_q) other

@@ -13,7 +13,7 @@ use Rattle.protocol_names.specs.declared.fault.DocumentFault.{DocumentFault}
 use Rattle.protocol_names.specs.declared.fault.FaultKind.{FaultKind as Kind}
 use Rattle.protocol_names.specs.declared.fault.FaultKind.TheVariants.{Duplicate, Unknown, Arity, BadAdornment, ForeignKey}
 use Rattle.protocol_names.specs.declared.names.Names.{Names}
-use Rattle.protocol_names.specs.Finding.{Either, FaultIf, HasNone, IsFirst, OfSome}
+use Rattle.protocol_names.specs.Finding.{EitherFault, FaultIf, HasNone, IsFirst, OfSome}
 use Rattle.protocol_names.specs.Names.{IsRepeated, IsSameArity, message_words, names_of, param_words, params_used, protocol_of, protocol_words, roles_used}
 
 -- the later of two equal names
@@ -34,11 +34,11 @@ pub data IsForeignKey (keys : List (List ℕ)) (f : Formal) : Kind → ℕ → T
 
 -- a parameter of a message or of a reference: its name, its adornment or its word `key` is at fault
 abbrev pub IsParamFault : Names → Formal → Kind → ℕ → Type 0
-IsParamFault names f = Either (IsUnknown names.params f.name) (Either (IsUnsupported f) (IsForeignKey names.keys f))
+IsParamFault names f = EitherFault (IsUnknown names.params f.name) (EitherFault (IsUnsupported f) (IsForeignKey names.keys f))
 
 -- an adornment that is not the declared one at that place
-abbrev pub IsOther : Formal × Formal → Kind → ℕ → Type 0
-IsOther pair = FaultIf (pair.0.adorn ≢ pair.1.adorn) BadAdornment pair.0.offset
+abbrev pub AdornmentDiffers : Formal × Formal → Kind → ℕ → Type 0
+AdornmentDiffers pair = FaultIf (pair.0.adorn ≢ pair.1.adorn) BadAdornment pair.0.offset
 
 -- a fault of a reference against the protocol that it names
 pub data IsReferenceFault (protocols : List Declaration) (r : Use) : Kind → ℕ → Type 0 where
@@ -47,28 +47,28 @@ pub data IsReferenceFault (protocols : List Declaration) (r : Use) : Kind → �
   -- it declares another number of roles or of parameters
   other_arity : (q : Declaration) → protocol_of protocols r.protocol.text ≡ Some q → ¬ IsSameArity r q → IsReferenceFault protocols r Arity r.protocol.offset
   -- it declares as many, and another adornment
-  other_adornment : (q : Declaration) (kind : Kind) (offset : ℕ) → protocol_of protocols r.protocol.text ≡ Some q → IsSameArity r q → OfSome IsOther (zip r.params q.public) kind offset → IsReferenceFault protocols r kind offset
+  other_adornment : (q : Declaration) (kind : Kind) (offset : ℕ) → protocol_of protocols r.protocol.text ≡ Some q → IsSameArity r q → OfSome AdornmentDiffers (zip r.params q.public) kind offset → IsReferenceFault protocols r kind offset
 
 -- a message refers to no protocol
-abbrev pub IsUseFault : List Declaration → Item → Kind → ℕ → Type 0
-IsUseFault protocols (Message s) kind offset = ⊥
-IsUseFault protocols (Reference r) kind offset = IsReferenceFault protocols r kind offset
+abbrev pub IsTargetFault : List Declaration → Item → Kind → ℕ → Type 0
+IsTargetFault protocols (Message s) kind offset = ⊥
+IsTargetFault protocols (Reference r) kind offset = IsReferenceFault protocols r kind offset
 
 -- a message or a reference: its roles or its parameters are at fault, or what it refers to
 abbrev pub IsItemFault : List Declaration → Names → Item → Kind → ℕ → Type 0
-IsItemFault protocols names i = Either (OfSome (IsUnknown names.roles) (roles_used i)) (Either (OfSome (IsParamFault names) (params_used i)) (IsUseFault protocols i))
+IsItemFault protocols names i = EitherFault (OfSome (IsUnknown names.roles) (roles_used i)) (EitherFault (OfSome (IsParamFault names) (params_used i)) (IsTargetFault protocols i))
 
 -- two roles, two parameters (public or private) or two messages of a protocol have one name
 abbrev pub IsNamedTwice : Declaration → Kind → ℕ → Type 0
-IsNamedTwice p = Either (IsDuplicate p.roles) (Either (IsDuplicate (param_words p)) (IsDuplicate (message_words p)))
+IsNamedTwice p = EitherFault (IsDuplicate p.roles) (EitherFault (IsDuplicate (param_words p)) (IsDuplicate (message_words p)))
 
 -- a protocol: the names that it declares, its public parameters or its body are at fault
 abbrev pub IsFaultIn : List Declaration → Declaration → Kind → ℕ → Type 0
-IsFaultIn protocols p = Either (IsNamedTwice p) (Either (OfSome IsUnsupported p.public) (OfSome (IsItemFault protocols (names_of p)) p.body))
+IsFaultIn protocols p = EitherFault (IsNamedTwice p) (EitherFault (OfSome IsUnsupported p.public) (OfSome (IsItemFault protocols (names_of p)) p.body))
 
 -- a document: two protocols have one name, or a protocol is at fault
 abbrev pub IsFault : Document → Kind → ℕ → Type 0
-IsFault d = Either (IsDuplicate (protocol_words d.protocols)) (OfSome (IsFaultIn d.protocols) d.protocols)
+IsFault d = EitherFault (IsDuplicate (protocol_words d.protocols)) (OfSome (IsFaultIn d.protocols) d.protocols)
 
 -- the document has no fault
 abbrev pub HasNoFault : Document → Type 0

@@ -27,16 +27,16 @@ abbrev pub HasNone : (Kind → ℕ → Type 0) → Type 0
 HasNone Fault = (kind : Kind) (offset : ℕ) → ¬ Fault kind offset
 
 -- the first fault of those, if there is one
-abbrev pub Finds : (Kind → ℕ → Type 0) → Option DocumentFault → Type 0
-Finds Fault found = MatchOption found (HasNone Fault) (IsFirst Fault)
+abbrev pub FindsFirst : (Kind → ℕ → Type 0) → Option DocumentFault → Type 0
+FindsFirst Fault found = MatchOption found (HasNone Fault) (IsFirst Fault)
 
 -- the one fault that stands there if the fact holds
 pub data FaultIf (Fact : Type 0) (kind : Kind) (offset : ℕ) : Kind → ℕ → Type 0 where
   stands : Fact → FaultIf Fact kind offset kind offset
 
 -- a fault of one or of the other sort
-abbrev pub Either : (Kind → ℕ → Type 0) → (Kind → ℕ → Type 0) → Kind → ℕ → Type 0
-Either One Other kind offset = One kind offset ⊎ Other kind offset
+abbrev pub EitherFault : (Kind → ℕ → Type 0) → (Kind → ℕ → Type 0) → Kind → ℕ → Type 0
+EitherFault One Other kind offset = One kind offset ⊎ Other kind offset
 
 -- a fault of one of the items
 pub record OfSome {X : Type 0} (Fault : X → Kind → ℕ → Type 0) (xs : List X) (kind : Kind) (offset : ℕ) : Type 0 where
@@ -45,11 +45,11 @@ pub record OfSome {X : Type 0} (Fault : X → Kind → ℕ → Type 0) (xs : Lis
   pub has : Fault item kind offset
 
 -- which of two faults stands before the other
-abbrev pub stands_before : DocumentFault → DocumentFault → Bool
-stands_before f g = nat_lt f.offset g.offset || ((f.offset == g.offset) && nat_lt (rank f.kind) (rank g.kind))
+abbrev pub comes_before : DocumentFault → DocumentFault → Bool
+comes_before f g = nat_lt f.offset g.offset || ((f.offset == g.offset) && nat_lt (rank f.kind) (rank g.kind))
 
 -- the first of two, or the one that there is
 abbrev pub earlier : Option DocumentFault → Option DocumentFault → Option DocumentFault
 earlier None other = other
 earlier (Some f) None = Some f
-earlier (Some f) (Some g) = cond (stands_before g f) (Some g) (Some f)
+earlier (Some f) (Some g) = cond (comes_before g f) (Some g) (Some f)

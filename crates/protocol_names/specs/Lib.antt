@@ -2,5 +2,5 @@
 pub mod Fault
 pub mod Finding
 pub mod Names
-pub mod Naming
+pub mod DeclaredNames
 pub mod Table

@@ -1,14 +1,16 @@
 ghost use Rattle.std.specs.Prelude.{◌≡◌, IfOk, MatchOption};
 ghost use Rattle.protocol_names.specs.Fault.{HasNoFault, IsFaultIn, IsFirstFault};
-ghost use Rattle.protocol_names.specs.Finding.{Finds, OfSome};
+ghost use Rattle.protocol_names.specs.Finding.{FindsFirst, OfSome};
 
-use super::directory::Directory;
+use super::declared_names::{
+    key_names, named_messages, named_params, named_protocols, named_roles,
+};
 use super::fault::DocumentFault;
 use super::finding::earlier;
 use super::items::body_fault;
 use super::names::Names;
-use super::naming::{key_names, named_messages, named_params, named_protocols, named_roles};
 use super::params::public_fault;
+use super::protocol_table::ProtocolTable;
 use bspl_parser::{Declaration, Document};
 use bspl_types::NoMemory;
 use std::alloc::Global;
@@ -21,7 +23,7 @@ pub fn first_fault(alloc: Global, document: &Document) -> Result<Option<Document
     let protocols = document.protocols.as_slice();
     let naming = named_protocols(alloc, protocols)?;
     let duplicate = naming.first;
-    let directory = Directory {
+    let directory = ProtocolTable {
         protocols,
         names: naming.names,
     };
@@ -31,10 +33,10 @@ pub fn first_fault(alloc: Global, document: &Document) -> Result<Option<Document
 
 fn fault_in_some(
     alloc: Global,
-    directory: &Directory,
+    directory: &ProtocolTable,
     protocols: &[Declaration],
 ) -> Result<Option<DocumentFault>, NoMemory>
-    ensures { IfOk result (Finds (OfSome (IsFaultIn directory.now.protocols.now) protocols.now)) }
+    ensures { IfOk result (FindsFirst (OfSome (IsFaultIn directory.now.protocols.now) protocols.now)) }
 {
     let mut first = None;
     for protocol in protocols {
@@ -45,10 +47,10 @@ fn fault_in_some(
 
 fn fault_in(
     alloc: Global,
-    directory: &Directory,
+    directory: &ProtocolTable,
     p: &Declaration,
 ) -> Result<Option<DocumentFault>, NoMemory>
-    ensures { IfOk result (Finds (IsFaultIn directory.now.protocols.now p.now)) }
+    ensures { IfOk result (FindsFirst (IsFaultIn directory.now.protocols.now p.now)) }
 {
     let roles = named_roles(alloc, p.roles.as_slice())?;
     let params = named_params(alloc, p.public.as_slice(), p.private.as_slice())?;

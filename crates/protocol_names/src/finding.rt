@@ -1,5 +1,5 @@
 ghost use Rattle.std.specs.Prelude.{◌≡◌, IsTrue, cond};
-ghost use Rattle.protocol_names.specs.Finding.{earlier, Finds, FaultIf, rank, stands_before};
+ghost use Rattle.protocol_names.specs.Finding.{earlier, FindsFirst, FaultIf, rank, comes_before};
 
 use super::fault::{DocumentFault, FaultKind};
 
@@ -19,7 +19,7 @@ pub(crate) fn earlier(
 
 /// The fault, if it stands.
 pub(crate) fn fault_if(stands: bool, kind: FaultKind, offset: u64) -> Option<DocumentFault>
-    ensures { Finds (FaultIf (IsTrue stands) kind offset) result }
+    ensures { FindsFirst (FaultIf (IsTrue stands) kind offset) result }
 {
     if stands {
         return Some(DocumentFault { kind, offset });
@@ -28,13 +28,13 @@ pub(crate) fn fault_if(stands: bool, kind: FaultKind, offset: u64) -> Option<Doc
 }
 
 fn first_of(f: DocumentFault, g: DocumentFault) -> DocumentFault
-    ensures { result ≡ cond (stands_before g f) g f }
+    ensures { result ≡ cond (comes_before g f) g f }
 {
-    if stands_before(g, f) { g } else { f }
+    if comes_before(g, f) { g } else { f }
 }
 
-fn stands_before(f: DocumentFault, g: DocumentFault) -> bool
-    ensures { result ≡ stands_before f g }
+fn comes_before(f: DocumentFault, g: DocumentFault) -> bool
+    ensures { result ≡ comes_before f g }
 {
     f.offset < g.offset || f.offset == g.offset && rank(f.kind) < rank(g.kind)
 }

@@ -1,24 +1,24 @@
 ghost use Rattle.std.specs.Prelude.{◌≡◌};
-ghost use Rattle.protocol_names.specs.Fault.{IsItemFault, IsUnknown, IsUseFault};
-ghost use Rattle.protocol_names.specs.Finding.{Finds, OfSome};
+ghost use Rattle.protocol_names.specs.Fault.{IsItemFault, IsUnknown, IsTargetFault};
+ghost use Rattle.protocol_names.specs.Finding.{FindsFirst, OfSome};
 ghost use Rattle.protocol_names.specs.Names.{params_used, roles_used};
 
-use super::directory::Directory;
 use super::fault::DocumentFault;
 use super::finding::earlier;
+use super::name_table::NameTable;
 use super::names::Names;
 use super::params::{params_fault, unknown_fault};
+use super::protocol_table::ProtocolTable;
 use super::references::reference_fault;
-use super::register::Register;
 use bspl_parser::{Formal, Item, Word};
 
 /// The first fault of a body.
 pub(crate) fn body_fault(
-    directory: &Directory,
+    directory: &ProtocolTable,
     names: &Names,
     body: &[Item],
 ) -> Option<DocumentFault>
-    ensures { Finds (OfSome (IsItemFault directory.now.protocols.now names.now) body.now) result }
+    ensures { FindsFirst (OfSome (IsItemFault directory.now.protocols.now names.now) body.now) result }
 {
     let mut first = None;
     for item in body {
@@ -27,8 +27,8 @@ pub(crate) fn body_fault(
     first
 }
 
-fn item_fault(directory: &Directory, names: &Names, item: &Item) -> Option<DocumentFault>
-    ensures { Finds (IsItemFault directory.now.protocols.now names.now item.now) result }
+fn item_fault(directory: &ProtocolTable, names: &Names, item: &Item) -> Option<DocumentFault>
+    ensures { FindsFirst (IsItemFault directory.now.protocols.now names.now item.now) result }
 {
     let roles = roles_used_fault(&names.roles, item);
     let params = params_fault(names, params_used(item));
@@ -36,8 +36,8 @@ fn item_fault(directory: &Directory, names: &Names, item: &Item) -> Option<Docum
     earlier(roles, earlier(params, reference))
 }
 
-fn roles_used_fault(declared: &Register, item: &Item) -> Option<DocumentFault>
-    ensures { Finds (OfSome (IsUnknown declared.now) (roles_used item.now)) result }
+fn roles_used_fault(declared: &NameTable, item: &Item) -> Option<DocumentFault>
+    ensures { FindsFirst (OfSome (IsUnknown declared.now) (roles_used item.now)) result }
 {
     match item {
         Item::Message(schema) => earlier(
@@ -48,8 +48,8 @@ fn roles_used_fault(declared: &Register, item: &Item) -> Option<DocumentFault>
     }
 }
 
-fn unknown_in(declared: &Register, words: &[Word]) -> Option<DocumentFault>
-    ensures { Finds (OfSome (IsUnknown declared.now) words.now) result }
+fn unknown_in(declared: &NameTable, words: &[Word]) -> Option<DocumentFault>
+    ensures { FindsFirst (OfSome (IsUnknown declared.now) words.now) result }
 {
     let mut first = None;
     for word in words {
@@ -67,8 +67,8 @@ fn params_used(item: &Item) -> &[Formal]
     }
 }
 
-fn use_fault(directory: &Directory, item: &Item) -> Option<DocumentFault>
-    ensures { Finds (IsUseFault directory.now.protocols.now item.now) result }
+fn use_fault(directory: &ProtocolTable, item: &Item) -> Option<DocumentFault>
+    ensures { FindsFirst (IsTargetFault directory.now.protocols.now item.now) result }
 {
     match item {
         Item::Message(_) => None,

@@ -1,21 +1,21 @@
 //! Which names a protocol document declares and uses, and its first fault.
 #![tactic(auto)]
 
-mod directory;
+mod declared_names;
 mod document;
 mod fault;
 mod finding;
 mod items;
+mod name_table;
 mod names;
-mod naming;
 mod params;
+mod protocol_table;
 mod references;
-mod register;
 
-pub use directory::Directory;
 pub use document::first_fault;
 pub use fault::{DocumentFault, FaultKind};
-pub use register::Register;
+pub use name_table::NameTable;
+pub use protocol_table::ProtocolTable;
 
 #[cfg(test)]
 mod fault_texts;

@@ -1,11 +1,11 @@
-use super::register::Register;
+use super::name_table::NameTable;
 
 /// The names that one protocol declares.
 #[derive(Drop)]
 pub struct Names {
-    pub roles: Register,
+    pub roles: NameTable,
     /// The public parameters, and the private ones after them.
-    pub params: Register,
+    pub params: NameTable,
     /// The public parameters that are marked as keys.
-    pub keys: Register,
+    pub keys: NameTable,
 }

@@ -1,17 +1,17 @@
 ghost use Rattle.std.specs.Prelude.{◌≡◌, ◌⊎◌, ◌↔◌, IsTrue};
 ghost use Rattle.bspl_parser.specs.declared.document.Adorn.TheVariants.{Any, Opt};
 ghost use Rattle.protocol_names.specs.Fault.{IsForeignKey, IsParamFault, IsUnknown, IsUnsupported};
-ghost use Rattle.protocol_names.specs.Finding.{Finds, OfSome};
+ghost use Rattle.protocol_names.specs.Finding.{FindsFirst, OfSome};
 
 use super::fault::{DocumentFault, FaultKind};
 use super::finding::{earlier, fault_if};
+use super::name_table::NameTable;
 use super::names::Names;
-use super::register::Register;
 use bspl_parser::{Adorn, Formal, Word};
 
 /// The first fault of the public parameters.
 pub(crate) fn public_fault(formals: &[Formal]) -> Option<DocumentFault>
-    ensures { Finds (OfSome IsUnsupported formals.now) result }
+    ensures { FindsFirst (OfSome IsUnsupported formals.now) result }
 {
     let mut first = None;
     for formal in formals {
@@ -22,7 +22,7 @@ pub(crate) fn public_fault(formals: &[Formal]) -> Option<DocumentFault>
 
 /// The first fault of the parameters of a message or of a reference.
 pub(crate) fn params_fault(names: &Names, formals: &[Formal]) -> Option<DocumentFault>
-    ensures { Finds (OfSome (IsParamFault names.now) formals.now) result }
+    ensures { FindsFirst (OfSome (IsParamFault names.now) formals.now) result }
 {
     let mut first = None;
     for formal in formals {
@@ -32,7 +32,7 @@ pub(crate) fn params_fault(names: &Names, formals: &[Formal]) -> Option<Document
 }
 
 fn param_fault(names: &Names, formal: &Formal) -> Option<DocumentFault>
-    ensures { Finds (IsParamFault names.now formal.now) result }
+    ensures { FindsFirst (IsParamFault names.now formal.now) result }
 {
     let unknown = unknown_fault(&names.params, &formal.name);
     let unsupported = unsupported_fault(formal);
@@ -41,15 +41,15 @@ fn param_fault(names: &Names, formal: &Formal) -> Option<DocumentFault>
 }
 
 /// The fault of a name that is not declared.
-pub(crate) fn unknown_fault(declared: &Register, word: &Word) -> Option<DocumentFault>
-    ensures { Finds (IsUnknown declared.now word.now) result }
+pub(crate) fn unknown_fault(declared: &NameTable, word: &Word) -> Option<DocumentFault>
+    ensures { FindsFirst (IsUnknown declared.now word.now) result }
 {
     let known = declared.has(word.text.as_slice());
     fault_if(!known, FaultKind::Unknown, word.offset)
 }
 
 fn unsupported_fault(formal: &Formal) -> Option<DocumentFault>
-    ensures { Finds (IsUnsupported formal.now) result }
+    ensures { FindsFirst (IsUnsupported formal.now) result }
 {
     let unsupported = is_unsupported(formal.adorn);
     fault_if(unsupported, FaultKind::BadAdornment, formal.offset)
@@ -61,8 +61,8 @@ fn is_unsupported(adorn: Adorn) -> bool
     matches!(adorn, Adorn::Any | Adorn::Opt)
 }
 
-fn foreign_key_fault(keys: &Register, formal: &Formal) -> Option<DocumentFault>
-    ensures { Finds (IsForeignKey keys.now formal.now) result }
+fn foreign_key_fault(keys: &NameTable, formal: &Formal) -> Option<DocumentFault>
+    ensures { FindsFirst (IsForeignKey keys.now formal.now) result }
 {
     let place = formal.key?;
     let known = keys.has(formal.name.text.as_slice());

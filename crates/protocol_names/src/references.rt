@@ -1,17 +1,17 @@
 ghost use Rattle.std.specs.Prelude.{◌≡◌, ◌≢◌, ◌↔◌, IsTrue, length};
 ghost use Rattle.std.specs.List.{zip};
-ghost use Rattle.protocol_names.specs.Fault.{IsOther, IsReferenceFault};
-ghost use Rattle.protocol_names.specs.Finding.{Finds, OfSome};
+ghost use Rattle.protocol_names.specs.Fault.{AdornmentDiffers, IsReferenceFault};
+ghost use Rattle.protocol_names.specs.Finding.{FindsFirst, OfSome};
 ghost use Rattle.protocol_names.specs.Names.{IsSameArity};
 
-use super::directory::Directory;
 use super::fault::{DocumentFault, FaultKind};
 use super::finding::{earlier, fault_if};
+use super::protocol_table::ProtocolTable;
 use bspl_parser::{Adorn, Declaration, Formal, Reference};
 
 /// The first fault of a reference against the protocol that it names.
-pub(crate) fn reference_fault(directory: &Directory, r: &Reference) -> Option<DocumentFault>
-    ensures { Finds (IsReferenceFault directory.now.protocols.now r.now) result }
+pub(crate) fn reference_fault(directory: &ProtocolTable, r: &Reference) -> Option<DocumentFault>
+    ensures { FindsFirst (IsReferenceFault directory.now.protocols.now r.now) result }
 {
     let Some(q) = directory.protocol(r.protocol.text.as_slice()) else {
         return Some(DocumentFault {
@@ -36,7 +36,7 @@ fn is_same_arity(r: &Reference, q: &Declaration) -> bool
 
 fn other_adornment(given: &[Formal], declared: &[Formal]) -> Option<DocumentFault>
     requires { length given.now ≡ length declared.now }
-    ensures { Finds (OfSome IsOther (zip given.now declared.now)) result }
+    ensures { FindsFirst (OfSome AdornmentDiffers (zip given.now declared.now)) result }
 {
     let mut first = None;
     for (place, formal) in given.iter().enumerate() {

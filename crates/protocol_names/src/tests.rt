@@ -48,7 +48,7 @@ fn at_one_offset_the_kind_that_comes_first_counts(rt: HostRuntime) -> Result<(),
 
 #[test]
 fn a_name_keeps_its_first_place(rt: HostRuntime) -> Result<(), Fail> {
-    let mut register = Register::new(rt.alloc());
+    let mut register = NameTable::new(rt.alloc());
     for name in [b"buyer".as_slice(), b"seller", b"buyer", b"bank"] {
         register.push(name)?;
     }

@@ -16,7 +16,7 @@ use Rattle.protocol_names.specs.Names.{param_words, texts}
 use Rattle.protocol_paths.specs.Bare.{IsBare, IsBareFormal, IsBareItem, IsBareMessage, IsMessage}
 use Rattle.protocol_paths.specs.Flat.{IsFlat, IsImage, IsImageFormal, IsImageItem, entry, private_entries, privates_at}
 use Rattle.protocol_paths.specs.Path.{Step, item_messages, paths, steps_at}
-use Rattle.protocol_paths.specs.Place.{place_at, stands_for, start}
+use Rattle.protocol_paths.specs.Scope.{scope_at, stands_for, start}
 use Rattle.protocol_paths.specs.Renamed.{IsRenamed}
 use Rattle.protocol_paths.proofs.Opened.{message_alone}
 
@@ -79,7 +79,7 @@ one_path (suc n) protocols top alone = ap (λ (list : List Step). [] ∷ flat_ma
 
 pub bare_private : (n : ℕ) (protocols : List Declaration) (top : Declaration) → All IsMessage top.body → private_entries n protocols (start top) ≡ map entry top.private
 bare_private n protocols top alone =
-    ap (flat_map (λ path. privates_at (place_at (start top) path))) (one_path n protocols top alone) ∙ append-nil (privates_at (start top))
+    ap (flat_map (λ path. privates_at (scope_at (start top) path))) (one_path n protocols top alone) ∙ append-nil (privates_at (start top))
 
 pub bare_flat : (protocols : List Declaration) (top p : Declaration) → All IsMessage top.body → IsFlat protocols top p → IsBare top p
 bare_flat protocols top p alone flat = record {

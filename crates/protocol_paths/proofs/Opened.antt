@@ -10,11 +10,11 @@ use Rattle.bspl_parser.specs.declared.document.Item.TheVariants.{Message, Refere
 use Rattle.bspl_parser.specs.declared.document.Reference.{Reference as Use}
 use Rattle.bspl_parser.specs.declared.document.Schema.{Schema}
 use Rattle.protocol_names.specs.Names.{protocol_of}
-use Rattle.protocol_paths.specs.declared.marks.Marks.{Marks}
-use Rattle.protocol_paths.specs.Flat.{Adds, IsImageItem}
-use Rattle.protocol_paths.specs.Marks.{AreMarks, IsClosed}
+use Rattle.protocol_paths.specs.declared.marks.Skippable.{Skippable}
+use Rattle.protocol_paths.specs.Flat.{AddsEach, IsImageItem}
+use Rattle.protocol_paths.specs.Skippable.{AreSkippable, IsSkipped}
 use Rattle.protocol_paths.specs.Path.{Step, behind, item_messages, message_paths, steps_at}
-use Rattle.protocol_paths.specs.Place.{Place, after}
+use Rattle.protocol_paths.specs.Scope.{Scope, after}
 use Rattle.protocol_paths.proofs.Adding.{adds_behind, on_ok}
 use Rattle.protocol_paths.proofs.Fewer.{fewer_messages}
 
@@ -49,19 +49,19 @@ messages_behind (suc n) protocols position r q some found =
     ∙ ap (λ m. map (behind (step_by position r q)) (message_paths m protocols q)) less
 
 -- there are none behind one that is passed over
-pub messages_closed : (n : ℕ) (protocols : List Declaration) (marks : Marks) (position : ℕ) (r : Use) → n ≤ length protocols → AreMarks protocols marks → IsClosed protocols marks.messages.now r.protocol.text → item_messages n protocols (position, Reference r) ≡ []
+pub messages_closed : (n : ℕ) (protocols : List Declaration) (marks : Skippable) (position : ℕ) (r : Use) → n ≤ length protocols → AreSkippable protocols marks → IsSkipped protocols marks.messages.now r.protocol.text → item_messages n protocols (position, Reference r) ≡ []
 messages_closed zero protocols marks position r within marked closed = refl
 messages_closed (suc n) protocols marks position r within marked closed =
     no_step (λ s. map (behind s) (message_paths n protocols s.target)) protocols position r
     (λ q found. ap (map (behind (step_by position r q))) (fewer_messages n (length protocols) protocols q (omega (arith, within)) (marked.messages q (closed q found))))
 
 -- what has been added from the next place stands behind the reference
-pub added_behind : {T E : Type 0} (protocols : List Declaration) (place next : Place) (n position : ℕ) (r : Use) (q : Declaration) (i : Item) (old new : List Item) (result : Result T E) → i ≡ Reference r → 0 < n → protocol_of protocols r.protocol.text ≡ Some q → next ≡ after place (step_by position r q) → OnOk result (Adds (IsImageItem next) (message_paths (n - 1) protocols next.protocol) old new) → OnOk result (Adds (IsImageItem place) (item_messages n protocols (position, i)) old new)
+pub added_behind : {T E : Type 0} (protocols : List Declaration) (place next : Scope) (n position : ℕ) (r : Use) (q : Declaration) (i : Item) (old new : List Item) (result : Result T E) → i ≡ Reference r → 0 < n → protocol_of protocols r.protocol.text ≡ Some q → next ≡ after place (step_by position r q) → OnOk result (AddsEach (IsImageItem next) (message_paths (n - 1) protocols next.protocol) old new) → OnOk result (AddsEach (IsImageItem place) (item_messages n protocols (position, i)) old new)
 added_behind protocols place next n position r q i old new result is some found leads added = on_ok result to added
   where
-    to : Adds (IsImageItem next) (message_paths (n - 1) protocols next.protocol) old new → Adds (IsImageItem place) (item_messages n protocols (position, i)) old new
+    to : AddsEach (IsImageItem next) (message_paths (n - 1) protocols next.protocol) old new → AddsEach (IsImageItem place) (item_messages n protocols (position, i)) old new
     to adds =
-        let there : next.protocol ≡ q = ap (λ (p : Place). p.protocol) leads in
+        let there : next.protocol ≡ q = ap (λ (p : Scope). p.protocol) leads in
         let same : item_messages n protocols (position, i) ≡ map (behind (step_by position r q)) (message_paths (n - 1) protocols next.protocol) =
         ap (λ (j : Item). item_messages n protocols (position, j)) is ∙ messages_behind n protocols position r q some found ∙ ap (λ (p : Declaration). map (behind (step_by position r q)) (message_paths (n - 1) protocols p)) (sym there) in
-        subst (λ (xs : List (List Step × Schema)). Adds (IsImageItem place) xs old new) (sym same) (adds_behind place next (step_by position r q) (message_paths (n - 1) protocols next.protocol) old new leads adds)
+        subst (λ (xs : List (List Step × Schema)). AddsEach (IsImageItem place) xs old new) (sym same) (adds_behind place next (step_by position r q) (message_paths (n - 1) protocols next.protocol) old new leads adds)

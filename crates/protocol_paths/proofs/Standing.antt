@@ -10,7 +10,7 @@ use denote.Ref.{Bor}
 use Rattle.bspl_parser.specs.declared.word.Word.{Word}
 use Rattle.protocol_names.specs.Names.{texts}
 use Rattle.protocol_names.proofs.Lookups.{item_at}
-use Rattle.protocol_paths.specs.Place.{stands_for}
+use Rattle.protocol_paths.specs.Scope.{stands_for}
 
 -- what is lent, or the word itself
 lent : (found : Option (Bor Word)) (word : Bor Word) → (unwrap_or found word).now ≡ unwrap_or (option_copied found) word.now

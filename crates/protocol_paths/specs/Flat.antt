@@ -8,26 +8,26 @@ use Rattle.bspl_parser.specs.declared.document.Item.TheVariants.{Message, Refere
 use Rattle.bspl_parser.specs.declared.document.Schema.{Schema}
 use Rattle.bspl_parser.specs.declared.word.Word.{Word}
 use Rattle.protocol_paths.specs.Path.{Step, message_paths, paths}
-use Rattle.protocol_paths.specs.Place.{Place, param_at, place_at, role_at, start}
+use Rattle.protocol_paths.specs.Scope.{Scope, param_at, scope_at, role_at, start}
 use Rattle.protocol_paths.specs.Renamed.{IsRenamed}
 
 -- a parameter of a message, under what stands for its name, and without the word `key`
-pub record IsImageFormal (place : Place) (f f' : Formal) : Type 0 where
+pub record IsImageFormal (place : Scope) (f f' : Formal) : Type 0 where
   pub name : IsRenamed (param_at place f.name.text) f.name f'.name
   pub adorn : f'.adorn ≡ f.adorn
   pub offset : f'.offset ≡ f.offset
   pub bare : f'.key ≡ None
 
 -- a message of the protocol at the place: its name behind the prefix, and what stands for its roles and parameters
-pub record IsImage (place : Place) (m m' : Schema) : Type 0 where
+pub record IsImage (place : Scope) (m m' : Schema) : Type 0 where
   pub named : IsRenamed (place.prefix ++ m.name.text) m.name m'.name
   pub sent : IsRenamed (role_at place m.sender.text) m.sender m'.sender
   pub received : IsRenamed (role_at place m.receiver.text) m.receiver m'.receiver
   pub carries : AllZip (IsImageFormal place) m.params m'.params
 
 -- the message at the end of a path from the place; a reference is no message
-abbrev pub IsImageItem : Place → List Step × Schema → Item → Type 0
-IsImageItem place (path, m) (Message m') = IsImage (place_at place path) m m'
+abbrev pub IsImageItem : Scope → List Step × Schema → Item → Type 0
+IsImageItem place (path, m) (Message m') = IsImage (scope_at place path) m m'
 IsImageItem place (path, m) (Reference r) = ⊥
 
 -- the name and the offset of a word
@@ -35,12 +35,12 @@ abbrev pub entry : Word → List ℕ × ℕ
 entry w = (w.text, w.offset)
 
 -- the private parameters of the protocol at the place, their names behind the prefix
-abbrev pub privates_at : Place → List (List ℕ × ℕ)
+abbrev pub privates_at : Scope → List (List ℕ × ℕ)
 privates_at place = map (λ w. (place.prefix ++ w.text, w.offset)) place.protocol.private
 
 -- those at the ends of the paths of at most `n` references from the place
-abbrev pub private_entries : ℕ → List Declaration → Place → List (List ℕ × ℕ)
-private_entries n protocols place = flat_map (λ path. privates_at (place_at place path)) (paths n protocols place.protocol)
+abbrev pub private_entries : ℕ → List Declaration → Scope → List (List ℕ × ℕ)
+private_entries n protocols place = flat_map (λ path. privates_at (scope_at place path)) (paths n protocols place.protocol)
 
 -- the top protocol with the messages and private parameters at the ends of its paths, through no more references than there are protocols
 pub record IsFlat (protocols : List Declaration) (top p : Declaration) : Type 0 where
@@ -51,7 +51,7 @@ pub record IsFlat (protocols : List Declaration) (top p : Declaration) : Type 0 
   pub body : AllZip (IsImageItem (start top)) (message_paths (length protocols) protocols top) p.body
 
 -- items were put at the end, one for each `x`
-pub record Adds {X Y : Type 0} (R : X → Y → Type 0) (xs : List X) (old new : List Y) : Type 0 where
+pub record AddsEach {X Y : Type 0} (R : X → Y → Type 0) (xs : List X) (old new : List Y) : Type 0 where
   pub more : List Y
   pub parts : new ≡ old ++ more
   pub each : AllZip R xs more

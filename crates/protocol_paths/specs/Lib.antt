@@ -1,9 +1,9 @@
 -- The definitions that the contracts cite.
 pub mod Bare
 pub mod Flat
-pub mod Marks
+pub mod Skippable
 pub mod Path
-pub mod Place
+pub mod Scope
 pub mod Prefix
 pub mod Renamed
 pub mod Seen

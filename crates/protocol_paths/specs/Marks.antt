@@ -2,7 +2,7 @@
 use Rattle.std.specs.Prelude.{◌≡◌, ℕ, Bool, false, List, [], length, slice_get, Some}
 use Rattle.bspl_parser.specs.declared.document.Declaration.{Declaration}
 use Rattle.protocol_names.specs.Names.{protocol_of}
-use Rattle.protocol_paths.specs.declared.marks.Marks.{Marks}
+use Rattle.protocol_paths.specs.declared.marks.Skippable.{Skippable}
 use Rattle.protocol_paths.specs.Path.{message_paths, private_words}
 
 -- the protocol has a number at which the mark is false
@@ -12,10 +12,10 @@ pub record IsMarked (protocols : List Declaration) (marks : List Bool) (q : Decl
   pub closed : slice_get marks number ≡ Some false
 
 -- if a protocol has the name, it is marked so
-abbrev pub IsClosed : List Declaration → List Bool → List ℕ → Type 0
-IsClosed protocols marks name = (q : Declaration) → protocol_of protocols name ≡ Some q → IsMarked protocols marks q
+abbrev pub IsSkipped : List Declaration → List Bool → List ℕ → Type 0
+IsSkipped protocols marks name = (q : Declaration) → protocol_of protocols name ≡ Some q → IsMarked protocols marks q
 
 -- those marked false have no message, or no private parameter, at the end of a path
-pub record AreMarks (protocols : List Declaration) (marks : Marks) : Type 0 where
+pub record AreSkippable (protocols : List Declaration) (marks : Skippable) : Type 0 where
   pub messages : (q : Declaration) → IsMarked protocols marks.messages.now q → message_paths (length protocols) protocols q ≡ []
   pub privates : (q : Declaration) → IsMarked protocols marks.privates.now q → private_words (length protocols) protocols q ≡ []

@@ -9,7 +9,7 @@ use Rattle.protocol_paths.specs.Path.{Step}
 use Rattle.protocol_paths.specs.Prefix.{numbered_name}
 
 -- where a path has led: the protocol, the prefix of its private names, and what stands for its roles and parameters, in declared order
-pub record Place : Type 0 where
+pub record Scope : Type 0 where
   pub protocol : Declaration
   pub prefix : List ℕ
   pub roles : List (List ℕ)
@@ -20,23 +20,23 @@ abbrev pub stands_for : List (List ℕ) → List (List ℕ) → List ℕ → Lis
 stands_for declared names name = option_map_or (λ k. slice_index_or names k name) (position (λ n. bytes_eq n name) declared) name
 
 -- what stands for a role
-abbrev pub role_at : Place → List ℕ → List ℕ
+abbrev pub role_at : Scope → List ℕ → List ℕ
 role_at place name = stands_for (texts place.protocol.roles) place.roles name
 
 -- what stands for a parameter
-abbrev pub param_at : Place → List ℕ → List ℕ
+abbrev pub param_at : Scope → List ℕ → List ℕ
 param_at place name = stands_for (texts (param_words place.protocol)) place.params name
 
 -- in the top protocol each name stands for itself
-abbrev pub start : Declaration → Place
+abbrev pub start : Declaration → Scope
 start top = record { protocol = top; prefix = []; roles = texts top.roles; params = texts (param_words top) }
 
 -- the prefix behind one more reference
-abbrev pub prefix_after : Place → Step → List ℕ
+abbrev pub prefix_after : Scope → Step → List ℕ
 prefix_after place s = place.prefix ++ numbered_name s.target.name.text s.position
 
 -- after one more reference: by position, what stands for the names that it gives; private parameters behind the prefix
-abbrev pub after : Place → Step → Place
+abbrev pub after : Scope → Step → Scope
 after place s = record {
   protocol = s.target;
   prefix = prefix_after place s;
@@ -45,5 +45,5 @@ after place s = record {
 }
 
 -- after the references of a path
-abbrev pub place_at : Place → List Step → Place
-place_at place path = fold after place path
+abbrev pub scope_at : Scope → List Step → Scope
+scope_at place path = fold after place path

@@ -2,8 +2,8 @@ ghost use Rattle.std.specs.Prelude.{◌≡◌, IfOk};
 ghost use Rattle.protocol_names.specs.Names.{param_words, texts};
 
 use bspl_parser::{Declaration, Formal, FormalList, Word, WordList};
-use bspl_types::{Duplicate, NoMemory, Seq};
-use protocol_names::Register;
+use bspl_types::{NoMemory, Seq, TryClone};
+use protocol_names::NameTable;
 use std::alloc::Global;
 
 /// A copy of the word.
@@ -11,7 +11,7 @@ pub(crate) fn copied_word(word: &Word) -> Result<Word, NoMemory>
     ensures { IfOk result (λ w. w ≡ word.now) }
 {
     Ok(Word {
-        text: word.text.copy()?,
+        text: word.text.try_clone()?,
         offset: word.offset,
     })
 }
@@ -64,10 +64,10 @@ pub(crate) fn declared_params(alloc: Global, p: &Declaration) -> Result<WordList
 }
 
 /// A register of the words' names, in order.
-pub(crate) fn register_of(alloc: Global, words: &[Word]) -> Result<Register, NoMemory>
+pub(crate) fn register_of(alloc: Global, words: &[Word]) -> Result<NameTable, NoMemory>
     ensures { IfOk result (λ names. names ≡ texts words.now) }
 {
-    let mut names = Register::new(alloc);
+    let mut names = NameTable::new(alloc);
     for word in words {
         names.push(word.text.as_slice())?;
     }

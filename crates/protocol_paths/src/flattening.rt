@@ -2,32 +2,32 @@ ghost use Rattle.std.specs.Prelude.{IfOk};
 ghost use Rattle.std.specs.List.{All};
 ghost use Rattle.protocol_paths.specs.Bare.{IsBare, IsMessage};
 ghost use Rattle.protocol_paths.specs.Flat.{IsFlat};
-ghost use Rattle.protocol_paths.specs.Marks.{AreMarks};
+ghost use Rattle.protocol_paths.specs.Skippable.{AreSkippable};
 
 use super::copies::{copied_formals, copied_word, copied_words};
-use super::marks::Marks;
+use super::marks::Skippable;
 use super::messages::add_messages;
 use super::place::top_place;
 use super::privates::add_privates;
-use super::walk::Walk;
+use super::walk::Context;
 use bspl_parser::Declaration;
 use bspl_types::{NoMemory, Seq};
-use protocol_names::Directory;
+use protocol_names::ProtocolTable;
 use std::alloc::Global;
 
 /// The top protocol with each reference replaced by what it refers to, through no more references
 /// than there are protocols.
 pub fn flatten(
     alloc: Global,
-    directory: &Directory,
+    directory: &ProtocolTable,
     top: &Declaration,
-    marks: &Marks,
+    marks: &Skippable,
 ) -> Result<Declaration, NoMemory>
-    requires marked { AreMarks directory.now.protocols.now marks.now }
+    requires marked { AreSkippable directory.now.protocols.now marks.now }
     ensures flat { IfOk result (IsFlat directory.now.protocols.now top.now) }
     ensures bare { All IsMessage top.now.body → IfOk result (IsBare top.now) }
 {
-    let walk = Walk {
+    let walk = Context {
         alloc,
         directory,
         marks,

@@ -13,7 +13,7 @@ mod reached;
 mod walk;
 
 pub use flattening::flatten;
-pub use marks::Marks;
+pub use marks::Skippable;
 
 #[cfg(test)]
 mod tests;

@@ -1,28 +1,28 @@
 ghost use Rattle.std.specs.Prelude.{◌<◌, ◌≤◌, length, OnOk};
-ghost use Rattle.protocol_paths.specs.Flat.{Adds, IsImageItem};
-ghost use Rattle.protocol_paths.specs.Marks.{AreMarks};
+ghost use Rattle.protocol_paths.specs.Flat.{AddsEach, IsImageItem};
+ghost use Rattle.protocol_paths.specs.Skippable.{AreSkippable};
 ghost use Rattle.protocol_paths.specs.Path.{item_messages, message_paths};
-ghost use Rattle.protocol_paths.specs.Seen.{document_of, seen};
+ghost use Rattle.protocol_paths.specs.Seen.{protocols_of, seen};
 
 use super::image::image_of;
 use super::place::next_place;
 use super::reached::Reached;
-use super::walk::{Walk, open_target};
+use super::walk::{Context, kept_target};
 use bspl_parser::{Item, ItemList};
 use bspl_types::NoMemory;
 
-/// Adds the messages at the ends of the paths of at most so many references.
+/// AddsEach the messages at the ends of the paths of at most so many references.
 #[cycle(messages)]
 pub(crate) fn add_messages(
-    walk: &Walk,
+    walk: &Context,
     limit: usize,
     place: &Reached,
     body: &mut ItemList,
 ) -> Result<(), NoMemory>
-    requires within { limit ≤ length (document_of walk.now) }
-    requires marked { AreMarks (document_of walk.now) walk.now.marks.now }
-    ensures { OnOk result (Adds (IsImageItem (seen place.now))
-        (message_paths limit (document_of walk.now) place.now.protocol.now) body.old body.new) }
+    requires within { limit ≤ length (protocols_of walk.now) }
+    requires marked { AreSkippable (protocols_of walk.now) walk.now.marks.now }
+    ensures { OnOk result (AddsEach (IsImageItem (seen place.now))
+        (message_paths limit (protocols_of walk.now) place.now.protocol.now) body.old body.new) }
 {
     let items = place.protocol.body.as_slice();
     for (index, item) in items.iter().enumerate() {
@@ -31,10 +31,10 @@ pub(crate) fn add_messages(
     Ok(())
 }
 
-// Adds a message of the body, or those that a reference leads to.
+// AddsEach a message of the body, or those that a reference leads to.
 #[cycle(messages)]
 fn add_item(
-    walk: &Walk,
+    walk: &Context,
     limit: usize,
     place: &Reached,
     position: usize,
@@ -42,10 +42,10 @@ fn add_item(
     body: &mut ItemList,
 ) -> Result<(), NoMemory>
     requires counted { 0 < position }
-    requires within { limit ≤ length (document_of walk.now) }
-    requires marked { AreMarks (document_of walk.now) walk.now.marks.now }
-    ensures { OnOk result (Adds (IsImageItem (seen place.now))
-        (item_messages limit (document_of walk.now) (position, item.now)) body.old body.new) }
+    requires within { limit ≤ length (protocols_of walk.now) }
+    requires marked { AreSkippable (protocols_of walk.now) walk.now.marks.now }
+    ensures { OnOk result (AddsEach (IsImageItem (seen place.now))
+        (item_messages limit (protocols_of walk.now) (position, item.now)) body.old body.new) }
 {
     match item {
         Item::Message(schema) => {
@@ -56,7 +56,7 @@ fn add_item(
             if limit == 0 {
                 return Ok(());
             }
-            let Some(target) = open_target(walk.directory, walk.marks.messages, reference) else {
+            let Some(target) = kept_target(walk.directory, walk.marks.messages, reference) else {
                 return Ok(());
             };
             let next = next_place(walk.alloc, place, position, reference, target)?;

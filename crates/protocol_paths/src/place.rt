@@ -1,6 +1,6 @@
 ghost use Rattle.std.specs.Prelude.{◌≡◌, ◌<◌, ◌++◌, map, IfOk, OnOk};
 ghost use Rattle.protocol_names.specs.Names.{texts};
-ghost use Rattle.protocol_paths.specs.Place.{after, param_at, role_at, stands_for, start};
+ghost use Rattle.protocol_paths.specs.Scope.{after, param_at, role_at, stands_for, start};
 ghost use Rattle.protocol_paths.specs.Renamed.{IsRenamed};
 ghost use Rattle.protocol_paths.specs.Seen.{seen};
 
@@ -8,8 +8,8 @@ use super::copies::{copied_words, declared_params, register_of};
 use super::prefix::Prefix;
 use super::reached::Reached;
 use bspl_parser::{Declaration, Formal, Reference, Word, WordList};
-use bspl_types::{Duplicate, NoMemory, Seq};
-use protocol_names::Register;
+use bspl_types::{NoMemory, Seq, TryClone};
+use protocol_names::NameTable;
 use std::alloc::Global;
 
 /// The top protocol, in which nothing is renamed.
@@ -106,7 +106,7 @@ pub(crate) fn param_word(place: &Reached, param: &Word) -> Result<Word, NoMemory
     renamed(other, param)
 }
 
-fn stand_for<'w>(declared: &Register, words: &'w [Word], word: &'w Word) -> &'w Word
+fn stand_for<'w>(declared: &NameTable, words: &'w [Word], word: &'w Word) -> &'w Word
     ensures { result.now.text ≡ stands_for declared.now (texts words.now) word.now.text }
 {
     let Some(place) = declared.place(word.text.as_slice()) else {
@@ -119,7 +119,7 @@ fn renamed(other: &Word, word: &Word) -> Result<Word, NoMemory>
     ensures { IfOk result (IsRenamed other.now.text word.now) }
 {
     Ok(Word {
-        text: other.text.copy()?,
+        text: other.text.try_clone()?,
         offset: word.offset,
     })
 }

@@ -3,7 +3,7 @@ ghost use Rattle.protocol_paths.specs.Prefix.{IsPrefix, numbered_name};
 ghost use Rattle.protocol_paths.specs.Renamed.{IsRenamed};
 
 use bspl_parser::Word;
-use bspl_types::{Bytes, Duplicate, NoMemory, Seq};
+use bspl_types::{Bytes, NoMemory, Seq, TryClone};
 use std::alloc::Global;
 
 /// What stands before the private names of a protocol that was reached.
@@ -30,7 +30,7 @@ impl Prefix {
             p.text ≡ self.now.text ++ numbered_name target.now.text position) }
     {
         let number = position.to_string(alloc)?;
-        let mut text = self.text.copy()?;
+        let mut text = self.text.try_clone()?;
         text.append(target.text.as_slice())?;
         text.append(b"#")?;
         text.append(number.as_bytes())?;
@@ -42,7 +42,7 @@ impl Prefix {
     pub fn word(&self, word: &Word) -> Result<Word, NoMemory>
         ensures { IfOk result (IsRenamed (self.now.text ++ word.now.text) word.now) }
     {
-        let mut text = self.text.copy()?;
+        let mut text = self.text.try_clone()?;
         text.append(word.text.as_slice())?;
         Ok(Word {
             text,

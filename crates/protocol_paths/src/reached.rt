@@ -3,15 +3,15 @@ ghost use Rattle.protocol_names.specs.Names.{param_words, texts};
 
 use super::prefix::Prefix;
 use bspl_parser::{Declaration, WordList};
-use protocol_names::Register;
+use protocol_names::NameTable;
 
 /// A protocol that a path has led to, and what stands for its roles and parameters.
 #[derive(Drop)]
 pub(crate) struct Reached<'a> {
     pub protocol: &'a Declaration,
     pub prefix: Prefix,
-    pub role_names: Register,
-    pub param_names: Register,
+    pub role_names: NameTable,
+    pub param_names: NameTable,
     /// What stands for each role, in declared order.
     pub roles: WordList,
     /// What stands for each parameter, the public ones first.

@@ -1,7 +1,7 @@
 use super::*;
 use bspl_parser::{Declaration, Document, Formal, Item, Schema, Word, parse};
 use bspl_types::{Bytes, NoMemory, Seq};
-use protocol_names::Directory;
+use protocol_names::ProtocolTable;
 use std::alloc::Global;
 use std::test::Fail;
 
@@ -75,8 +75,8 @@ fn flat_text(alloc: Global, document: &Document) -> Result<Option<Bytes>, NoMemo
     let [top, ..] = protocols else {
         return Ok(None);
     };
-    let directory = Directory::new(alloc, protocols)?;
-    let flat = flatten(alloc, &directory, top, &Marks::none())?;
+    let directory = ProtocolTable::new(alloc, protocols)?;
+    let flat = flatten(alloc, &directory, top, &Skippable::none())?;
     Ok(Some(show(alloc, &flat)?))
 }
 

@@ -4,7 +4,7 @@ use Rattle.std.specs.List.{sum_by}
 use Rattle.std.proofs.lemmas.Bool.{cases_eq, cases_lt}
 use Rattle.std.proofs.lemmas.List.{get_or-set_same, get_or-set_other, map_more}
 use Rattle.std.proofs.lemmas.Option.{slice_get-get_or}
-use Rattle.bspl_types.specs.declared.memory.NoMemory.{NoMemory}
+use Rattle.list_base.specs.declared.memory.NoMemory.{NoMemory}
 use Rattle.reference_graph.specs.Graph.{successors}
 use Rattle.reference_graph.specs.Order.{IsTopological}
 use Rattle.reference_graph.specs.Counting.{weight_below, depth_within, greatest, saturated}

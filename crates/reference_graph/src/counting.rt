@@ -4,7 +4,7 @@ ghost use Rattle.reference_graph.specs.Counting.{weight_below, depth_within, sat
 ghost use Rattle.reference_graph.specs.Order.{IsTopological};
 
 use super::graph::Graph;
-use bspl_types::{NoMemory, Seq};
+use list_base::{NoMemory, Seq};
 use std::alloc::Global;
 
 /// For each node of the order, how many paths lead on from it, each weighed by the node where it

@@ -1,7 +1,7 @@
 ghost use Rattle.std.specs.Prelude.{◌≡◌, ◌<◌, ◌↔◌, length, IsTrue, All};
 ghost use Rattle.reference_graph.specs.Graph.{successors, AreNodes, IsGraph};
 
-use bspl_types::{NumberList, Seq};
+use list_base::{NumberList, Seq};
 use std::marker::Model;
 
 /// A graph of references. Contracts see, for each node, the nodes that it refers to, in order.

@@ -1,6 +1,6 @@
 ghost use Rattle.std.specs.Prelude.{◌≡◌, ◌<◌, IfOk, length, replicate, slice_get, slice_set, Some};
 
-use bspl_types::NoMemory;
+use list_base::NoMemory;
 use std::alloc::Global;
 use std::marker::Model;
 

@@ -1,4 +1,4 @@
-use bspl_types::NumberList;
+use list_base::NumberList;
 
 /// What a walk finds.
 #[derive(Drop)]

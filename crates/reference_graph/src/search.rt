@@ -5,7 +5,7 @@ ghost use Rattle.reference_graph.specs.Search.{IsSearching, IsTurn};
 use super::graph::Graph;
 use super::marks::{Mark, Marks};
 use super::step::Step;
-use bspl_types::{NoMemory, NumberList, Seq};
+use list_base::{NoMemory, NumberList, Seq};
 use std::alloc::Global;
 
 /// A search in depth: the path that is open, the place of the next reference of its last node, and

@@ -1,5 +1,5 @@
 use super::*;
-use bspl_types::{NoMemory, NumberList, Seq};
+use list_base::{NoMemory, NumberList, Seq};
 use std::alloc::Global;
 use std::test::Fail;
 

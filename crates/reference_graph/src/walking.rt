@@ -4,7 +4,7 @@ ghost use Rattle.reference_graph.specs.Outcome.{IsWalk};
 use super::graph::Graph;
 use super::outcome::Walk;
 use super::search::{Search, Turn};
-use bspl_types::NoMemory;
+use list_base::NoMemory;
 use std::alloc::Global;
 
 /// Walks from the node along all references, in order, and deep before wide, up to the first node

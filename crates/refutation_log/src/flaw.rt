@@ -2,7 +2,7 @@ ghost use Rattle.std.specs.Prelude.{◌≡◌};
 ghost use Rattle.refutation_log.specs.Reading.{refusal_at};
 
 use super::refusal::LogRefusal;
-use bspl_types::NoMemory;
+use list_base::NoMemory;
 
 /// Why a part of a line is not read.
 #[derive(Clone, Copy, Debug, PartialEq, Eq)]

@@ -11,7 +11,7 @@ use super::parts::cut;
 use super::refusal::LogRefusal;
 use super::refutation::{ChainList, Kind, Log};
 use super::steps::{Line, line_of};
-use bspl_types::Seq;
+use list_base::Seq;
 use std::alloc::Global;
 
 /// The kind and the log whose text this is.

@@ -1,6 +1,6 @@
 ghost use Rattle.std.specs.Prelude.{◌≡◌};
 
-use bspl_types::NoMemory;
+use list_base::NoMemory;
 
 /// Why a text is not read. The line is the first bad one, counted from 1.
 #[derive(Clone, Copy, Debug, PartialEq, Eq)]

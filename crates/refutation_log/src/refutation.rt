@@ -1,5 +1,5 @@
-use bspl_types::Seq;
 use clause_core::Lit;
+use list_base::Seq;
 
 /// What is refuted by a log: that a protocol is not safe, or that it is not live.
 #[derive(Clone, Copy, Debug, PartialEq, Eq)]

@@ -8,7 +8,7 @@ use super::flaw::Flaw;
 use super::numbers::{number_of, pivot_of};
 use super::parts::cut;
 use super::refutation::{Chain, Link, LinkList};
-use bspl_types::Seq;
+use list_base::Seq;
 use std::alloc::Global;
 
 /// A line after the header.

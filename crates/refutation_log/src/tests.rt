@@ -1,6 +1,6 @@
 use super::*;
-use bspl_types::Bytes;
 use clause_core::Lit;
+use list_base::Bytes;
 use std::alloc::Global;
 use std::test::Fail;
 

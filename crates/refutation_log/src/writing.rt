@@ -4,8 +4,8 @@ ghost use Rattle.refutation_log.specs.Writing.{spaced};
 
 use super::header::title;
 use super::refutation::{Chain, Kind, Link, Log};
-use bspl_types::{Bytes, NoMemory};
 use clause_core::Lit;
+use list_base::{Bytes, NoMemory};
 use std::alloc::Global;
 
 /// The text of the log, of which `read_log` gives this kind and log again.

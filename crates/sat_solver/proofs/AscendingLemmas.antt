@@ -5,7 +5,7 @@ use Rattle.std.proofs.lemmas.List.Elements.{Contains-get_or}
 use Rattle.clause_core.specs.declared.literal.Lit.{Lit}
 use Rattle.clause_core.specs.Literal.{rank}
 use Rattle.clause_core.specs.Clause.{IsAscending, HasExactly}
-use Rattle.clause_core.specs.Adding.{Adds}
+use Rattle.clause_core.specs.Adding.{Inserts}
 use Rattle.clause_core.proofs.Members.{here_same, there, nowhere, cons_cases}
 use Rattle.clause_core.proofs.LiteralLemmas.{same_rank}
 use Rattle.clause_core.proofs.ClauseLemmas.{ascending_nil, ascending_tail, first_below, first_least}
@@ -22,7 +22,7 @@ ascending_cons : (x : Lit) (xs : List Lit) → IsAscending xs → ((m : Lit) →
 ascending_cons x xs up below = record { ordered = cons_ordered x xs up below }
 
 -- a literal that is smaller than the first one
-adds_first : (l : Lit) (clause : List Lit) → IsAscending clause → ((m : Lit) → Contains clause m → rank l < rank m) → Adds clause l (l ∷ clause)
+adds_first : (l : Lit) (clause : List Lit) → IsAscending clause → ((m : Lit) → Contains clause m → rank l < rank m) → Inserts clause l (l ∷ clause)
 adds_first l clause up below = record {
   ascending = ascending_cons l clause up below;
   members = λ m. (
@@ -32,7 +32,7 @@ adds_first l clause up below = record {
 }
 
 -- a literal that is greater than the first one
-adds_later : (l m : Lit) (rest more : List Lit) → IsAscending (m ∷ rest) → rank m < rank l → Adds rest l more → Adds (m ∷ rest) l (m ∷ more)
+adds_later : (l m : Lit) (rest more : List Lit) → IsAscending (m ∷ rest) → rank m < rank l → Inserts rest l more → Inserts (m ∷ rest) l (m ∷ more)
 adds_later l m rest more up above adds = record {
   ascending = ascending_cons m more adds.ascending (λ k among. elim ((adds.members k).0 among) [
     | inl old ↦ first_below m rest up k old
@@ -54,7 +54,7 @@ adds_later l m rest more up above adds = record {
 }
 
 -- a clause takes one more literal
-adds : (l : Lit) (clause : List Lit) → IsAscending clause → (more : List Lit) × Adds clause l more
+adds : (l : Lit) (clause : List Lit) → IsAscending clause → (more : List Lit) × Inserts clause l more
 adds l [] up = (l ∷ [], adds_first l [] up (λ m none. absurd (nowhere m none)))
 adds l (m ∷ rest) up = elim (cases_order (rank l) (rank m)) [
   | inl same ↦ (m ∷ rest, adds_double (m ∷ rest) l up (here_same m rest l (sym (same_rank l m same))))

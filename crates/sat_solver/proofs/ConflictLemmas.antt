@@ -2,7 +2,7 @@
 use Rattle.std.proofs.Common.{◌≡◌, ◌≢◌, ℕ, ◌-◌, ◌<◌, Bool, true, false, Some, None, option_map, List, [], inl, inr, get_or, sym, ap, ◌∙◌, subst, arith, Contains}
 use Rattle.std.proofs.lemmas.List.Elements.{All-contains, Contains-get_or}
 use Rattle.clause_core.specs.declared.literal.Lit.{Lit}
-use Rattle.clause_core.specs.Propagation.{MakesFalse, Falsifies, LeavesOnly, IsQuiet, IsLacked}
+use Rattle.clause_core.specs.Propagation.{MakesFalse, Falsifies, LeavesOnly, IsPropagated, IsLacked}
 use Rattle.refutation_log.specs.declared.refutation.Chain.{Chain}
 use Rattle.sat_trail.specs.declared.entry.Entry.{Entry}
 use Rattle.sat_trail.specs.Entry.{values_of}
@@ -45,7 +45,7 @@ HasTwoCurrent-false t number clause trail above numbered falsified = elim (cases
   | inl single ↦ absurd (clash single.0 single.1)
 ]
   where
-    quiet : IsQuiet (values_of (up_to (t.level - 1) t.entries)) t.clauses
+    quiet : IsPropagated (values_of (up_to (t.level - 1) t.entries)) t.clauses
     quiet = IsQuietBelow-trail t trail (t.level - 1) (omega arith)
 
     among : Contains t.clauses clause

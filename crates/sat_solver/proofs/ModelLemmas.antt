@@ -7,7 +7,7 @@ use Rattle.clause_core.specs.declared.literal.Lit.{Lit}
 use Rattle.clause_core.specs.Assignment.{valuation}
 use Rattle.clause_core.specs.Clause.{VariablesExist, Satisfies, SatisfiesAll}
 use Rattle.clause_core.specs.Literal.{MakesTrue}
-use Rattle.clause_core.specs.Propagation.{MakesFalse, Falsifies, IsQuiet}
+use Rattle.clause_core.specs.Propagation.{MakesFalse, Falsifies, IsPropagated}
 use Rattle.sat_trail.specs.Entry.{values_of}
 use Rattle.sat_trail.specs.State.{State}
 use Rattle.sat_trail.specs.Trail.{IsTrail}
@@ -60,7 +60,7 @@ clause-decided f values vars (l ∷ rest) model set exist =
     ]
 
 -- where no clause is false and all variables have values, the values satisfy
-pub SatisfiesAll-model : (t : State) (values : List Bool) → IsTrail t → IsModel (values_of t.entries) values t.vars → AllSet t → IsQuiet (values_of t.entries) t.clauses → SatisfiesAll (valuation values) t.clauses
+pub SatisfiesAll-model : (t : State) (values : List Bool) → IsTrail t → IsModel (values_of t.entries) values t.vars → AllSet t → IsPropagated (values_of t.entries) t.clauses → SatisfiesAll (valuation values) t.clauses
 SatisfiesAll-model t values trail model set quiet k d within =
     elim (clause-decided (values_of t.entries) values t.vars (get_or t.clauses k d) model set (trail.clauses_exist k d within)) [
       | inl holds ↦ holds

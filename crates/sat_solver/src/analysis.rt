@@ -5,8 +5,8 @@ ghost use Rattle.sat_solver.specs.Analysis.{IsLearned, IsLowerLevel, Refuted, Ha
 ghost use Rattle.sat_solver.specs.Gathering.{IsDerivationOf, Gathers, StepsOver};
 
 use super::false_lits::FalseLits;
-use bspl_types::{NoMemory, Seq};
 use clause_core::{Clause, Lit};
+use list_base::{NoMemory, Seq};
 use refutation_log::{Chain, Link};
 use sat_trail::Trail;
 use std::alloc::Global;

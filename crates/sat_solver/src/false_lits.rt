@@ -8,8 +8,8 @@ ghost use Rattle.sat_solver.specs.Gathering.{is_current, AreFalse, Inserts, Inse
 ghost use Rattle.sat_solver.specs.LiteralSet.{TakesOut};
 
 use super::lit_set::LitSet;
-use bspl_types::NoMemory;
 use clause_core::Lit;
+use list_base::NoMemory;
 use sat_trail::Trail;
 use std::alloc::Global;
 

@@ -4,7 +4,7 @@ ghost use Rattle.sat_solver.specs.Analysis.{Learns};
 
 use super::analysis::{Derivation, learn, lower_level};
 use super::false_lits::FalseLits;
-use bspl_types::NoMemory;
+use list_base::NoMemory;
 use refutation_log::Chain;
 use sat_trail::Trail;
 use std::alloc::Global;

@@ -3,8 +3,8 @@ ghost use Rattle.std.specs.Bool.{OnTrue, OnFalse};
 ghost use Rattle.clause_core.specs.Literal.{negated};
 ghost use Rattle.sat_solver.specs.LiteralSet.{IsLiteralSet, TakesOut};
 
-use bspl_types::NoMemory;
 use clause_core::Lit;
+use list_base::NoMemory;
 use std::alloc::Global;
 use std::marker::Model;
 

@@ -1,13 +1,13 @@
 ghost use Rattle.std.specs.Prelude.{◌≡◌, ◌^◌, ◌<◌, ◌≤◌, IfOk, length};
 ghost use Rattle.clause_core.specs.Assignment.{valuation};
 ghost use Rattle.clause_core.specs.Clause.{SatisfiesAll};
-ghost use Rattle.clause_core.specs.Propagation.{IsQuiet};
+ghost use Rattle.clause_core.specs.Propagation.{IsPropagated};
 ghost use Rattle.sat_trail.specs.Entry.{values_of};
 ghost use Rattle.sat_trail.specs.Trail.{IsTrail};
 ghost use Rattle.sat_solver.specs.Choice.{AllSet};
 
-use bspl_types::{NoMemory, Seq};
 use clause_core::Assignment;
+use list_base::{NoMemory, Seq};
 use sat_trail::Trail;
 use std::alloc::Global;
 
@@ -15,7 +15,7 @@ use std::alloc::Global;
 pub fn model(alloc: Global, trail: &Trail, vars: u32) -> Result<Assignment, NoMemory>
     requires vars { vars ≡ trail.now.vars }
     requires sound { IsTrail trail.now }
-    requires quiet { IsQuiet (values_of trail.now.entries) trail.now.clauses }
+    requires quiet { IsPropagated (values_of trail.now.entries) trail.now.clauses }
     requires all_set { AllSet trail.now }
     ensures { IfOk result (λ assignment. SatisfiesAll (valuation assignment) trail.now.clauses) }
 {

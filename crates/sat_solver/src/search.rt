@@ -1,5 +1,5 @@
 ghost use Rattle.std.specs.Prelude.{◌≡◌, ◌<◌, ◌≤◌, length, IfSome, IfNone};
-ghost use Rattle.clause_core.specs.Propagation.{IsQuiet};
+ghost use Rattle.clause_core.specs.Propagation.{IsPropagated};
 ghost use Rattle.sat_trail.specs.Entry.{values_of};
 ghost use Rattle.sat_trail.specs.Trail.{IsTrail, IsFalsified};
 ghost use Rattle.sat_solver.specs.Choice.{AllSet};
@@ -22,7 +22,7 @@ pub fn search(
     requires sound { IsTrail trail.old }
     ensures goes_on { GoesOn trail.old trail.new }
     ensures falsified { IfSome result (IsFalsified trail.new) }
-    ensures quiet { IfNone result (IsQuiet (values_of trail.new.entries) trail.new.clauses) }
+    ensures quiet { IfNone result (IsPropagated (values_of trail.new.entries) trail.new.clauses) }
     ensures all_set { IfNone result (AllSet trail.new) }
 {
     'deciding: loop {

@@ -3,8 +3,8 @@ ghost use Rattle.clause_core.specs.Clause.{VariablesExist};
 
 use super::lit_set::LitSet;
 use super::{Outcome, solve};
-use bspl_types::{NoMemory, Seq};
 use clause_core::{Clause, ClauseList, Formula, Lit};
+use list_base::{NoMemory, Seq};
 use std::alloc::Global;
 use std::test::Fail;
 

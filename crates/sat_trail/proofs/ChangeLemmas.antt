@@ -4,7 +4,7 @@ use Rattle.std.proofs.lemmas.List.Elements.{All-append, All-contains, All-head, 
 use Rattle.std.proofs.lemmas.List.{get_or_append_left}
 use Rattle.clause_core.specs.declared.literal.Lit.{Lit}
 use Rattle.clause_core.specs.Clause.{VariablesExist}
-use Rattle.clause_core.specs.Propagation.{MakesFalse, Falsifies, LeavesOnly, IsQuiet}
+use Rattle.clause_core.specs.Propagation.{MakesFalse, Falsifies, LeavesOnly, IsPropagated}
 use Rattle.sat_trail.specs.declared.entry.Entry.{Entry}
 use Rattle.sat_trail.specs.Entry.{entry_of, values_of, last_level}
 use Rattle.sat_trail.specs.Growth.{HasNumber, IsDecision, IsForced, MayFollow, Follows}
@@ -66,8 +66,8 @@ open-before before rest e level l (Some d) is top low is_open =
     absurd (omega arith)
 
 -- one clause more leaves propagation nothing to do where the clause is settled
-IsQuiet-push : (values : ℕ → Option Bool) (clauses : List (List Lit)) (clause : List Lit) → IsQuiet values clauses → ¬ Falsifies values clause → ((l : Lit) → ¬ LeavesOnly values clause l) → IsQuiet values (clauses ++ clause ∷ [])
-IsQuiet-push values clauses clause quiet no_false no_unit = record {
+IsPropagated-push : (values : ℕ → Option Bool) (clauses : List (List Lit)) (clause : List Lit) → IsPropagated values clauses → ¬ Falsifies values clause → ((l : Lit) → ¬ LeavesOnly values clause l) → IsPropagated values (clauses ++ clause ∷ [])
+IsPropagated-push values clauses clause quiet no_false no_unit = record {
   no_false = All-push (λ c. ¬ Falsifies values c) clauses clause quiet.no_false no_false;
   no_unit = All-push (λ c. (l : Lit) → ¬ LeavesOnly values c l) clauses clause quiet.no_unit no_unit;
 }
@@ -87,7 +87,7 @@ decision-add : (clauses : List (List Lit)) (clause : List Lit) (before rest : Li
 decision-add clauses clause before rest e level top low decision is_open = record {
   no_reason = decision.no_reason;
   raises = decision.raises;
-  quiet = IsQuiet-push (values_of before) clauses clause decision.quiet
+  quiet = IsPropagated-push (values_of before) clauses clause decision.quiet
       (IsSettled-no_false (values_of before) clause settled) (λ l. IsSettled-no_unit (values_of before) clause l settled);
 }
   where
@@ -155,7 +155,7 @@ IsKept-add index new set level head looked ready clause kept exist few is_open g
 })
 
 -- below the first entry that is taken out stands a whole level, where propagation had nothing to do
-back_to-parts : (index : Indexed) (old kept : List Entry) (first : Entry) (rest : List Entry) (level : ℕ) → Follows index.clauses [] old → old ≡ kept ++ first ∷ rest → last_level kept ≤ level → level < first.level → (Follows index.clauses [] kept) × (last_level kept ≡ level) × IsQuiet (values_of kept) index.clauses
+back_to-parts : (index : Indexed) (old kept : List Entry) (first : Entry) (rest : List Entry) (level : ℕ) → Follows index.clauses [] old → old ≡ kept ++ first ∷ rest → last_level kept ≤ level → level < first.level → (Follows index.clauses [] kept) × (last_level kept ≡ level) × IsPropagated (values_of kept) index.clauses
 back_to-parts index old kept first rest level follows whole low high =
     let parts = Follows-split index.clauses [] kept (first ∷ rest) (subst (Follows index.clauses []) whole follows) in
     let last = decision-above index.clauses kept first level parts.1.0 low high in
@@ -180,7 +180,7 @@ IsKept-dropped index old new level level' head looked ready (first ∷ rest) kep
   all_seen = λ impossible. cc;
 }
   where
-    parts : (Follows index.clauses [] new.entries) × (last_level new.entries ≡ level') × IsQuiet (values_of new.entries) index.clauses
+    parts : (Follows index.clauses [] new.entries) × (last_level new.entries ≡ level') × IsPropagated (values_of new.entries) index.clauses
     parts = back_to-parts index old.entries new.entries first rest level' kept.trail.grown whole low (All-head (λ e. level' < e.level) first rest above)
 
 -- the parts of a trail after the way back

@@ -4,7 +4,7 @@ use Rattle.std.proofs.lemmas.Bool.{cases_lt}
 use Rattle.std.proofs.lemmas.List.Elements.{All-contains, All-cons, All-weaker, All-push, All-get_or}
 use Rattle.std.proofs.lemmas.List.Quantifiers.{all_pairs_push}
 use Rattle.clause_core.specs.declared.literal.Lit.{Lit}
-use Rattle.clause_core.specs.Propagation.{IsQuiet}
+use Rattle.clause_core.specs.Propagation.{IsPropagated}
 use Rattle.sat_trail.specs.declared.entry.Entry.{Entry}
 use Rattle.sat_trail.specs.Entry.{entry_of, values_of, last_level}
 use Rattle.sat_trail.specs.Growth.{IsDecision, IsForced, MayFollow, Follows}
@@ -29,7 +29,7 @@ levels-above clauses before (e ∷ rest) low follows high =
     (levels-above clauses (before ++ e ∷ []) rest low follows.1 (omega (arith, here, last_level-push before e)))
 
 -- below the level that is reached, unit propagation has nothing to do
-quiet-below : (clauses : List (List Lit)) (before rest : List Entry) (level : ℕ) → Follows clauses before rest → IsTop before → last_level before ≤ level → level < last_level (before ++ rest) → IsQuiet (values_of (up_to level (before ++ rest))) clauses
+quiet-below : (clauses : List (List Lit)) (before rest : List Entry) (level : ℕ) → Follows clauses before rest → IsTop before → last_level before ≤ level → level < last_level (before ++ rest) → IsPropagated (values_of (up_to level (before ++ rest))) clauses
 quiet-below clauses before [] level follows top low high = absurd (omega (arith, low, high, ap last_level (append-nil before)))
 quiet-below clauses before (e ∷ rest) level follows top low high = elim (cases_lt level e.level) [
   | inl above ↦
@@ -39,9 +39,9 @@ quiet-below clauses before (e ∷ rest) level follows top low high = elim (cases
       (All-cons (λ d. level < d.level) e rest above
       (All-weaker (λ d. e.level ≤ d.level) (λ d. level < d.level) (λ d over. omega (arith, over, above)) rest
       (levels-above clauses (before ++ e ∷ []) rest e.level follows.1 (omega (arith, last_level-push before e))))) in
-      subst (λ es. IsQuiet (values_of es) clauses) (sym front) (decision-above clauses before e level follows.0 low above).1
+      subst (λ es. IsPropagated (values_of es) clauses) (sym front) (decision-above clauses before e level follows.0 low above).1
   | inr under ↦
-      subst (λ es. IsQuiet (values_of (up_to level es)) clauses) (moved before e rest)
+      subst (λ es. IsPropagated (values_of (up_to level es)) clauses) (moved before e rest)
       (quiet-below clauses (before ++ e ∷ []) rest level follows.1 (IsTop-push clauses before e follows.0 top)
       (omega (arith, under, last_level-push before e)) (omega (arith, high, ap last_level (moved before e rest))))
 ]

@@ -4,7 +4,7 @@ use Rattle.std.proofs.lemmas.Bool.{le-leb, lt-leb}
 use Rattle.std.proofs.lemmas.List.Elements.{All-append, All-contains, All-head, All-tail, All-weaker, All-push, filter-append}
 use Rattle.std.specs.Prelude.{filter, nat_le}
 use Rattle.clause_core.specs.declared.literal.Lit.{Lit}
-use Rattle.clause_core.specs.Propagation.{IsQuiet}
+use Rattle.clause_core.specs.Propagation.{IsPropagated}
 use Rattle.sat_trail.specs.declared.entry.Entry.{Entry}
 use Rattle.sat_trail.specs.Entry.{entry_of, values_of, last_level}
 use Rattle.sat_trail.specs.Growth.{IsDecision, IsForced, MayFollow, Follows}
@@ -84,7 +84,7 @@ Follows-split clauses before (x ∷ xs) ys follows =
     ((follows.0, rest.0), subst (λ es. Follows clauses es ys) (moved before x xs) rest.1)
 
 -- an entry that rises above a level is a decision, made where propagation had nothing to do
-pub decision-above : (clauses : List (List Lit)) (before : List Entry) (e : Entry) (level : ℕ) → MayFollow clauses before e → last_level before ≤ level → level < e.level → (last_level before ≡ level) × IsQuiet (values_of before) clauses
+pub decision-above : (clauses : List (List Lit)) (before : List Entry) (e : Entry) (level : ℕ) → MayFollow clauses before e → last_level before ≤ level → level < e.level → (last_level before ≡ level) × IsPropagated (values_of before) clauses
 decision-above clauses before e level follows low high = elim follows.cause [
   | inl decision ↦ (omega (arith, decision.raises), decision.quiet)
   | inr forced ↦ absurd (omega (arith, forced.stays))

@@ -4,14 +4,14 @@ use Rattle.std.proofs.lemmas.Bool.{cases_eq}
 use Rattle.std.proofs.lemmas.List.{take_more, take_all, take-append-drop, take-append-le, get_or_append_left, get_or_default}
 use Rattle.clause_core.specs.declared.literal.Lit.{Lit}
 use Rattle.clause_core.specs.Literal.{negated}
-use Rattle.clause_core.specs.Propagation.{MakesFalse, Falsifies, LeavesOnly, IsQuiet}
+use Rattle.clause_core.specs.Propagation.{MakesFalse, Falsifies, LeavesOnly, IsPropagated}
 use Rattle.sat_trail.specs.declared.entry.Entry.{Entry}
 use Rattle.sat_trail.specs.Entry.{entry_of, values_of}
 use Rattle.sat_trail.specs.Examination.{OthersFalse, IsSettled}
 use Rattle.sat_trail.specs.Propagation.{HasPassed, IsSeen}
 use Rattle.sat_trail.proofs.EntryLemmas.{entry_of-kept, entry_of-push_other, entry_of-push_same, entry_of-missing}
 use Rattle.sat_trail.proofs.LiteralLemmas.{same_literal, cases_member, not-not}
-use Rattle.sat_trail.proofs.SettledLemmas.{IsSettled-later, IsSettled-earlier, IsSettled-quiet, IsQuiet-settled}
+use Rattle.sat_trail.proofs.SettledLemmas.{IsSettled-later, IsSettled-earlier, IsSettled-quiet, IsPropagated-settled}
 
 -- a value comes from an entry
 pub value-entry : (o : Option Entry) (b : Bool) → option_map (λ (e : Entry). e.lit.positive) o ≡ Some b → (e : Entry) × (o ≡ Some e) × (e.lit.positive ≡ b)
@@ -102,14 +102,14 @@ IsSeen-look clauses entries head looked seen within settled = record {
 }
 
 -- where all is seen, unit propagation has nothing to do
-pub IsQuiet-seen : (clauses : List (List Lit)) (entries : List Entry) (head looked : ℕ) → IsSeen clauses entries head looked → head ≡ length entries → looked ≡ length clauses → IsQuiet (values_of entries) clauses
-IsQuiet-seen clauses entries head looked seen at_end all = IsQuiet-settled (values_of entries) clauses
+pub IsPropagated-seen : (clauses : List (List Lit)) (entries : List Entry) (head looked : ℕ) → IsSeen clauses entries head looked → head ≡ length entries → looked ≡ length clauses → IsPropagated (values_of entries) clauses
+IsPropagated-seen clauses entries head looked seen at_end all = IsPropagated-settled (values_of entries) clauses
     (λ k d within. subst (λ c. IsSettled (values_of entries) (values_of entries) c) (get_or_default clauses k [] d within)
     (subst (λ es. IsSettled (values_of es) (values_of entries) (get_or clauses k [])) (take_all head entries (omega arith))
     (seen.settled k (omega arith))))
 
 -- where unit propagation has nothing to do, all is seen
-pub IsSeen-quiet : (clauses : List (List Lit)) (entries : List Entry) → IsQuiet (values_of entries) clauses → IsSeen clauses entries (length entries) (length clauses)
+pub IsSeen-quiet : (clauses : List (List Lit)) (entries : List Entry) → IsPropagated (values_of entries) clauses → IsSeen clauses entries (length entries) (length clauses)
 IsSeen-quiet clauses entries quiet = record {
   head_within = omega arith;
   looked_within = omega arith;

@@ -6,7 +6,7 @@ use mathlib.Core.Bool.{beq}
 use Rattle.clause_core.specs.declared.literal.Lit.{Lit}
 use Rattle.clause_core.specs.Literal.{rank}
 use Rattle.clause_core.specs.Clause.{IsAscending}
-use Rattle.clause_core.specs.Propagation.{MakesFalse, Falsifies, LeavesOnly, IsQuiet}
+use Rattle.clause_core.specs.Propagation.{MakesFalse, Falsifies, LeavesOnly, IsPropagated}
 use Rattle.sat_trail.specs.Examination.{OthersFalse, IsSettled}
 use Rattle.sat_trail.proofs.LiteralLemmas.{cases_bool, cases_literal, not-differs}
 
@@ -69,8 +69,8 @@ IsSettled-no_unit values clause l settled leaves =
     some-none (values l.var) l.positive (settled.last_true l leaves.among leaves.others) leaves.no_value
 
 -- where all clauses are settled, unit propagation has nothing to do
-pub IsQuiet-settled : (values : ℕ → Option Bool) (clauses : List (List Lit)) → All (IsSettled values values) clauses → IsQuiet values clauses
-IsQuiet-settled values clauses settled = record {
+pub IsPropagated-settled : (values : ℕ → Option Bool) (clauses : List (List Lit)) → All (IsSettled values values) clauses → IsPropagated values clauses
+IsPropagated-settled values clauses settled = record {
   no_false = λ k d within. IsSettled-no_false values (get_or clauses k d) (settled k d within);
   no_unit = λ k d within l. IsSettled-no_unit values (get_or clauses k d) l (settled k d within);
 }

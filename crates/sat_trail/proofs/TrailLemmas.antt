@@ -3,7 +3,7 @@ use Rattle.std.proofs.Common.{◌≡◌, ◌≢◌, ℕ, zero, suc, ◌+◌, ◌
 use Rattle.std.proofs.lemmas.List.Elements.{All-append, All-contains}
 use Rattle.clause_core.specs.declared.literal.Lit.{Lit}
 use Rattle.clause_core.specs.Clause.{VariablesExist}
-use Rattle.clause_core.specs.Propagation.{MakesFalse, Falsifies, LeavesOnly, IsQuiet}
+use Rattle.clause_core.specs.Propagation.{MakesFalse, Falsifies, LeavesOnly, IsPropagated}
 use Rattle.sat_trail.specs.declared.entry.Entry.{Entry}
 use Rattle.sat_trail.specs.Entry.{entry_of, values_of, last_level}
 use Rattle.sat_trail.specs.Growth.{HasNumber, IsDecision, IsForced, MayFollow, Follows}
@@ -13,7 +13,7 @@ use Rattle.sat_trail.specs.Trail.{IsTrail, Propagates}
 use Rattle.sat_trail.specs.Propagation.{Fits, Extends, IsSeen, IsKept}
 use Rattle.sat_trail.proofs.LiteralLemmas.{not-not}
 use Rattle.sat_trail.proofs.GrowthLemmas.{Follows-append, Extends-more}
-use Rattle.sat_trail.proofs.SeenLemmas.{IsQuiet-seen}
+use Rattle.sat_trail.proofs.SeenLemmas.{IsPropagated-seen}
 
 -- what contracts see of the parts of a trail
 abbrev pub state_of : Indexed → Assigned → ℕ → Bool → State
@@ -25,7 +25,7 @@ when_none None P none fact = fact
 when_none (Some n) P none fact = cc
 
 -- forced entries keep a trail
-pub IsTrail-extends : (index : Indexed) (old new : Assigned) (level : ℕ) (before now : Bool) → index.vars ≡ old.vars → IsTrail (state_of index old level before) → Extends index.clauses level old new → (IsTrue now → IsQuiet (values_of new.entries) index.clauses) → IsTrail (state_of index new level now)
+pub IsTrail-extends : (index : Indexed) (old new : Assigned) (level : ℕ) (before now : Bool) → index.vars ≡ old.vars → IsTrail (state_of index old level before) → Extends index.clauses level old new → (IsTrue now → IsPropagated (values_of new.entries) index.clauses) → IsTrail (state_of index new level now)
 IsTrail-extends index old new level before now same trail extends quiet = record {
   grown = subst (λ (s : Assigned). Follows index.clauses [] s.entries) (sym extends.grows) (Follows-append index.clauses [] old.entries extends.added trail.grown extends.follow);
   level = extends.stays;
@@ -58,7 +58,7 @@ IsKept-finished index old new level head head' looked before ready None kept ext
     rw (sym (not-not ready) ∙ ap not is_ready) (record {
       same = same-extends index old new level kept.same extends;
       few = kept.few;
-      trail = IsTrail-extends index old new level before true kept.same kept.trail extends (λ _. IsQuiet-seen index.clauses new.entries head' (length index.clauses) seen all refl);
+      trail = IsTrail-extends index old new level before true kept.same kept.trail extends (λ _. IsPropagated-seen index.clauses new.entries head' (length index.clauses) seen all refl);
       seen = seen;
       all_seen = λ _. (all, refl);
     })
@@ -78,6 +78,6 @@ Propagates-extends index old new level before now extends = record {
 }
 
 -- nothing found means that nothing is left
-pub quiet-found : (clauses : List (List Lit)) (entries : List Entry) (head : ℕ) (found : Option ℕ) → IsSeen clauses entries head (length clauses) → IfNone found (head ≡ length entries) → IfNone found (IsQuiet (values_of entries) clauses)
-quiet-found clauses entries head None seen all = IsQuiet-seen clauses entries head (length clauses) seen all refl
+pub quiet-found : (clauses : List (List Lit)) (entries : List Entry) (head : ℕ) (found : Option ℕ) → IsSeen clauses entries head (length clauses) → IfNone found (head ≡ length entries) → IfNone found (IsPropagated (values_of entries) clauses)
+quiet-found clauses entries head None seen all = IsPropagated-seen clauses entries head (length clauses) seen all refl
 quiet-found clauses entries head (Some n) seen all = tt

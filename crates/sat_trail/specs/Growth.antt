@@ -1,7 +1,7 @@
 -- How a trail grows: each entry is a decision, or is forced by a clause.
 use Rattle.std.specs.Prelude.{◌≡◌, ℕ, ◌+◌, ◌-◌, ◌<◌, ◌⊎◌, Option, Some, None, List, [], ◌∷◌, ◌++◌, slice_get}
 use Rattle.clause_core.specs.declared.literal.Lit.{Lit}
-use Rattle.clause_core.specs.Propagation.{LeavesOnly, IsQuiet}
+use Rattle.clause_core.specs.Propagation.{LeavesOnly, IsPropagated}
 use Rattle.sat_trail.specs.declared.entry.Entry.{Entry}
 use Rattle.sat_trail.specs.Entry.{values_of, last_level}
 
@@ -14,7 +14,7 @@ pub record HasNumber (clauses : List (List Lit)) (number : ℕ) (clause : List L
 pub record IsDecision (clauses : List (List Lit)) (before : List Entry) (e : Entry) : Type 0 where
   pub no_reason : e.reason ≡ None
   pub raises : e.level ≡ last_level before + 1
-  pub quiet : IsQuiet (values_of before) clauses
+  pub quiet : IsPropagated (values_of before) clauses
 
 -- the clause of the reason had only this literal left, and the level stays
 pub record IsForced (clauses : List (List Lit)) (before : List Entry) (e : Entry) : Type 0 where

@@ -1,6 +1,6 @@
 -- What follows for every trail: its levels, its decisions, and what lower levels leave.
 use Rattle.std.specs.Prelude.{◌≡◌, ◌≢◌, ℕ, ◌<◌, ◌≤◌, None, IsSome, List, ◌∷◌, ◌++◌, All, AllPairs}
-use Rattle.clause_core.specs.Propagation.{IsQuiet}
+use Rattle.clause_core.specs.Propagation.{IsPropagated}
 use Rattle.sat_trail.specs.declared.entry.Entry.{Entry}
 use Rattle.sat_trail.specs.Entry.{values_of}
 use Rattle.sat_trail.specs.Growth.{MayFollow}
@@ -31,4 +31,4 @@ HasCauses t = (before after : List Entry) (e : Entry) → t.entries ≡ before +
 
 -- under the values of the levels up to a lower one, unit propagation has nothing to do
 abbrev pub IsQuietBelow : State → Type 0
-IsQuietBelow t = (level : ℕ) → level < t.level → IsQuiet (values_of (up_to level t.entries)) t.clauses
+IsQuietBelow t = (level : ℕ) → level < t.level → IsPropagated (values_of (up_to level t.entries)) t.clauses

@@ -2,7 +2,7 @@
 use Rattle.std.specs.Prelude.{◌≡◌, ◌≢◌, ℕ, ◌<◌, ◌≤◌, ◌⊎◌, IsTrue, IsSome, IfSome, Bool, nat_le, List, [], ◌++◌, All, Contains, filter}
 use Rattle.clause_core.specs.declared.literal.Lit.{Lit}
 use Rattle.clause_core.specs.Clause.{VariablesExist}
-use Rattle.clause_core.specs.Propagation.{Falsifies, IsQuiet}
+use Rattle.clause_core.specs.Propagation.{Falsifies, IsPropagated}
 use Rattle.sat_trail.specs.declared.entry.Entry.{Entry}
 use Rattle.sat_trail.specs.Entry.{entry_of, values_of, last_level}
 use Rattle.sat_trail.specs.Growth.{HasNumber, Follows}
@@ -14,7 +14,7 @@ pub record IsTrail (t : State) : Type 0 where
   pub level : last_level t.entries ≡ t.level
   pub exist : All (λ e. (0 < e.lit.var) × (e.lit.var ≤ t.vars)) t.entries
   pub clauses_exist : All (VariablesExist t.vars) t.clauses
-  pub ready_quiet : IsTrue t.ready → IsQuiet (values_of t.entries) t.clauses
+  pub ready_quiet : IsTrue t.ready → IsPropagated (values_of t.entries) t.clauses
 
 -- the entries of the levels up to this one
 abbrev pub up_to : ℕ → List Entry → List Entry

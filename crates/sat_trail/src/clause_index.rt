@@ -5,8 +5,8 @@ ghost use Rattle.clause_core.specs.Literal.{rank};
 ghost use Rattle.sat_trail.specs.Growth.{HasNumber};
 ghost use Rattle.sat_trail.specs.Storage.{HasHolders, KeepsRows, IsIndex};
 
-use bspl_types::{NoMemory, Seq};
 use clause_core::{Clause, ClauseList, Lit};
+use list_base::{NoMemory, Seq};
 use std::alloc::Global;
 use std::marker::Model;
 

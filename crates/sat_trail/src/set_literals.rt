@@ -3,8 +3,8 @@ ghost use Rattle.sat_trail.specs.Entry.{entry_of, values_of, last_level};
 ghost use Rattle.sat_trail.specs.Storage.{StartsWith, HasRoom};
 
 use super::entry::Entry;
-use bspl_types::NoMemory;
 use clause_core::Lit;
+use list_base::NoMemory;
 use std::alloc::Global;
 use std::marker::Model;
 

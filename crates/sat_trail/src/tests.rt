@@ -2,8 +2,8 @@ ghost use Rattle.std.specs.Prelude.{◌≡◌, ◌+◌, ◌<◌, ◌≤◌, ◌�
 ghost use Rattle.clause_core.specs.Clause.{VariablesExist};
 
 use super::Trail;
-use bspl_types::{NoMemory, Seq};
 use clause_core::{Clause, ClauseList, Formula, Lit};
+use list_base::{NoMemory, Seq};
 use std::alloc::Global;
 use std::test::Fail;
 

@@ -1,6 +1,6 @@
 ghost use Rattle.std.specs.Prelude.{◌≡◌, ◌-◌, ◌+◌, ◌^◌, ◌<◌, ◌≤◌, ◌++◌, ◌⊎◌, [], ◌∷◌, None, Some, false, length, map, IsTrue, IfOk, OnOk, OnErr, IfSome, IfNone, is_none, slice_get};
 ghost use Rattle.clause_core.specs.Clause.{VariablesExist};
-ghost use Rattle.clause_core.specs.Propagation.{IsQuiet};
+ghost use Rattle.clause_core.specs.Propagation.{IsPropagated};
 ghost use Rattle.sat_trail.specs.Entry.{values_of, reason_of, level_of};
 ghost use Rattle.sat_trail.specs.Growth.{HasNumber};
 ghost use Rattle.sat_trail.specs.Trail.{IsTrail, HasTwoOpen, IsFalsified, Propagates, up_to};
@@ -9,8 +9,8 @@ use super::clause_index::ClauseIndex;
 use super::entry::Entry;
 use super::propagation::{look_at_new, pass_all};
 use super::set_literals::Entries;
-use bspl_types::{Duplicate, NoMemory};
 use clause_core::{Clause, Formula, Lit};
+use list_base::{NoMemory, TryClone};
 use std::alloc::Global;
 use std::marker::Model;
 
@@ -46,7 +46,7 @@ impl Trail {
     {
         let mut index = ClauseIndex::new(alloc, f.vars)?;
         for clause in f.clauses.as_slice() {
-            index.add(clause.copy()?)?;
+            index.add(clause.try_clone()?)?;
         }
         Ok(Trail {
             index,
@@ -77,7 +77,7 @@ impl Trail {
     pub fn propagate(&mut self) -> Option<u32>
         ensures grows { Propagates self.old self.new }
         ensures ready { self.new.ready ≡ is_none result }
-        ensures quiet { IfNone result (IsQuiet (values_of self.new.entries) self.new.clauses) }
+        ensures quiet { IfNone result (IsPropagated (values_of self.new.entries) self.new.clauses) }
         ensures falsified { IfSome result (IsFalsified self.new) }
         ensures sound { IsTrail self.new }
     {

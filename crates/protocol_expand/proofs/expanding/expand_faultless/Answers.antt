@@ -21,8 +21,8 @@ pub returns-in-Cycle-clause-refused : goal.returns-in-Cycle-clause-refused
 returns-in-Cycle-clause-refused c =
     let is_survey = surveyed c.args.document.now c.args.name.now _ _ _ _ _ _ c.requires.faultless (c.in_ok-directory.ensures ∙ c.as_slice-protocols.ensures) c.in_ok-directory.directory.in_order c.place.ensures c.in-Some.is c.in-Cycle.is c.in_ok-node.ensures in
     let same = c.as_slice-protocols.ensures in
-    meets_again c.args.document.now c.args.name.now c.in_ok-copy-in-Cycle.field-0 c.in-Some.number c.in-Cycle.node c.index-protocols-node.result (omega (arith, c.if-protocols.false, ap (λ (ps : List Declaration). length ps) same)) is_survey
-    (c.in_ok-copy-in-Cycle.ensures ∙ ap (λ (ps : List Declaration). (get_or ps c.in-Cycle.node c.index-protocols-node.result).name.text) same)
+    meets_again c.args.document.now c.args.name.now c.in_ok-try_clone-in-Cycle.field-0 c.in-Some.number c.in-Cycle.node c.index-protocols-node.result (omega (arith, c.if-protocols.false, ap (λ (ps : List Declaration). length ps) same)) is_survey
+    (c.in_ok-try_clone-in-Cycle.ensures ∙ ap (λ (ps : List Declaration). (get_or ps c.in-Cycle.node c.index-protocols-node.result).name.text) same)
 
 pub returns-in-Over-clause-refused : goal.returns-in-Over-clause-refused
 returns-in-Over-clause-refused c =

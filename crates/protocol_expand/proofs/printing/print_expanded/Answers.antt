@@ -3,26 +3,26 @@ use Rattle.std.proofs.Common.{◌≡◌, ℕ, List, [], ◌∷◌, ◌++◌, Res
 use Rattle.std.specs.Prelude.{IfOk}
 use Rattle.std.proofs.lemmas.List.Elements.{All-nil, All-cons}
 use Rattle.bspl_types.specs.declared.expanded.Expanded.{Expanded}
-use Rattle.bspl_types.specs.declared.memory.NoMemory.{NoMemory}
+use Rattle.list_base.specs.declared.memory.NoMemory.{NoMemory}
 use Rattle.bspl_parser.specs.declared.document.Declaration.{Declaration}
 use Rattle.bspl_parser.specs.Alike.{ReadsBack}
 use Rattle.bspl_parser.specs.Layout.{printed}
-use Rattle.bspl_parser.specs.Spelling.{IsDeclaration, IsWellFormed}
+use Rattle.bspl_parser.specs.Spelling.{IsDeclaration, IsDocument}
 use Rattle.flat_expansion.specs.Expansion.{IsExpansionOf}
-use Rattle.flat_expansion.specs.Flat.{IsBare}
+use Rattle.flat_expansion.specs.Flat.{IsCanonical}
 use Rattle.protocol_expand.specs.Printed.{ExpandsBack, IsPrinted}
 use Rattle.protocol_expand.proofs.Unplaced.{expands_back}
 use Rattle.protocol_expand.proofs.printing.print_expanded.Goals as goal
 
 -- a document of one protocol that is well formed is so
-formed_alone : (p : Declaration) (protocols : List Declaration) → protocols ≡ p ∷ [] → IsDeclaration p → IsWellFormed (record { protocols = protocols })
-formed_alone p protocols alone formed = subst (λ (ps : List Declaration). IsWellFormed (record { protocols = ps })) (sym alone) (record {
+formed_alone : (p : Declaration) (protocols : List Declaration) → protocols ≡ p ∷ [] → IsDeclaration p → IsDocument (record { protocols = protocols })
+formed_alone p protocols alone formed = subst (λ (ps : List Declaration). IsDocument (record { protocols = ps })) (sym alone) (record {
   some = λ none. cc;
   each = All-cons IsDeclaration p [] formed (All-nil IsDeclaration);
 })
 
 -- its layout is a text of the expansion
-text_printed : (p : Declaration) (x : Expanded) (protocols : List Declaration) (result : Result (List ℕ) NoMemory) → protocols ≡ p ∷ [] → IsExpansionOf p x → IsBare p → IfOk result (λ text. text ≡ printed (record { protocols = protocols })) → IfOk result (IsPrinted x)
+text_printed : (p : Declaration) (x : Expanded) (protocols : List Declaration) (result : Result (List ℕ) NoMemory) → protocols ≡ p ∷ [] → IsExpansionOf p x → IsCanonical p → IfOk result (λ text. text ≡ printed (record { protocols = protocols })) → IfOk result (IsPrinted x)
 text_printed p x protocols (Ok text) alone expands bare layout = record {
   flat = p;
   expands = expands;
@@ -32,7 +32,7 @@ text_printed p x protocols (Ok text) alone expands bare layout = record {
 text_printed p x protocols (Err e) alone expands bare layout = tt
 
 -- and is read back so
-text_read : (p : Declaration) (x : Expanded) (protocols : List Declaration) (result : Result (List ℕ) NoMemory) → protocols ≡ p ∷ [] → IsExpansionOf p x → IsBare p → IfOk result (λ text. ReadsBack text (record { protocols = protocols })) → IfOk result (λ text. ExpandsBack text x)
+text_read : (p : Declaration) (x : Expanded) (protocols : List Declaration) (result : Result (List ℕ) NoMemory) → protocols ≡ p ∷ [] → IsExpansionOf p x → IsCanonical p → IfOk result (λ text. ReadsBack text (record { protocols = protocols })) → IfOk result (λ text. ExpandsBack text x)
 text_read p x protocols (Ok text) alone expands bare back = expands_back text p x expands bare (subst (λ (ps : List Declaration). ReadsBack text (record { protocols = ps })) alone back)
 text_read p x protocols (Err e) alone expands bare back = tt
 

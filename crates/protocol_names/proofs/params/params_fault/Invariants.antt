@@ -1,9 +1,9 @@
 -- What has been found of the parameters.
 use Rattle.std.proofs.Common.{take}
 use Rattle.protocol_names.specs.Fault.{IsParamFault}
-use Rattle.protocol_names.specs.Finding.{Finds, OfSome}
+use Rattle.protocol_names.specs.Finding.{FindsFirst, OfSome}
 use Rattle.protocol_names.proofs.params.params_fault.Given as goal
 
 -- the first fault of those so far
 abbrev pub invariant-loop-formal : goal.invariant-loop-formal
-invariant-loop-formal l = Finds (OfSome (IsParamFault l.names) (take l.formal-index l.formals)) l.first
+invariant-loop-formal l = FindsFirst (OfSome (IsParamFault l.names) (take l.formal-index l.formals)) l.first

@@ -3,7 +3,7 @@ use Rattle.std.proofs.Common.{◌≡◌, ◌<◌, length, get_or, sym, ◌∙◌
 use Rattle.std.specs.List.{zip}
 use Rattle.std.proofs.lemmas.Slice.Zip.{length-zip, get_or-zip}
 use Rattle.bspl_parser.specs.declared.document.Formal.{Formal}
-use Rattle.protocol_names.specs.Fault.{IsOther}
+use Rattle.protocol_names.specs.Fault.{AdornmentDiffers}
 use Rattle.protocol_names.proofs.Findings.{finds_all, finds_more, stands_same}
 use Rattle.protocol_names.proofs.references.other_adornment.Goals as goal
 
@@ -16,7 +16,7 @@ loop-place-preserved c =
     let within : place < length (zip given declared) = omega (arith, length-zip given declared, c.requires, c.loop-place-test.true) in
     let here : pair ≡ get_or (zip given declared) place pair = (λ i. (c.index-given-place.is i, c.index-declared-place.is i)) ∙ sym (get_or-zip given declared place pair (omega arith) (omega arith)) in
     let tests = rw (← c.index-declared-place.is) at c.is_other-other.ensures in
-    finds_more IsOther (zip given declared) place pair _ _ _ within here c.loop-place.invariant (stands_same _ _ _ c.index-given-place.result.offset c.fault_if.result tests.0 tests.1 c.fault_if.ensures) c.earlier-first.ensures
+    finds_more AdornmentDiffers (zip given declared) place pair _ _ _ within here c.loop-place.invariant (stands_same _ _ _ c.index-given-place.result.offset c.fault_if.result tests.0 tests.1 c.fault_if.ensures) c.earlier-first.ensures
 
 pub returns : goal.returns
-returns c = finds_all IsOther (zip c.args.given.now c.args.declared.now) c.loop-place.place c.loop-place.first (omega (arith, length-zip c.args.given.now c.args.declared.now)) c.loop-place.invariant
+returns c = finds_all AdornmentDiffers (zip c.args.given.now c.args.declared.now) c.loop-place.place c.loop-place.first (omega (arith, length-zip c.args.given.now c.args.declared.now)) c.loop-place.invariant

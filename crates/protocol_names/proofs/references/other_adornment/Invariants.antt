@@ -1,10 +1,10 @@
 -- What has been found of the adornments.
 use Rattle.std.proofs.Common.{take}
 use Rattle.std.specs.List.{zip}
-use Rattle.protocol_names.specs.Fault.{IsOther}
-use Rattle.protocol_names.specs.Finding.{Finds, OfSome}
+use Rattle.protocol_names.specs.Fault.{AdornmentDiffers}
+use Rattle.protocol_names.specs.Finding.{FindsFirst, OfSome}
 use Rattle.protocol_names.proofs.references.other_adornment.Given as goal
 
 -- the first fault of those so far
 abbrev pub invariant-loop-place : goal.invariant-loop-place
-invariant-loop-place l = Finds (OfSome IsOther (take l.place (zip l.given l.declared))) l.first
+invariant-loop-place l = FindsFirst (OfSome AdornmentDiffers (take l.place (zip l.given l.declared))) l.first

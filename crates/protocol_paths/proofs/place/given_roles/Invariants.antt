@@ -1,7 +1,7 @@
 -- What stands for the roles.
 use Rattle.std.proofs.Common.{◌≡◌, map, take}
 use Rattle.protocol_names.specs.Names.{texts}
-use Rattle.protocol_paths.specs.Place.{role_at}
+use Rattle.protocol_paths.specs.Scope.{role_at}
 use Rattle.protocol_paths.specs.Seen.{seen}
 use Rattle.protocol_paths.proofs.place.given_roles.Given as goal
 

@@ -1,7 +1,7 @@
 -- Each turn, by what it meets.
 use Rattle.std.proofs.Common.{◌≡◌, ℕ, ◌<◌, ◌≤◌, List, [], ◌∷◌, ◌++◌, Some, Ok, Err, Result, IfOk, OnOk, length, get_or, set, slice_get, refl, sym, ap, ◌∙◌, subst, arith}
 use Rattle.std.proofs.lemmas.Option.{slice_get-get_or}
-use Rattle.bspl_types.specs.declared.memory.NoMemory.{NoMemory}
+use Rattle.list_base.specs.declared.memory.NoMemory.{NoMemory}
 use Rattle.reference_graph.specs.declared.marks.Mark.{Mark}
 use Rattle.reference_graph.specs.declared.marks.Mark.TheVariants.{Done}
 use Rattle.reference_graph.specs.declared.search.Search.{Search}

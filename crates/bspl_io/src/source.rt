@@ -1,0 +1,86 @@
+ghost use Rattle.std.specs.Prelude.{◌≡◌, ◌<◌, ◌≤◌, ◌↔◌, length, IfOk, OnErr, IsErrOf};
+ghost use Rattle.std.specs.Io.KnownBytes.{ReadConsumes};
+ghost use Rattle.bspl_io.specs.Faults.{HasCounted};
+ghost use Rattle.bspl_io.specs.Source.{ReadsAll, IsLonger, Takes};
+
+use list_base::{Bytes, NoMemory};
+use std::alloc::Global;
+
+/// Reading or writing failed, and the count of faults says so.
+#[derive(Clone, Copy, Debug, PartialEq, Eq)]
+pub struct Failed;
+
+/// Why the text could not be read to its end.
+#[derive(Clone, Copy, Debug, PartialEq, Eq)]
+pub enum ReadRefusal {
+    ReadFault,
+    TooLong,
+    NoMemory,
+}
+
+impl From<Failed> for ReadRefusal {
+    ghost use Rattle.std.specs.Prelude.{◌≡◌};
+    ghost use Rattle.bspl_io.specs.declared.source.ReadRefusal.TheVariants.{ReadFault};
+
+    ghost from_gives = { λ _ refusal. refusal ≡ ReadFault };
+
+    fn from(_failed: Failed) -> ReadRefusal {
+        ReadRefusal::ReadFault
+    }
+}
+
+impl From<NoMemory> for ReadRefusal {
+    ghost use Rattle.std.specs.Prelude.{◌≡◌};
+    ghost use Rattle.bspl_io.specs.declared.source.ReadRefusal.TheVariants.{NoMemory};
+
+    ghost from_gives = { λ _ refusal. refusal ≡ NoMemory };
+
+    fn from(_error: NoMemory) -> ReadRefusal {
+        ReadRefusal::NoMemory
+    }
+}
+
+/// Hands out bytes, from first to last.
+pub trait Source {
+    ghost use Rattle.std.specs.Prelude.{Option, List, ℕ};
+
+    // The bytes that are remaining, where the source tells them.
+    ghost remaining: { Self → Option (List ℕ) };
+
+    // How often reading failed. The counter of an adapter stands still at its last value.
+    ghost faults: { Self → ℕ };
+
+    /// Hands out the next bytes. `Ok(0)` into a slice with room is the end of the input.
+    fn read(&mut self, into: &mut [u8]) -> Result<usize, Failed>
+        ensures bound { IfOk result (λ n. n ≤ length into.new) }
+        ensures bytes { ReadConsumes (remaining self.old) (remaining self.new) result into.new }
+        ensures fault { OnErr result (HasCounted (faults self.old) (faults self.new)) }
+        ensures count { faults self.old ≤ faults self.new };
+}
+
+/// The most bytes that one turn of `read_all` asks for.
+const PIECE: usize = 4096;
+
+/// Reads to the end of the input, unless more than `limit` bytes come.
+pub fn read_all<R: Source>(alloc: Global, source: &mut R, limit: u64) -> Result<Bytes, ReadRefusal>
+    ensures all { IfOk result (ReadsAll (R.remaining source.old) (R.remaining source.new) limit) }
+    ensures too_long { IsErrOf result ReadRefusal.TooLong → IsLonger (R.remaining source.old) limit }
+    ensures taken { Takes (R.remaining source.old) (R.remaining source.new)
+        (λ bytes. IsErrOf result ReadRefusal.TooLong ↔ (limit < length bytes)) }
+    ensures fault { IsErrOf result ReadRefusal.ReadFault →
+        HasCounted (R.faults source.old) (R.faults source.new) }
+    ensures count { R.faults source.old ≤ R.faults source.new }
+{
+    let mut text = Bytes::new(alloc);
+    let mut piece = [0u8; PIECE];
+    loop {
+        let n = source.read(&mut piece)?;
+        if n == 0 {
+            return Ok(text);
+        }
+        if n as u64 > limit - text.len() as u64 {
+            return Err(ReadRefusal::TooLong);
+        }
+        text.append(&piece[..n])?;
+    }
+}

@@ -1,7 +1,0 @@
--- What the loop over the items has copied.
-use Rattle.std.proofs.Common.{◌≡◌, take}
-use Rattle.bspl_types.proofs.list.SeqDuplicate.copy.Given as goal
-
--- so many items were copied
-abbrev pub invariant-loop-item : goal.invariant-loop-item
-invariant-loop-item g l = l.copies ≡ take l.item-index l.item-items

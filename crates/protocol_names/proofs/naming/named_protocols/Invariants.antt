@@ -1,9 +1,0 @@
--- What has been noted of the protocols.
-use Rattle.std.proofs.Common.{take}
-use Rattle.protocol_names.specs.Names.{protocol_words}
-use Rattle.protocol_names.specs.Naming.{IsNamed}
-use Rattle.protocol_names.proofs.naming.named_protocols.Given as goal
-
--- the names so far
-abbrev pub invariant-loop-protocol : goal.invariant-loop-protocol
-invariant-loop-protocol l = IsNamed (protocol_words (take l.protocol-index l.protocols)) l.naming.names l.naming.first

@@ -1,8 +1,0 @@
--- What has been noted of the roles.
-use Rattle.std.proofs.Common.{take}
-use Rattle.protocol_names.specs.Naming.{IsNamed}
-use Rattle.protocol_names.proofs.naming.named_roles.Given as goal
-
--- the names so far
-abbrev pub invariant-loop-role : goal.invariant-loop-role
-invariant-loop-role l = IsNamed (take l.role-index l.roles) l.naming.names l.naming.first

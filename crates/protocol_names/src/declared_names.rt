@@ -1,0 +1,121 @@
+ghost use Rattle.std.specs.Prelude.{◌≡◌, List, [], ◌∷◌, ◌++◌, map, is_some, IfOk, OnOk, OnErr};
+ghost use Rattle.std.specs.List.{filter, flat_map};
+ghost use Rattle.bspl_parser.specs.declared.word.Word.{Word as Entry};
+ghost use Rattle.protocol_names.specs.DeclaredNames.{AreDeclared};
+ghost use Rattle.protocol_names.specs.Names.{declared_word, protocol_words, texts};
+
+use super::fault::{DocumentFault, FaultKind};
+use super::finding::{earlier, fault_if};
+use super::name_table::NameTable;
+use bspl_parser::{Declaration, Formal, Item, Word};
+use bspl_types::NoMemory;
+use std::alloc::Global;
+
+/// Names that are declared one after the other, and the first that is a duplicate.
+#[derive(Drop)]
+pub(crate) struct DeclaredNames {
+    pub names: NameTable,
+    pub first: Option<DocumentFault>,
+}
+
+impl DeclaredNames {
+    fn new(alloc: Global) -> DeclaredNames
+        ensures { AreDeclared [] result.names result.first }
+    {
+        DeclaredNames {
+            names: NameTable::new(alloc),
+            first: None,
+        }
+    }
+
+    // Notes a name that is declared after the others.
+    fn add(&mut self, word: &Word) -> Result<(), NoMemory>
+        ensures { (words : List Entry) → AreDeclared words self.old.names self.old.first →
+            OnOk result (AreDeclared (words ++ word.now ∷ []) self.new.names self.new.first) }
+    {
+        let again = self.names.has(word.text.as_slice());
+        let fault = fault_if(again, FaultKind::Duplicate, word.offset);
+        self.first = earlier(self.first, fault);
+        self.names.push(word.text.as_slice())
+    }
+
+    // Notes the name that an item declares, if it declares one.
+    fn add_declared(&mut self, item: &Item) -> Result<(), NoMemory>
+        ensures { (words : List Entry) → AreDeclared words self.old.names self.old.first →
+            OnOk result (AreDeclared (words ++ declared_word item.now) self.new.names self.new.first) }
+    {
+        match item {
+            Item::Message(schema) => self.add(&schema.name),
+            Item::Reference(_) => Ok(()),
+        }
+    }
+}
+
+/// Notes the names of roles.
+pub(crate) fn named_roles(alloc: Global, roles: &[Word]) -> Result<DeclaredNames, NoMemory>
+    ensures { IfOk result (λ n. AreDeclared roles.now n.names n.first) }
+{
+    let mut naming = DeclaredNames::new(alloc);
+    for role in roles {
+        naming.add(role)?;
+    }
+    Ok(naming)
+}
+
+/// Notes the names of parameters, the public ones first.
+pub(crate) fn named_params(
+    alloc: Global,
+    public: &[Formal],
+    private: &[Word],
+) -> Result<DeclaredNames, NoMemory>
+    ensures { IfOk result (λ n.
+        AreDeclared (map (λ f. f.name) public.now ++ private.now) n.names n.first) }
+{
+    let mut naming = DeclaredNames::new(alloc);
+    for formal in public {
+        naming.add(&formal.name)?;
+    }
+    for word in private {
+        naming.add(word)?;
+    }
+    Ok(naming)
+}
+
+/// Notes the names of messages.
+pub(crate) fn named_messages(alloc: Global, body: &[Item]) -> Result<DeclaredNames, NoMemory>
+    ensures { IfOk result (λ n. AreDeclared (flat_map declared_word body.now) n.names n.first) }
+{
+    let mut naming = DeclaredNames::new(alloc);
+    for item in body {
+        naming.add_declared(item)?;
+    }
+    Ok(naming)
+}
+
+/// Notes the names of protocols.
+pub(crate) fn named_protocols(
+    alloc: Global,
+    protocols: &[Declaration],
+) -> Result<DeclaredNames, NoMemory>
+    ensures { IfOk result (λ n. AreDeclared (protocol_words protocols.now) n.names n.first) }
+{
+    let mut naming = DeclaredNames::new(alloc);
+    for protocol in protocols {
+        naming.add(&protocol.name)?;
+    }
+    Ok(naming)
+}
+
+/// The names of the parameters that are marked as keys.
+pub(crate) fn key_names(alloc: Global, public: &[Formal]) -> Result<NameTable, NoMemory>
+    ensures { IfOk result (λ names. names ≡
+        texts (map (λ f. f.name) (filter (λ f. is_some f.key) public.now))) }
+{
+    let mut names = NameTable::new(alloc);
+    for formal in public {
+        if formal.key.is_some() {
+            names.push(formal.name.text.as_slice())?;
+        }
+    }
+    Ok(names)
+}

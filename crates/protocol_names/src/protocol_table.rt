@@ -1,0 +1,37 @@
+ghost use Rattle.std.specs.Prelude.{◌≡◌, IfOk, option_copied};
+ghost use Rattle.protocol_names.specs.Names.{protocol_of, protocol_words, texts};
+
+use super::declared_names::named_protocols;
+use super::name_table::NameTable;
+use bspl_parser::Declaration;
+use bspl_types::NoMemory;
+use std::alloc::Global;
+
+/// The protocols of a document, found by their names.
+#[derive(Drop)]
+pub struct ProtocolTable<'a> {
+    pub protocols: &'a [Declaration],
+    pub names: NameTable,
+    pub ghost in_order: { names ≡ texts (protocol_words protocols.now) },
+}
+
+impl<'a> ProtocolTable<'a> {
+    /// A directory of the protocols.
+    pub fn new(alloc: Global, protocols: &'a [Declaration]) -> Result<ProtocolTable<'a>, NoMemory>
+        ensures { IfOk result (λ d. d.protocols.now ≡ protocols.now) }
+    {
+        let naming = named_protocols(alloc, protocols)?;
+        Ok(ProtocolTable {
+            protocols,
+            names: naming.names,
+        })
+    }
+
+    /// The first protocol of the name.
+    pub fn protocol(&self, name: &[u8]) -> Option<&'a Declaration>
+        ensures { option_copied result ≡ protocol_of self.now.protocols.now name.now }
+    {
+        let place = self.names.place(name)?;
+        self.protocols.get(place)
+    }
+}
