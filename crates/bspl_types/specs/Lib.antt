@@ -4,6 +4,7 @@ pub mod Expansion
 pub mod History
 pub mod Instance
 pub mod KeyAgrees
+pub mod Limits
 pub mod Knowledge
 pub mod Name
 pub mod Padded
