@@ -1,5 +1,5 @@
--- What a history tells of a parameter, and what it permits to emit.
-use Rattle.std.specs.Prelude.{◌≡◌, ℕ, List}
+-- What a history makes known of a parameter, and what it permits to emit.
+use Rattle.std.specs.Prelude.{◌≡◌, ℕ, ◌<◌, List, length}
 use Rattle.std.specs.List.{Contains}
 use Rattle.bspl_types.specs.declared.event.Event.{Event}
 use Rattle.bspl_types.specs.declared.event.Instance.{Instance}
@@ -23,8 +23,9 @@ pub record Knows (x : Expanded) (history : List Event) (key : List Value) (p : �
 abbrev pub IsKnown : Expanded → List Event → List Value → ℕ → Type 0
 IsKnown x history key p = (v : Value) × Knows x history key p v
 
--- each `in` parameter of the message is known under the key, and no `out` and no `nil` parameter is
+-- the message exists, each `in` parameter of it is known under the key, and no `out` and no `nil` parameter is
 pub record CanEmit (x : Expanded) (history : List Event) (m : ℕ) (key : List Value) : Type 0 where
+  pub known : m < length x.messages
   pub ins : (p : ℕ) → Adorns x m In p → IsKnown x history key p
   pub outs : (p : ℕ) → Adorns x m Out p → ¬ IsKnown x history key p
   pub nils : (p : ℕ) → Adorns x m Nil p → ¬ IsKnown x history key p

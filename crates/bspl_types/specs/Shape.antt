@@ -1,11 +1,11 @@
 -- What holds of every expansion: its numbers name what exists, its names are names and apart, its counts are within the limits.
 use Rattle.std.specs.Prelude.{◌≡◌, ◌≢◌, ℕ, ◌<◌, ◌≤◌, Bool, false, List, map, length, take, drop, Option, Some, None, IsTrue}
 use Rattle.std.specs.List.{All, AllPairs, filter, enumerate_from}
-use Rattle.bspl_types.specs.declared.limits.TheConstants.{ROLE_LIMIT, PARAM_LIMIT, KEY_LIMIT, CARRIED_LIMIT, MESSAGE_LIMIT}
 use Rattle.bspl_types.specs.declared.protocol.Adornment.{Adornment}
 use Rattle.bspl_types.specs.declared.protocol.Message.{Message}
 use Rattle.bspl_types.specs.declared.protocol.ParamInfo.{ParamInfo}
 use Rattle.bspl_types.specs.Adornment.{has_value}
+use Rattle.bspl_types.specs.Limits.{role_limit, param_limit, key_limit, carried_limit, message_limit}
 use Rattle.bspl_types.specs.Name.{is_name}
 
 -- each has a name, and no two have one name
@@ -36,14 +36,14 @@ pub record IsMessageOf (roles params : ℕ) (m : Message) : Type 0 where
   pub known_receiver : m.receiver < roles
   pub known_params : All (λ c. c.param < params) m.carried
   pub some : 0 < length m.carried
-  pub few : length m.carried ≤ CARRIED_LIMIT
+  pub few : length m.carried ≤ carried_limit
 
 -- there are not too many of each
 pub record IsWithinLimits (roles params keys messages : ℕ) : Type 0 where
-  pub few_roles : roles ≤ ROLE_LIMIT
-  pub few_params : params ≤ PARAM_LIMIT
-  pub few_keys : keys ≤ KEY_LIMIT
-  pub few_messages : messages ≤ MESSAGE_LIMIT
+  pub few_roles : roles ≤ role_limit
+  pub few_params : params ≤ param_limit
+  pub few_keys : keys ≤ key_limit
+  pub few_messages : messages ≤ message_limit
 
 -- a well-formed expansion
 pub record IsWellFormed (name : List ℕ) (roles : List (List ℕ)) (params : List ParamInfo) (public : ℕ) (keys : List ℕ) (messages : List Message) : Type 0 where

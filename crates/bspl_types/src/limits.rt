@@ -11,4 +11,4 @@ pub const KEY_LIMIT: usize = 4;
 pub const CARRIED_LIMIT: usize = 16;
 
 /// The most messages that an expansion has.
-pub const MESSAGE_LIMIT: usize = 32;
+pub const MESSAGE_LIMIT: usize = 64;
