@@ -20,6 +20,7 @@ impl<T: Drop> From<AllocFailed<T>> for NoMemory {
 
 /// A copy that takes memory of its own.
 pub trait TryClone {
+    /// An equal value, unless memory runs out.
     fn try_clone(&self) -> Result<Self, NoMemory>
         ensures { IfOk result (λ c. c ≡ self.now) };
 }

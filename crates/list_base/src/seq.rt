@@ -1,8 +1,11 @@
-ghost use Rattle.std.specs.Prelude.{◌≡◌, ◌<◌, ◌↔◌, [], ◌∷◌, ◌++◌, length, IsTrue, Some, IfSome, IfNone, IsNone, IfOk, OnOk, OnErr, slice_get};
+ghost use Rattle.std.specs.Prelude.{◌≡◌, ◌<◌, ◌↔◌, [], ◌∷◌, ◌++◌, length, IsTrue, Some, IfSome, IfNone, IsNone, IfOk, OnOk, OnErr, slice_get, slice_set};
+ghost use Rattle.std.specs.Borrow.{sem};
+ghost use Rattle.list_base.specs.Lending.{LendsItem};
 
 use super::memory::{NoMemory, TryClone};
 use std::alloc::Global;
 use std::marker::Model;
+use std::mem;
 
 /// A list that grows at its end. Contracts see the items, in order.
 #[derive(Drop)]
@@ -52,12 +55,30 @@ impl<T> Seq<T> {
         self.items.as_slice()
     }
 
-    /// Lends the item at the place, from 0.
+    /// Lends the item at the index, from 0.
     pub fn at(&self, i: usize) -> &T
         requires { i < length self.now }
         ensures { slice_get self.now i ≡ Some result.now }
     {
         &self.items[i]
+    }
+
+    /// Lends the item at the index to be changed.
+    pub fn at_mut(&mut self, i: usize) -> &mut T
+        requires { i < length self.old }
+        ensures* writes_back { sem 𝓛 (LendsItem T.row self.entry i result) }
+        ensures item { slice_get self.old i ≡ Some result.now }
+    {
+        &mut self.items[i]
+    }
+
+    /// Puts the item at the index, and gives back the one that it replaces.
+    pub fn replace(&mut self, i: usize, item: T) -> T
+        requires { i < length self.old }
+        ensures list { self.new ≡ slice_set self.old i item }
+        ensures replaced { slice_get self.old i ≡ Some result }
+    {
+        mem::replace(&mut self.items[i], item)
     }
 
     /// Takes the last item out.
@@ -71,7 +92,7 @@ impl<T> Seq<T> {
 }
 
 impl<T: Drop> Seq<T> {
-    /// Puts an item at the end. A refusal drops the item.
+    /// Puts an item at the end. An error drops the item.
     pub fn push(&mut self, item: T) -> Result<(), NoMemory>
         ensures ok { OnOk result (self.new ≡ self.old ++ item ∷ []) }
         ensures err { OnErr result (self.new ≡ self.old) }

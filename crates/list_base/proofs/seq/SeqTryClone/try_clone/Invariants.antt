@@ -2,6 +2,6 @@
 use Rattle.std.proofs.Common.{◌≡◌, take}
 use Rattle.list_base.proofs.seq.SeqTryClone.try_clone.Given as goal
 
--- so many items were copied
+-- the items before the index were copied
 abbrev pub invariant-loop-item : goal.invariant-loop-item
 invariant-loop-item g l = l.copies ≡ take l.item-index l.item-items
