@@ -7,7 +7,7 @@ use Rattle.std.proofs.lemmas.List.Quantifiers.{all_pairs_push}
 use Rattle.clause_core.specs.declared.literal.Lit.{Lit}
 use Rattle.clause_core.specs.Literal.{rank}
 use Rattle.clause_core.specs.Clause.{IsAscending, HasExactly}
-use Rattle.clause_core.proofs.Members.{here, there, nowhere, cons_cases}
+use Rattle.list_base.proofs.Members.{here, there, nowhere, cons_cases}
 use Rattle.clause_core.proofs.LiteralLemmas.{same_rank}
 
 pub ascending_tail : (x : Lit) (xs : List Lit) → IsAscending (x ∷ xs) → IsAscending xs

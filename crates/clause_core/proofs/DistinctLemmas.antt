@@ -7,10 +7,10 @@ use Rattle.std.proofs.lemmas.List.Elements.{Contains-append_left, Contains-push_
 use Rattle.clause_core.specs.declared.literal.Lit.{Lit}
 use Rattle.clause_core.specs.Literal.{rank}
 use Rattle.clause_core.specs.Clause.{IsAscending, HasExactly}
-use Rattle.clause_core.specs.Adding.{Inserts}
+use Rattle.clause_core.specs.inner.Insertion.{Inserts}
 use Rattle.clause_core.proofs.LiteralLemmas.{same_rank}
 use Rattle.clause_core.proofs.ClauseLemmas.{ascending_push}
-use Rattle.clause_core.proofs.Members.{end_same}
+use Rattle.list_base.proofs.Members.{end_same}
 
 -- `kept` has the first `i` literals of the list, each once
 pub record IsDistinct (sorted : List Lit) (i : ℕ) (kept : List Lit) : Type 0 where

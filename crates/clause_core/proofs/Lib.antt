@@ -1,4 +1,3 @@
-pub mod Members
 pub mod LiteralLemmas
 pub mod ClauseLemmas
 pub mod ResolventLemmas

@@ -6,7 +6,7 @@ use Rattle.clause_core.specs.declared.literal.Lit.{Lit}
 use Rattle.clause_core.specs.Literal.{rank}
 use Rattle.clause_core.specs.Clause.{IsAscending}
 use Rattle.clause_core.specs.Resolvent.{Keeps, IsUnion}
-use Rattle.clause_core.proofs.Members.{here, here_same, there, end_same, nowhere, cons_cases}
+use Rattle.list_base.proofs.Members.{here, here_same, there, end_same, nowhere, cons_cases}
 use Rattle.clause_core.proofs.LiteralLemmas.{same_rank, same_or_not}
 use Rattle.clause_core.proofs.ClauseLemmas.{ascending_nil, ascending_tail, ascending_push, first_below, first_least}
 

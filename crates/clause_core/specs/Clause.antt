@@ -1,5 +1,5 @@
 -- Clauses as lists of literals, and what a valuation satisfies.
-use Rattle.std.specs.Prelude.{ℕ, ◌<◌, ◌≤◌, ◌↔◌, Bool, List, All, AllPairs, Any, Contains}
+use Rattle.std.specs.Prelude.{◌≡◌, ℕ, ◌<◌, ◌≤◌, ◌↔◌, Bool, List, All, AllPairs, Any, Contains}
 use Rattle.clause_core.specs.declared.literal.Lit.{Lit}
 use Rattle.clause_core.specs.Literal.{rank, MakesTrue}
 
@@ -30,3 +30,8 @@ IsUnsatisfiable clauses = (v : ℕ → Bool) → ¬ SatisfiesAll v clauses
 -- a valuation that satisfies both clauses satisfies the third
 abbrev pub Entails : List Lit → List Lit → List Lit → Type 0
 Entails c d r = (v : ℕ → Bool) → Satisfies v c → Satisfies v d → Satisfies v r
+
+-- clauses with the same literals are equal
+abbrev pub ClausesAreSets : Type 0
+ClausesAreSets =
+    (c d : List Lit) → IsAscending c → IsAscending d → HasExactly c d → c ≡ d

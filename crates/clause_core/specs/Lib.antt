@@ -1,7 +1,8 @@
+-- The definitions that the contracts cite, in reading order.
 pub mod Literal
 pub mod Clause
-pub mod Resolvent
 pub mod Assignment
+pub mod Resolvent
 pub mod Propagation
 pub mod Numbering
-pub mod Adding
+pub mod inner

@@ -1,4 +1,4 @@
--- Which clause has a number. Numbers begin at 1. A clause that was removed leaves its number without one.
+-- Which clause has a number, from 1 on. A removed clause leaves its number without one.
 use Rattle.std.specs.Prelude.{◌≡◌, ℕ, ◌-◌, ◌==◌, Bool, List, Option, Some, None, slice_get, if◌then◌else◌}
 use Rattle.clause_core.specs.declared.literal.Lit.{Lit}
 use Rattle.clause_core.specs.Propagation.{Falsifies}
@@ -16,7 +16,8 @@ pub record HasNumber (numbering : Numbering) (number : ℕ) (clause : List Lit) 
   pub there : numbering number ≡ Some clause
 
 -- the clause of the number is false
-pub record IsFalsified (numbering : Numbering) (values : ℕ → Option Bool) (number : ℕ) : Type 0 where
+pub record IsFalsified
+    (numbering : Numbering) (values : ℕ → Option Bool) (number : ℕ) : Type 0 where
   pub clause : List Lit
   pub has_number : HasNumber numbering number clause
   pub falsified : Falsifies values clause

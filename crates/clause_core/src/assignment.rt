@@ -24,7 +24,7 @@ impl Model for Assignment {
 }
 
 impl Assignment {
-    /// Variable `v` gets the value at place `v - 1`.
+    /// Variable `v` gets the value at index `v - 1`.
     pub fn of(alloc: Global, values: &[bool]) -> Result<Assignment, NoMemory>
         requires { length values.now < 2 ^ 32 }
         ensures { IfOk result (λ assignment. assignment ≡ values.now) }
@@ -41,6 +41,7 @@ impl Assignment {
         self.values.len() as u32
     }
 
+    /// The value of the variable, which is one of those from 1 to `vars`.
     pub fn value(&self, var: u32) -> bool
         requires from_one { 0 < var }
         requires exists { var ≤ length self.now }
@@ -49,6 +50,7 @@ impl Assignment {
         *self.values.at(var as usize - 1)
     }
 
+    /// Whether a literal of the clause is true under the assignment.
     pub fn satisfies(&self, c: &Clause) -> bool
         requires { VariablesExist (length self.now) c.now }
         ensures { IsTrue result ↔ Satisfies (valuation self.now) c.now }

@@ -13,6 +13,7 @@ pub struct Clause {
     lits: Seq<Lit>,
 }
 
+/// Clauses, in order.
 pub type ClauseList = Seq<Clause>;
 
 impl Model for Clause {
@@ -47,6 +48,7 @@ impl Clause {
         Clause { lits }
     }
 
+    /// Lends the literals, in ascending order.
     pub fn lits(&self) -> &[Lit]
         ensures same { result.now ≡ self.now }
         ensures ascending { IsAscending self.now }
@@ -54,6 +56,7 @@ impl Clause {
         self.lits.as_slice()
     }
 
+    /// Whether the literal is in the clause.
     pub fn has(&self, lit: Lit) -> bool
         ensures { IsTrue result ↔ Contains self.now lit }
     {

@@ -3,7 +3,7 @@ ghost use Rattle.std.specs.List.Sorted.{IsNonDecreasingBy};
 ghost use Rattle.clause_core.specs.declared.literal.Lit.{Lit};
 ghost use Rattle.clause_core.specs.Literal.{rank};
 ghost use Rattle.clause_core.specs.Clause.{IsAscending, HasExactly};
-ghost use Rattle.clause_core.specs.Adding.{Inserts};
+ghost use Rattle.clause_core.specs.inner.Insertion.{Inserts};
 
 use super::literal::Lit;
 use list_base::{NoMemory, Seq};
@@ -22,7 +22,7 @@ pub fn distinct(alloc: Global, sorted: &[Lit]) -> Result<Seq<Lit>, NoMemory>
     Ok(kept)
 }
 
-/// Puts the literal at the end, unless it stands there.
+/// Appends the literal, unless it is the last one already.
 fn add(kept: &mut Seq<Lit>, lit: Lit) -> Result<(), NoMemory>
     requires ascends { IsAscending kept.old }
     requires none_above { (l : Lit) → Contains kept.old l → rank l ≤ rank lit }

@@ -1,21 +1,18 @@
-ghost use Rattle.std.specs.Prelude.{◌≡◌, List};
-ghost use Rattle.clause_core.specs.declared.literal.Lit.{Lit};
-ghost use Rattle.clause_core.specs.Clause.{IsAscending, HasExactly, Entails};
-ghost use Rattle.clause_core.specs.Resolvent.{IsResolvent};
+ghost use Rattle.clause_core.specs.Clause.{ClausesAreSets};
+ghost use Rattle.clause_core.specs.Resolvent.{ResolventsAgree, ResolventsFollow};
 
-/// Two clauses with the same literals are one clause.
+/// A law: two clauses with the same literals are one clause.
 #[tactic(auto, using(crate::proofs::ClauseLemmas::equal_clauses))]
 pub fn equal_members()
-    ensures { (c d : List Lit) → IsAscending c → IsAscending d → HasExactly c d → c ≡ d }
+    ensures { ClausesAreSets }
 {}
 
-/// Two clauses have at most one resolvent on a pivot.
+/// A law: two clauses have at most one resolvent on a pivot.
 pub fn resolvents_agree()
-    ensures { (c d r s : List Lit) (l : Lit) →
-        IsResolvent c l d r → IsResolvent c l d s → r ≡ s }
+    ensures { ResolventsAgree }
 {}
 
-/// A resolvent holds wherever both clauses hold.
+/// A law: a resolvent holds wherever both clauses hold (Robinson 1965).
 pub fn resolvents_follow()
-    ensures { (c d r : List Lit) (l : Lit) → IsResolvent c l d r → Entails c d r }
+    ensures { ResolventsFollow }
 {}

@@ -7,7 +7,7 @@ mod distinct;
 mod formula;
 mod laws;
 mod literal;
-mod merging;
+mod merge;
 mod resolution;
 #[cfg(test)]
 mod tests;

@@ -11,6 +11,7 @@ pub struct Lit {
 }
 
 impl Lit {
+    /// The literal that is true exactly if this one is false.
     pub fn negation(self) -> Lit
         ensures exact { result ≡ negated self }
         ensures opposite { (v : ℕ → Bool) → MakesTrue v result ↔ ¬ MakesTrue v self }
@@ -21,7 +22,7 @@ impl Lit {
         }
     }
 
-    /// The literal's place in the order that clauses keep.
+    /// The number by which clauses order their literals.
     pub fn rank(self) -> u64
         ensures { result ≡ rank self }
     {

@@ -4,7 +4,7 @@ ghost use Rattle.clause_core.specs.Resolvent.{CanResolve, IsResolvent};
 
 use super::clause::Clause;
 use super::literal::Lit;
-use super::merging::merged;
+use super::merge::merged;
 use list_base::NoMemory;
 use std::alloc::Global;
 
@@ -13,6 +13,7 @@ use std::alloc::Global;
 pub enum ResolveRefusal {
     /// The first clause lacks the pivot, or the second its negation.
     NoPivot,
+    /// Memory ran out.
     NoMemory,
 }
 
@@ -27,7 +28,8 @@ impl From<NoMemory> for ResolveRefusal {
     }
 }
 
-/// The first clause without the pivot, together with the second without its negation.
+/// The first clause without the pivot, together with the second without its negation: the
+/// resolvent (Robinson 1965).
 pub fn resolve(alloc: Global, c: &Clause, pivot: Lit, d: &Clause) -> Result<Clause, ResolveRefusal>
     ensures ok { IfOk result (IsResolvent c.now pivot d.now) }
     ensures pivot { IsErrOf result ResolveRefusal.NoPivot ↔ ¬ CanResolve c.now pivot d.now }
@@ -40,6 +42,7 @@ pub fn resolve(alloc: Global, c: &Clause, pivot: Lit, d: &Clause) -> Result<Clau
     Ok(Clause::ascending(lits))
 }
 
+/// Whether the pivot is in the first clause and its negation in the second.
 fn can_resolve(c: &Clause, pivot: Lit, d: &Clause) -> bool
     ensures { IsTrue result ↔ CanResolve c.now pivot d.now }
 {

@@ -4,26 +4,28 @@ use Rattle.std.proofs.lemmas.Bool.{cases_order}
 use Rattle.clause_core.specs.declared.literal.Lit.{Lit}
 use Rattle.refutation_log.specs.declared.refutation.Link.{Link}
 use Rattle.refutation_log.specs.declared.refutation.Chain.{Chain}
-use Rattle.refutation_log.specs.Resolution.{Names, Resolved, Folds, Derives}
+use Rattle.clause_core.specs.Numbering.{Numbering, HasNumber}
+use Rattle.clause_core.specs.Resolvent.{ResolventsAgree}
+use Rattle.refutation_log.specs.Resolution.{Resolved, Folds, Derives}
 use Rattle.log_checker.specs.FirstFailure.{ComesTo, LacksLinkClause, LacksClause, LacksPivot}
 use Rattle.log_checker.proofs.Folding.{names_one, folds_one}
 
--- the links before the place fold to a clause that resolves with that of the link there
-pub record Passes (clauses : List (List Lit)) (start : List Lit) (links : List Link) (place : ℕ) (link : Link) : Type 0 where
+-- the links before the index fold to a clause that resolves with that of the link there
+pub record Passes (numbering : Numbering) (start : List Lit) (links : List Link) (index : ℕ) (link : Link) : Type 0 where
   pub clause : List Lit
-  pub folds : Folds clauses start (take place links) clause
-  pub resolved : Resolved clauses clause link (λ _. Unit {0})
+  pub folds : Folds numbering start (take index links) clause
+  pub resolved : Resolved numbering clause link (λ _. Unit {0})
 
 -- what folds over more links passes each of them
-folds_pass : (clauses : List (List Lit)) (start : List Lit) (links : List Link) (r : List Lit) (n place : ℕ) (link : Link) → place < n → slice_get links place ≡ Some link → Folds clauses start (take n links) r → Passes clauses start links place link
-folds_pass clauses start [] r n place link before next folds = absurd cc
-folds_pass clauses start (first ∷ links) r zero place link before next folds = absurd (omega arith)
-folds_pass clauses start (first ∷ links) r (suc n) zero link before next folds =
+folds_pass : (numbering : Numbering) (start : List Lit) (links : List Link) (r : List Lit) (n index : ℕ) (link : Link) → index < n → slice_get links index ≡ Some link → Folds numbering start (take n links) r → Passes numbering start links index link
+folds_pass numbering start [] r n index link before next folds = absurd cc
+folds_pass numbering start (first ∷ links) r zero index link before next folds = absurd (omega arith)
+folds_pass numbering start (first ∷ links) r (suc n) zero link before next folds =
     let same : first ≡ link = cc in
-    let resolved : Resolved clauses start first (λ _. Unit {0}) = record { other = folds.other; named = folds.named; resolvent = folds.resolvent; resolves = folds.resolves; continues = tt } in
+    let resolved : Resolved numbering start first (λ _. Unit {0}) = record { other = folds.other; named = folds.named; resolvent = folds.resolvent; resolves = folds.resolves; continues = tt } in
     record { clause = start; folds = refl; resolved = rw same at resolved }
-folds_pass clauses start (first ∷ links) r (suc n) (suc place) link before next folds =
-    let rest = folds_pass clauses folds.resolvent links r n place link (omega arith) next folds.continues in
+folds_pass numbering start (first ∷ links) r (suc n) (suc index) link before next folds =
+    let rest = folds_pass numbering folds.resolvent links r n index link (omega arith) next folds.continues in
     record {
       clause = rest.clause;
       folds = record { other = folds.other; named = folds.named; resolvent = folds.resolvent; resolves = folds.resolves; continues = rest.folds };
@@ -31,77 +33,77 @@ folds_pass clauses start (first ∷ links) r (suc n) (suc place) link before nex
     }
 
 -- the chain comes to a link with which its clause does not resolve
-pub record Stuck (clauses : List (List Lit)) (chain : Chain) : Type 0 where
-  pub place : ℕ
+pub record Stuck (numbering : Numbering) (chain : Chain) : Type 0 where
+  pub index : ℕ
   pub link : Link
   pub clause : List Lit
-  pub comes : ComesTo clauses chain place link clause
-  pub stuck : ¬ Resolved clauses clause link (λ _. Unit {0})
+  pub comes : ComesTo numbering chain index link clause
+  pub stuck : ¬ Resolved numbering clause link (λ _. Unit {0})
 
-abbrev pub stuck_from_clause : (clauses : List (List Lit)) (chain : Chain) → LacksLinkClause clauses chain → Stuck clauses chain
-stuck_from_clause clauses chain lack =
+abbrev pub stuck_from_clause : (numbering : Numbering) (chain : Chain) → LacksLinkClause numbering chain → Stuck numbering chain
+stuck_from_clause numbering chain lack =
     record {
-      place = lack.place;
+      index = lack.index;
       link = lack.link;
       clause = lack.clause;
       comes = lack.comes;
       stuck = λ resolved. lack.lacks resolved.other resolved.named;
     }
 
-abbrev pub stuck_from_pivot : (number : ℕ) (clauses : List (List Lit)) (chain : Chain) → LacksPivot number clauses chain → Stuck clauses chain
-stuck_from_pivot number clauses chain lack =
+abbrev pub stuck_from_pivot : (number : ℕ) (numbering : Numbering) (chain : Chain) → LacksPivot number numbering chain → Stuck numbering chain
+stuck_from_pivot number numbering chain lack =
     record {
-      place = lack.place;
+      index = lack.index;
       link = lack.link;
       clause = lack.clause;
       comes = lack.comes;
       stuck = λ resolved.
-          let other = names_one clauses lack.link.clause resolved.other lack.lacks.other resolved.named lack.lacks.named in
+          let other = names_one numbering lack.link.clause resolved.other lack.lacks.other resolved.named lack.lacks.named in
           lack.lacks.lacks (rw other at resolved.resolves.can);
     }
 
 -- nothing folds over a link at which the chain is stuck
-stuck_blocks : (clauses : List (List Lit)) (chain : Chain) (at : Stuck clauses chain) (start r : List Lit) (n : ℕ) → Names clauses chain.first start → at.place < n → Folds clauses start (take n chain.links) r → ⊥
-stuck_blocks clauses chain at start r n named before folds =
-    let one = names_one clauses chain.first start at.comes.start named at.comes.named in
-    let pass = folds_pass clauses at.comes.start chain.links r n at.place at.link before at.comes.next (rw one at folds) in
-    let same = folds_one clauses at.comes.start (take at.place chain.links) pass.clause at.clause pass.folds at.comes.folds in
+stuck_blocks : ResolventsAgree → (numbering : Numbering) (chain : Chain) (at : Stuck numbering chain) (start r : List Lit) (n : ℕ) → HasNumber numbering chain.first start → at.index < n → Folds numbering start (take n chain.links) r → ⊥
+stuck_blocks agree numbering chain at start r n named before folds =
+    let one = names_one numbering chain.first start at.comes.start named at.comes.named in
+    let pass = folds_pass numbering at.comes.start chain.links r n at.index at.link before at.comes.next (rw one at folds) in
+    let same = folds_one agree numbering at.comes.start (take at.index chain.links) pass.clause at.clause pass.folds at.comes.folds in
     at.stuck (rw same at pass.resolved)
 
-pub stuck_derives_none : (clauses : List (List Lit)) (chain : Chain) (clause : List Lit) → Stuck clauses chain → ¬ Derives clauses chain clause
-stuck_derives_none clauses chain clause at derives =
-    let n = at.place + length chain.links + 1 in
-    stuck_blocks clauses chain at derives.start clause n derives.named (omega arith) (rw (take_all n chain.links (omega arith)) derives.folds)
+pub stuck_derives_none : ResolventsAgree → (numbering : Numbering) (chain : Chain) (clause : List Lit) → Stuck numbering chain → ¬ Derives numbering chain clause
+stuck_derives_none agree numbering chain clause at derives =
+    let n = at.index + length chain.links + 1 in
+    stuck_blocks agree numbering chain at derives.start clause n derives.named (omega arith) (rw (take_all n chain.links (omega arith)) derives.folds)
 
-pub stuck_once : (clauses : List (List Lit)) (chain : Chain) (at other : Stuck clauses chain) → at.place ≡ other.place
-stuck_once clauses chain at other =
-    elim (cases_order at.place other.place) [
+pub stuck_once : ResolventsAgree → (numbering : Numbering) (chain : Chain) (at other : Stuck numbering chain) → at.index ≡ other.index
+stuck_once agree numbering chain at other =
+    elim (cases_order at.index other.index) [
       | inl same ↦ same
       | inr apart ↦ absurd (elim apart [
-        | inl before ↦ stuck_blocks clauses chain at other.comes.start other.clause other.place other.comes.named before other.comes.folds
-        | inr after ↦ stuck_blocks clauses chain other at.comes.start at.clause at.place at.comes.named after at.comes.folds
+        | inl before ↦ stuck_blocks agree numbering chain at other.comes.start other.clause other.index other.comes.named before other.comes.folds
+        | inr after ↦ stuck_blocks agree numbering chain other at.comes.start at.clause at.index at.comes.named after at.comes.folds
       ])
     ]
 
-pub clause_lacking : (clauses : List (List Lit)) (chain : Chain) (clause : List Lit) → LacksClause clauses chain → ¬ Derives clauses chain clause
-clause_lacking clauses chain clause (inl none) derives = none derives.start derives.named
-clause_lacking clauses chain clause (inr lack) derives =
-    stuck_derives_none clauses chain clause (stuck_from_clause clauses chain lack) derives
+pub clause_lacking : ResolventsAgree → (numbering : Numbering) (chain : Chain) (clause : List Lit) → LacksClause numbering chain → ¬ Derives numbering chain clause
+clause_lacking agree numbering chain clause (inl none) derives = none derives.start derives.named
+clause_lacking agree numbering chain clause (inr lack) derives =
+    stuck_derives_none agree numbering chain clause (stuck_from_clause numbering chain lack) derives
 
-pub pivot_lacking : (number : ℕ) (clauses : List (List Lit)) (chain : Chain) (clause : List Lit) → LacksPivot number clauses chain → ¬ Derives clauses chain clause
-pivot_lacking number clauses chain clause lack derives =
-    stuck_derives_none clauses chain clause (stuck_from_pivot number clauses chain lack) derives
+pub pivot_lacking : ResolventsAgree → (number : ℕ) (numbering : Numbering) (chain : Chain) (clause : List Lit) → LacksPivot number numbering chain → ¬ Derives numbering chain clause
+pivot_lacking agree number numbering chain clause lack derives =
+    stuck_derives_none agree numbering chain clause (stuck_from_pivot number numbering chain lack) derives
 
 -- a chain stops at one pivot
-pub pivot_once : (m n : ℕ) (clauses : List (List Lit)) (chain : Chain) → LacksPivot m clauses chain → LacksPivot n clauses chain → m ≡ n
-pivot_once m n clauses chain first second =
-    let same : first.place ≡ second.place = stuck_once clauses chain (stuck_from_pivot m clauses chain first) (stuck_from_pivot n clauses chain second) in
+pub pivot_once : ResolventsAgree → (m n : ℕ) (numbering : Numbering) (chain : Chain) → LacksPivot m numbering chain → LacksPivot n numbering chain → m ≡ n
+pivot_once agree m n numbering chain first second =
+    let same : first.index ≡ second.index = stuck_once agree numbering chain (stuck_from_pivot m numbering chain first) (stuck_from_pivot n numbering chain second) in
     omega (arith, first.counted, second.counted, same)
 
 -- a chain lacks a clause or a pivot, not both
-pub clause_or_pivot : (n : ℕ) (clauses : List (List Lit)) (chain : Chain) → LacksClause clauses chain → ¬ LacksPivot n clauses chain
-clause_or_pivot n clauses chain (inl none) second = none second.comes.start second.comes.named
-clause_or_pivot n clauses chain (inr first) second =
-    let same : first.place ≡ second.place = stuck_once clauses chain (stuck_from_clause clauses chain first) (stuck_from_pivot n clauses chain second) in
+pub clause_or_pivot : ResolventsAgree → (n : ℕ) (numbering : Numbering) (chain : Chain) → LacksClause numbering chain → ¬ LacksPivot n numbering chain
+clause_or_pivot agree n numbering chain (inl none) second = none second.comes.start second.comes.named
+clause_or_pivot agree n numbering chain (inr first) second =
+    let same : first.index ≡ second.index = stuck_once agree numbering chain (stuck_from_clause numbering chain first) (stuck_from_pivot n numbering chain second) in
     let link : second.link ≡ first.link = cc (same, first.comes.next, second.comes.next) in
     first.lacks second.lacks.other (rw link at second.lacks.named)

@@ -4,42 +4,43 @@ use Rattle.std.proofs.lemmas.List.{take_more}
 use Rattle.std.proofs.lemmas.Bool.{cases_order}
 use Rattle.clause_core.specs.declared.literal.Lit.{Lit}
 use Rattle.refutation_log.specs.declared.refutation.Chain.{Chain}
-use Rattle.refutation_log.specs.Resolution.{Derives, DerivesAll}
-use Rattle.refutation_log.proofs.ResolutionLemmas.{derives_more}
+use Rattle.clause_core.specs.Numbering.{Numbering, numbered}
+use Rattle.clause_core.specs.Resolvent.{ResolventsAgree}
+use Rattle.refutation_log.specs.Resolution.{Derives, DerivesAll, StepsAppend}
 use Rattle.log_checker.specs.FirstFailure.{FailsAt}
 use Rattle.log_checker.proofs.Folding.{derives_one}
 
 -- the steps derive one list of clauses
-pub derived_one : (clauses : List (List Lit)) (steps : List Chain) (first second : List (List Lit)) → DerivesAll clauses steps first → DerivesAll clauses steps second → first ≡ second
-derived_one clauses [] first second is_first is_second = cc
-derived_one clauses (step ∷ steps) [] second is_first is_second = absurd is_first
-derived_one clauses (step ∷ steps) (c ∷ first) [] is_first is_second = absurd is_second
-derived_one clauses (step ∷ steps) (c ∷ first) (d ∷ second) is_first is_second =
-    let same = derives_one clauses step c d is_first.0 is_second.0 in
-    ap₂ (λ x xs. x ∷ xs) same (derived_one (clauses ++ d ∷ []) steps first second (rw same at is_first.1) is_second.1)
+pub derived_one : ResolventsAgree → (clauses : List (List Lit)) (steps : List Chain) (first second : List (List Lit)) → DerivesAll clauses steps first → DerivesAll clauses steps second → first ≡ second
+derived_one agree clauses [] first second is_first is_second = cc
+derived_one agree clauses (step ∷ steps) [] second is_first is_second = absurd is_first
+derived_one agree clauses (step ∷ steps) (c ∷ first) [] is_first is_second = absurd is_second
+derived_one agree clauses (step ∷ steps) (c ∷ first) (d ∷ second) is_first is_second =
+    let same = derives_one agree (numbered clauses) step c d is_first.0 is_second.0 in
+    ap₂ (λ x xs. x ∷ xs) same (derived_one agree (clauses ++ d ∷ []) steps first second (rw same at is_first.1) is_second.1)
 
 -- one step more
-pub derives_next : (clauses : List (List Lit)) (steps : List Chain) (derived new : List (List Lit)) (place : ℕ) (chain : Chain) (clause : List Lit) → place < length steps → chain ≡ get_or steps place chain → new ≡ derived ++ clause ∷ [] → DerivesAll clauses (take place steps) derived → Derives (clauses ++ derived) chain clause → DerivesAll clauses (take (place + 1) steps) new
-derives_next clauses steps derived new place chain clause within is pushed before next =
-    rw (take_more steps place chain within, ← is, pushed) (derives_more clauses derived (take place steps) chain clause before next)
+pub derives_next : StepsAppend → (clauses : List (List Lit)) (steps : List Chain) (derived new : List (List Lit)) (index : ℕ) (chain : Chain) (clause : List Lit) → index < length steps → chain ≡ get_or steps index chain → new ≡ derived ++ clause ∷ [] → DerivesAll clauses (take index steps) derived → Derives (numbered (clauses ++ derived)) chain clause → DerivesAll clauses (take (index + 1) steps) new
+derives_next append clauses steps derived new index chain clause within is pushed before next =
+    rw (take_more steps index chain within, ← is, pushed) (append clauses derived (take index steps) chain clause before next)
 
--- the steps before the place derive clauses, and the step there derives one from all of them
-pub record StepPasses (clauses : List (List Lit)) (steps : List Chain) (place : ℕ) (chain : Chain) : Type 0 where
+-- the steps before the index derive clauses, and the step there derives one from all of them
+pub record StepPasses (clauses : List (List Lit)) (steps : List Chain) (index : ℕ) (chain : Chain) : Type 0 where
   pub earlier : List (List Lit)
-  pub before : DerivesAll clauses (take place steps) earlier
+  pub before : DerivesAll clauses (take index steps) earlier
   pub clause : List Lit
-  pub derives : Derives (clauses ++ earlier) chain clause
+  pub derives : Derives (numbered (clauses ++ earlier)) chain clause
 
 -- what derives clauses by more steps passes each of them
-steps_pass : (clauses : List (List Lit)) (steps : List Chain) (derived : List (List Lit)) (n place : ℕ) (chain : Chain) → place < n → slice_get steps place ≡ Some chain → DerivesAll clauses (take n steps) derived → StepPasses clauses steps place chain
-steps_pass clauses [] derived n place chain before next all = absurd cc
-steps_pass clauses (step ∷ steps) derived zero place chain before next all = absurd (omega arith)
-steps_pass clauses (step ∷ steps) [] (suc n) place chain before next all = absurd all
+steps_pass : (clauses : List (List Lit)) (steps : List Chain) (derived : List (List Lit)) (n index : ℕ) (chain : Chain) → index < n → slice_get steps index ≡ Some chain → DerivesAll clauses (take n steps) derived → StepPasses clauses steps index chain
+steps_pass clauses [] derived n index chain before next all = absurd cc
+steps_pass clauses (step ∷ steps) derived zero index chain before next all = absurd (omega arith)
+steps_pass clauses (step ∷ steps) [] (suc n) index chain before next all = absurd all
 steps_pass clauses (step ∷ steps) (clause ∷ derived) (suc n) zero chain before next all =
     let same : step ≡ chain = cc in
     record { earlier = []; before = refl; clause = clause; derives = rw append-nil (rw same at all.0) }
-steps_pass clauses (step ∷ steps) (clause ∷ derived) (suc n) (suc place) chain before next all =
-    let rest = steps_pass (clauses ++ clause ∷ []) steps derived n place chain (omega arith) next all.1 in
+steps_pass clauses (step ∷ steps) (clause ∷ derived) (suc n) (suc index) chain before next all =
+    let rest = steps_pass (clauses ++ clause ∷ []) steps derived n index chain (omega arith) next all.1 in
     record {
       earlier = clause ∷ rest.earlier;
       before = (all.0, rest.before);
@@ -48,45 +49,45 @@ steps_pass clauses (step ∷ steps) (clause ∷ derived) (suc n) (suc place) cha
     }
 
 -- the failure is that of a chain that derives nothing
-abbrev pub Prevents : (List (List Lit) → Chain → Type 0) → Type 0
+abbrev pub Prevents : (Numbering → Chain → Type 0) → Type 0
 Prevents Failure =
-    (clauses : List (List Lit)) (chain : Chain) (clause : List Lit) → Failure clauses chain → ¬ Derives clauses chain clause
+    (numbering : Numbering) (chain : Chain) (clause : List Lit) → Failure numbering chain → ¬ Derives numbering chain clause
 
 -- no steps derive clauses beyond the step that fails
-pub failure_blocks : (Failure : List (List Lit) → Chain → Type 0) → Prevents Failure → (formula : List (List Lit)) (steps : List Chain) (number : ℕ) (at : FailsAt formula steps number Failure) (derived : List (List Lit)) (n : ℕ) → at.place < n → DerivesAll formula (take n steps) derived → ⊥
-failure_blocks Failure prevents formula steps number at derived n before all =
-    let pass = steps_pass formula steps derived n at.place at.chain before at.next all in
-    let same = derived_one formula (take at.place steps) pass.earlier at.derived pass.before at.before in
-    prevents (formula ++ at.derived) at.chain pass.clause at.fails (rw same at pass.derives)
+pub failure_blocks : ResolventsAgree → (Failure : Numbering → Chain → Type 0) → Prevents Failure → (formula : List (List Lit)) (steps : List Chain) (number : ℕ) (at : FailsAt formula steps number Failure) (derived : List (List Lit)) (n : ℕ) → at.index < n → DerivesAll formula (take n steps) derived → ⊥
+failure_blocks agree Failure prevents formula steps number at derived n before all =
+    let pass = steps_pass formula steps derived n at.index at.chain before at.next all in
+    let same = derived_one agree formula (take at.index steps) pass.earlier at.derived pass.before at.before in
+    prevents (numbered (formula ++ at.derived)) at.chain pass.clause at.fails (rw same at pass.derives)
 
-pub failure_derives_none : (Failure : List (List Lit) → Chain → Type 0) → Prevents Failure → (formula : List (List Lit)) (steps : List Chain) (number : ℕ) (derived : List (List Lit)) → FailsAt formula steps number Failure → ¬ DerivesAll formula steps derived
-failure_derives_none Failure prevents formula steps number derived at all =
-    let n = at.place + length steps + 1 in
-    failure_blocks Failure prevents formula steps number at derived n (omega arith) (rw (take_all n steps (omega arith)) all)
+pub failure_derives_none : ResolventsAgree → (Failure : Numbering → Chain → Type 0) → Prevents Failure → (formula : List (List Lit)) (steps : List Chain) (number : ℕ) (derived : List (List Lit)) → FailsAt formula steps number Failure → ¬ DerivesAll formula steps derived
+failure_derives_none agree Failure prevents formula steps number derived at all =
+    let n = at.index + length steps + 1 in
+    failure_blocks agree Failure prevents formula steps number at derived n (omega arith) (rw (take_all n steps (omega arith)) all)
 
 -- two failures of one log are of one step, and of its chain over one list of clauses
-pub record Together (m n : ℕ) (First Second : List (List Lit) → Chain → Type 0) : Type 0 where
+pub record Together (m n : ℕ) (First Second : Numbering → Chain → Type 0) : Type 0 where
   pub number : m ≡ n
-  pub clauses : List (List Lit)
+  pub numbering : Numbering
   pub chain : Chain
-  pub first : First clauses chain
-  pub second : Second clauses chain
+  pub first : First numbering chain
+  pub second : Second numbering chain
 
-pub failures_meet : (First Second : List (List Lit) → Chain → Type 0) → Prevents First → Prevents Second → (formula : List (List Lit)) (steps : List Chain) (m n : ℕ) → FailsAt formula steps m First → FailsAt formula steps n Second → Together m n First Second
-failures_meet First Second first_prevents second_prevents formula steps m n at other =
-    elim (cases_order at.place other.place) [
+pub failures_meet : ResolventsAgree → (First Second : Numbering → Chain → Type 0) → Prevents First → Prevents Second → (formula : List (List Lit)) (steps : List Chain) (m n : ℕ) → FailsAt formula steps m First → FailsAt formula steps n Second → Together m n First Second
+failures_meet agree First Second first_prevents second_prevents formula steps m n at other =
+    elim (cases_order at.index other.index) [
       | inl same ↦
           let chain : at.chain ≡ other.chain = cc (same, at.next, other.next) in
-          let derived = derived_one formula (take other.place steps) at.derived other.derived (rw same at at.before) other.before in
+          let derived = derived_one agree formula (take other.index steps) at.derived other.derived (rw same at at.before) other.before in
           record {
             number = omega (arith, at.counted, other.counted, same);
-            clauses = formula ++ other.derived;
+            numbering = numbered (formula ++ other.derived);
             chain = other.chain;
             first = rw (chain, derived) at at.fails;
             second = other.fails;
           }
       | inr apart ↦ absurd (elim apart [
-        | inl before ↦ failure_blocks First first_prevents formula steps m at other.derived other.place before other.before
-        | inr after ↦ failure_blocks Second second_prevents formula steps n other at.derived at.place after at.before
+        | inl before ↦ failure_blocks agree First first_prevents formula steps m at other.derived other.index before other.before
+        | inr after ↦ failure_blocks agree Second second_prevents formula steps n other at.derived at.index after at.before
       ])
     ]

@@ -6,57 +6,63 @@ use Rattle.clause_core.specs.Resolvent.{CanResolve}
 use Rattle.refutation_log.specs.declared.refutation.Link.{Link}
 use Rattle.refutation_log.specs.declared.refutation.Chain.{Chain}
 use Rattle.refutation_log.specs.declared.refutation.Log.{Log}
-use Rattle.refutation_log.specs.Resolution.{Names, Folds, DerivesAll}
+use Rattle.clause_core.specs.Numbering.{Numbering, numbered, HasNumber}
+use Rattle.refutation_log.specs.Resolution.{Folds, DerivesAll}
 use Rattle.log_checker.specs.declared.refusal.Reject.{Reject}
 use Rattle.log_checker.specs.declared.refusal.Reject.TheVariants.{NoClause, NoPivot, NotEmpty, NoMemory}
 
 -- no clause has the number
-abbrev pub NamesNone : List (List Lit) → ℕ → Type 0
-NamesNone clauses number = (clause : List Lit) → ¬ Names clauses number clause
+abbrev pub HasNoClause : Numbering → ℕ → Type 0
+HasNoClause numbering number = (clause : List Lit) → ¬ HasNumber numbering number clause
 
--- the links before the place fold over the chain's first clause, and this link comes next
-pub record ComesTo (clauses : List (List Lit)) (chain : Chain) (place : ℕ) (link : Link) (clause : List Lit) : Type 0 where
+-- the links before the index fold over the chain's first clause, and this link comes next
+pub record ComesTo
+    (numbering : Numbering) (chain : Chain) (index : ℕ)
+    (link : Link) (clause : List Lit) : Type 0 where
   pub start : List Lit
-  pub named : Names clauses chain.first start
-  pub folds : Folds clauses start (take place chain.links) clause
-  pub next : slice_get chain.links place ≡ Some link
+  pub named : HasNumber numbering chain.first start
+  pub folds : Folds numbering start (take index chain.links) clause
+  pub next : slice_get chain.links index ≡ Some link
 
 -- the chain comes to a link whose number no clause has
-pub record LacksLinkClause (clauses : List (List Lit)) (chain : Chain) : Type 0 where
-  pub place : ℕ
+pub record LacksLinkClause (numbering : Numbering) (chain : Chain) : Type 0 where
+  pub index : ℕ
   pub link : Link
   pub clause : List Lit
-  pub comes : ComesTo clauses chain place link clause
-  pub lacks : NamesNone clauses link.clause
+  pub comes : ComesTo numbering chain index link clause
+  pub lacks : HasNoClause numbering link.clause
 
 -- no clause has the number of the chain's first clause, or that of a link to which it comes
-abbrev pub LacksClause : List (List Lit) → Chain → Type 0
-LacksClause clauses chain = NamesNone clauses chain.first ⊎ LacksLinkClause clauses chain
+abbrev pub LacksClause : Numbering → Chain → Type 0
+LacksClause numbering chain = HasNoClause numbering chain.first ⊎ LacksLinkClause numbering chain
 
 -- the clause and that of the link lack the pivot or its negation
-pub record CannotResolve (clauses : List (List Lit)) (clause : List Lit) (link : Link) : Type 0 where
+pub record CannotResolve
+    (numbering : Numbering) (clause : List Lit) (link : Link) : Type 0 where
   pub other : List Lit
-  pub named : Names clauses link.clause other
+  pub named : HasNumber numbering link.clause other
   pub lacks : ¬ CanResolve clause link.pivot other
 
 -- the chain comes to the link of this number, from 1, and has no resolvent there
-pub record LacksPivot (number : ℕ) (clauses : List (List Lit)) (chain : Chain) : Type 0 where
-  pub place : ℕ
-  pub counted : number ≡ place + 1
+pub record LacksPivot (number : ℕ) (numbering : Numbering) (chain : Chain) : Type 0 where
+  pub index : ℕ
+  pub counted : number ≡ index + 1
   pub link : Link
   pub clause : List Lit
-  pub comes : ComesTo clauses chain place link clause
-  pub lacks : CannotResolve clauses clause link
+  pub comes : ComesTo numbering chain index link clause
+  pub lacks : CannotResolve numbering clause link
 
 -- the steps before the step of this number, from 1, derive clauses, and that step fails so
-pub record FailsAt (formula : List (List Lit)) (steps : List Chain) (number : ℕ) (Failure : List (List Lit) → Chain → Type 0) : Type 0 where
-  pub place : ℕ
-  pub counted : number ≡ place + 1
+pub record FailsAt
+    (formula : List (List Lit)) (steps : List Chain) (number : ℕ)
+    (Failure : Numbering → Chain → Type 0) : Type 0 where
+  pub index : ℕ
+  pub counted : number ≡ index + 1
   pub chain : Chain
-  pub next : slice_get steps place ≡ Some chain
+  pub next : slice_get steps index ≡ Some chain
   pub derived : List (List Lit)
-  pub before : DerivesAll formula (take place steps) derived
-  pub fails : Failure (formula ++ derived) chain
+  pub before : DerivesAll formula (take index steps) derived
+  pub fails : Failure (numbered (formula ++ derived)) chain
 
 -- every step derives a clause, and no clause is empty
 pub record LacksEmpty (formula : List (List Lit)) (steps : List Chain) : Type 0 where

@@ -1,2 +1,3 @@
+-- The definitions that the contracts cite, in reading order.
 pub mod FirstFailure
-pub mod Stops
+pub mod inner

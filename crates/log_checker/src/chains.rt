@@ -1,11 +1,12 @@
 ghost use Rattle.std.specs.Prelude.{◌≡◌, ◌++◌, IfOk, IfErr, unwrap_or};
+ghost use Rattle.clause_core.specs.Numbering.{numbered};
 ghost use Rattle.refutation_log.specs.Resolution.{Derives};
-ghost use Rattle.log_checker.specs.Stops.{ResolvesTo, LinkStops, ChainStops};
+ghost use Rattle.log_checker.specs.inner.Stops.{ResolvesTo, LinkStops, ChainStops};
 
-use super::numbering::numbered;
-use super::refusal::Fault;
+use super::lookup::clause_of;
+use super::refusal::ChainError;
 use clause_core::{Clause, ResolveRefusal, resolve};
-use list_base::Duplicate;
+use list_base::TryClone;
 use refutation_log::{Chain, Link};
 use std::alloc::Global;
 
@@ -15,17 +16,17 @@ pub fn chain_clause(
     formula: &[Clause],
     derived: &[Clause],
     chain: &Chain,
-) -> Result<Clause, Fault>
-    ensures ok { IfOk result (Derives (formula.now ++ derived.now) chain.now) }
-    ensures err { IfErr result (ChainStops (formula.now ++ derived.now) chain.now) }
+) -> Result<Clause, ChainError>
+    ensures ok { IfOk result (Derives (numbered (formula.now ++ derived.now)) chain.now) }
+    ensures err { IfErr result (ChainStops (numbered (formula.now ++ derived.now)) chain.now) }
 {
-    let Some(first) = numbered(formula, derived, chain.first) else {
-        return Err(Fault::NoClause);
+    let Some(first) = clause_of(formula, derived, chain.first) else {
+        return Err(ChainError::NoClause);
     };
     let mut folded: Option<Clause> = None;
-    for (place, link) in chain.links.as_slice().iter().enumerate() {
+    for (index, link) in chain.links.as_slice().iter().enumerate() {
         let clause = so_far(first, &folded);
-        let resolvent = link_resolvent(alloc, formula, derived, clause, *link, place as u64 + 1)?;
+        let resolvent = link_resolvent(alloc, formula, derived, clause, *link, index as u64 + 1)?;
         folded = Some(resolvent);
     }
     match folded {
@@ -52,16 +53,16 @@ fn link_resolvent(
     clause: &Clause,
     link: Link,
     number: u64,
-) -> Result<Clause, Fault>
-    ensures ok { IfOk result (ResolvesTo (formula.now ++ derived.now) clause.now link) }
-    ensures err { IfErr result (LinkStops (formula.now ++ derived.now) clause.now link number) }
+) -> Result<Clause, ChainError>
+    ensures ok { IfOk result (ResolvesTo (numbered (formula.now ++ derived.now)) clause.now link) }
+    ensures err { IfErr result (LinkStops (numbered (formula.now ++ derived.now)) clause.now link number) }
 {
-    let Some(other) = numbered(formula, derived, link.clause) else {
-        return Err(Fault::NoClause);
+    let Some(other) = clause_of(formula, derived, link.clause) else {
+        return Err(ChainError::NoClause);
     };
     match resolve(alloc, clause, link.pivot, other) {
         Ok(resolvent) => Ok(resolvent),
-        Err(ResolveRefusal::NoPivot) => Err(Fault::NoPivot { link: number }),
-        Err(ResolveRefusal::NoMemory) => Err(Fault::NoMemory),
+        Err(ResolveRefusal::NoPivot) => Err(ChainError::NoPivot { link: number }),
+        Err(ResolveRefusal::NoMemory) => Err(ChainError::NoMemory),
     }
 }

@@ -2,12 +2,12 @@
 #![tactic(auto)]
 
 mod chains;
-mod checking;
-mod numbering;
+mod checker;
+mod lookup;
 mod refusal;
 mod steps;
 #[cfg(test)]
 mod tests;
 
-pub use checking::check_log;
+pub use checker::check_log;
 pub use refusal::Reject;

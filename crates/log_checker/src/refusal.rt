@@ -9,6 +9,7 @@ pub enum Reject {
     NoPivot { step: u32, link: u64 },
     /// All steps resolve, and no clause is empty.
     NotEmpty,
+    /// Memory ran out.
     NoMemory,
 }
 
@@ -25,20 +26,22 @@ impl From<NoMemory> for Reject {
 
 /// Why a chain has no clause.
 #[derive(Clone, Copy, Debug, PartialEq, Eq)]
-pub enum Fault {
+pub enum ChainError {
+    /// A number is of no clause.
     NoClause,
     /// The link counts from 1.
     NoPivot { link: u64 },
+    /// Memory ran out.
     NoMemory,
 }
 
-impl From<NoMemory> for Fault {
+impl From<NoMemory> for ChainError {
     ghost use Rattle.std.specs.Prelude.{◌≡◌};
-    ghost use Rattle.log_checker.specs.declared.refusal.Fault.TheVariants as faults;
+    ghost use Rattle.log_checker.specs.declared.refusal.ChainError.TheVariants as errors;
 
-    ghost from_gives = { λ _ fault. fault ≡ faults.NoMemory };
+    ghost from_gives = { λ _ error. error ≡ errors.NoMemory };
 
-    fn from(_error: NoMemory) -> Fault {
-        Fault::NoMemory
+    fn from(_error: NoMemory) -> ChainError {
+        ChainError::NoMemory
     }
 }

@@ -1,12 +1,12 @@
 ghost use Rattle.std.specs.Prelude.{◌≡◌, ◌+◌, ◌^◌, ◌<◌, length, IfOk, IfErr};
 ghost use Rattle.refutation_log.specs.Resolution.{DerivesAll};
-ghost use Rattle.log_checker.specs.Stops.{StepsStop, rejection};
+ghost use Rattle.log_checker.specs.inner.Stops.{StepsStop, rejection};
 
 use super::chains::chain_clause;
-use super::refusal::{Fault, Reject};
+use super::refusal::{ChainError, Reject};
 use clause_core::{Clause, ClauseList};
 use list_base::Seq;
-use refutation_log::Chain;
+use refutation_log::{Chain, step_appends};
 use std::alloc::Global;
 
 /// The clauses that the steps derive, in order, up to the first step that fails.
@@ -19,23 +19,25 @@ pub fn derived_clauses(
     ensures ok { IfOk result (DerivesAll formula.now steps.now) }
     ensures err { IfErr result (StepsStop formula.now steps.now) }
 {
+    // law: a step at the end derives its clause from all the clauses before it
+    step_appends();
     let mut derived = Seq::new(alloc);
-    for (place, chain) in steps.iter().enumerate() {
+    for (index, chain) in steps.iter().enumerate() {
         match chain_clause(alloc, formula, derived.as_slice(), chain) {
             Ok(clause) => derived.push(clause)?,
-            Err(fault) => return Err(rejected(place as u32 + 1, fault)),
+            Err(error) => return Err(rejected(index as u32 + 1, error)),
         }
     }
     Ok(derived)
 }
 
-/// The answer where the step of this number has no clause.
-fn rejected(step: u32, fault: Fault) -> Reject
-    ensures { result ≡ rejection step fault }
+/// The answer if the step of this number has no clause.
+fn rejected(step: u32, error: ChainError) -> Reject
+    ensures { result ≡ rejection step error }
 {
-    match fault {
-        Fault::NoClause => Reject::NoClause { step },
-        Fault::NoPivot { link } => Reject::NoPivot { step, link },
-        Fault::NoMemory => Reject::NoMemory,
+    match error {
+        ChainError::NoClause => Reject::NoClause { step },
+        ChainError::NoPivot { link } => Reject::NoPivot { step, link },
+        ChainError::NoMemory => Reject::NoMemory,
     }
 }

@@ -1,11 +1,12 @@
 -- A log grows at its end.
 use Rattle.std.proofs.Common.{List, [], ◌∷◌, ◌++◌, refl, append_assoc, append-nil}
 use Rattle.clause_core.specs.declared.literal.Lit.{Lit}
+use Rattle.clause_core.specs.Numbering.{numbered}
 use Rattle.refutation_log.specs.declared.refutation.Chain.{Chain}
 use Rattle.refutation_log.specs.Resolution.{Derives, DerivesAll, IsNewClause, AreNewClauses}
 
 -- one more step
-pub derives_more : (clauses derived : List (List Lit)) (steps : List Chain) (chain : Chain) (clause : List Lit) → DerivesAll clauses steps derived → Derives (clauses ++ derived) chain clause → DerivesAll clauses (steps ++ chain ∷ []) (derived ++ clause ∷ [])
+pub derives_more : (clauses derived : List (List Lit)) (steps : List Chain) (chain : Chain) (clause : List Lit) → DerivesAll clauses steps derived → Derives (numbered (clauses ++ derived)) chain clause → DerivesAll clauses (steps ++ chain ∷ []) (derived ++ clause ∷ [])
 derives_more clauses derived [] chain clause none next =
     rw none (rw (none, append-nil) at next, refl)
 derives_more clauses [] (step ∷ steps) chain clause derives next = absurd derives

@@ -1,44 +1,42 @@
 -- What a log derives from a formula, and when it is accepted and when it is new.
-use Rattle.std.specs.Prelude.{◌≡◌, ◌≢◌, ℕ, ◌-◌, ◌<◌, Some, List, [], ◌∷◌, ◌++◌, All, Contains, slice_get}
+use Rattle.std.specs.Prelude.{◌≡◌, ◌≢◌, List, [], ◌∷◌, ◌++◌, All, Contains}
 use Rattle.clause_core.specs.declared.literal.Lit.{Lit}
 use Rattle.clause_core.specs.declared.formula.Formula.{Formula}
+use Rattle.clause_core.specs.Numbering.{Numbering, numbered, HasNumber}
 use Rattle.clause_core.specs.Resolvent.{IsResolvent}
 use Rattle.clause_core.specs.Propagation.{IsLacked}
 use Rattle.refutation_log.specs.declared.refutation.Link.{Link}
 use Rattle.refutation_log.specs.declared.refutation.Chain.{Chain}
 use Rattle.refutation_log.specs.declared.refutation.Log.{Log}
 
--- the clause has this number; numbers begin at 1
-pub record Names (clauses : List (List Lit)) (number : ℕ) (clause : List Lit) : Type 0 where
-  pub from_one : 0 < number
-  pub there : slice_get clauses (number - 1) ≡ Some clause
-
 -- a clause resolves with that of the link, and something holds of the resolvent
-pub record Resolved (clauses : List (List Lit)) (clause : List Lit) (link : Link) (Then : List Lit → Type 0) : Type 0 where
+pub record Resolved
+    (numbering : Numbering) (clause : List Lit) (link : Link)
+    (Then : List Lit → Type 0) : Type 0 where
   pub other : List Lit
-  pub named : Names clauses link.clause other
+  pub named : HasNumber numbering link.clause other
   pub resolvent : List Lit
   pub resolves : IsResolvent clause link.pivot other resolvent
   pub continues : Then resolvent
 
 -- the links fold over the first clause: each resolves what came before it
-abbrev pub Folds : List (List Lit) → List Lit → List Link → List Lit → Type 0
-Folds clauses clause [] result = clause ≡ result
-Folds clauses clause (link ∷ links) result =
-    Resolved clauses clause link (λ resolvent. Folds clauses resolvent links result)
+abbrev pub Folds : Numbering → List Lit → List Link → List Lit → Type 0
+Folds numbering clause [] result = clause ≡ result
+Folds numbering clause (link ∷ links) result =
+    Resolved numbering clause link (λ resolvent. Folds numbering resolvent links result)
 
 -- the chain's clause is the fold of its links over its first clause
-pub record Derives (clauses : List (List Lit)) (chain : Chain) (clause : List Lit) : Type 0 where
+pub record Derives (numbering : Numbering) (chain : Chain) (clause : List Lit) : Type 0 where
   pub start : List Lit
-  pub named : Names clauses chain.first start
-  pub folds : Folds clauses start chain.links clause
+  pub named : HasNumber numbering chain.first start
+  pub folds : Folds numbering start chain.links clause
 
 -- each step derives its clause from the clauses and those of the steps before it
 abbrev pub DerivesAll : List (List Lit) → List Chain → List (List Lit) → Type 0
 DerivesAll clauses [] derived = derived ≡ []
 DerivesAll clauses (chain ∷ steps) [] = ⊥
 DerivesAll clauses (chain ∷ steps) (clause ∷ derived) =
-    Derives clauses chain clause × DerivesAll (clauses ++ clause ∷ []) steps derived
+    Derives (numbered clauses) chain clause × DerivesAll (clauses ++ clause ∷ []) steps derived
 
 -- every step of the log has a clause
 pub record Resolves (f : Formula) (log : Log) : Type 0 where
@@ -68,3 +66,17 @@ pub record IsNew (f : Formula) (log : Log) : Type 0 where
   pub derives : DerivesAll f.clauses log.steps derived
   pub linked : All (λ chain. chain.links ≢ []) log.steps
   pub new : AreNewClauses f.clauses derived
+
+-- a step at the end derives its clause from all the clauses before it
+abbrev pub StepsAppend : Type 0
+StepsAppend =
+    (clauses derived : List (List Lit)) (steps : List Chain) (chain : Chain) (clause : List Lit) →
+    DerivesAll clauses steps derived → Derives (numbered (clauses ++ derived)) chain clause →
+    DerivesAll clauses (steps ++ chain ∷ []) (derived ++ clause ∷ [])
+
+-- new clauses stay new if a new one comes after them
+abbrev pub NewClausesAppend : Type 0
+NewClausesAppend =
+    (earlier derived : List (List Lit)) (clause : List Lit) →
+    AreNewClauses earlier derived → IsNewClause (earlier ++ derived) clause →
+    AreNewClauses earlier (derived ++ clause ∷ [])

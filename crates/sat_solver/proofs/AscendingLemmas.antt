@@ -5,8 +5,8 @@ use Rattle.std.proofs.lemmas.List.Elements.{Contains-get_or}
 use Rattle.clause_core.specs.declared.literal.Lit.{Lit}
 use Rattle.clause_core.specs.Literal.{rank}
 use Rattle.clause_core.specs.Clause.{IsAscending, HasExactly}
-use Rattle.clause_core.specs.Adding.{Inserts}
-use Rattle.clause_core.proofs.Members.{here_same, there, nowhere, cons_cases}
+use Rattle.clause_core.specs.inner.Insertion.{Inserts}
+use Rattle.list_base.proofs.Members.{here_same, there, nowhere, cons_cases}
 use Rattle.clause_core.proofs.LiteralLemmas.{same_rank}
 use Rattle.clause_core.proofs.ClauseLemmas.{ascending_nil, ascending_tail, first_below, first_least}
 use Rattle.clause_core.proofs.DistinctLemmas.{adds_double}

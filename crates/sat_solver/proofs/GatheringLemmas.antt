@@ -7,7 +7,7 @@ use Rattle.clause_core.specs.declared.literal.Lit.{Lit}
 use Rattle.clause_core.specs.Literal.{negated}
 use Rattle.clause_core.specs.Propagation.{MakesFalse}
 use Rattle.clause_core.specs.Resolvent.{Keeps}
-use Rattle.clause_core.proofs.Members.{there, nowhere, cons_cases, end_same}
+use Rattle.list_base.proofs.Members.{there, nowhere, cons_cases, end_same}
 use Rattle.sat_trail.specs.Entry.{values_of}
 use Rattle.sat_trail.specs.State.{State}
 use Rattle.sat_trail.specs.Trail.{IsTrail}

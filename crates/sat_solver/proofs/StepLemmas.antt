@@ -7,7 +7,7 @@ use Rattle.clause_core.specs.Literal.{negated}
 use Rattle.clause_core.specs.Clause.{IsAscending, HasExactly}
 use Rattle.clause_core.specs.Propagation.{MakesFalse, Falsifies}
 use Rattle.clause_core.specs.Resolvent.{CanResolve, IsResolvent}
-use Rattle.clause_core.proofs.Members.{nowhere}
+use Rattle.list_base.proofs.Members.{nowhere}
 use Rattle.refutation_log.specs.declared.refutation.Link.{Link}
 use Rattle.refutation_log.specs.declared.refutation.Chain.{Chain}
 use Rattle.refutation_log.specs.Resolution.{Names, Folds}

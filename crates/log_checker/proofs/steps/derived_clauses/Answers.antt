@@ -2,7 +2,7 @@
 use Rattle.log_checker.proofs.FailingSteps.{derives_next}
 use Rattle.log_checker.proofs.steps.derived_clauses.Goals as goal
 
-pub loop-place-preserved : goal.loop-place-preserved
-loop-place-preserved c =
+pub loop-index-preserved : goal.loop-index-preserved
+loop-index-preserved c =
     let next = rw c.as_slice.ensures at c.in-Ok.ensures.ok in
-    derives_next _ _ _ _ _ _ _ c.loop-place-test.true c.index-steps-place.is c.in_ok-push-in-Ok.ensures.ok c.loop-place.invariant next
+    derives_next c.step_appends.ensures _ _ _ _ _ _ _ c.loop-index-test.true c.index-steps-index.is c.in_ok-push-in-Ok.ensures.ok c.loop-index.invariant next

@@ -4,5 +4,5 @@ use Rattle.refutation_log.specs.Resolution.{DerivesAll}
 use Rattle.log_checker.proofs.steps.derived_clauses.Given as goal
 
 -- the steps that were passed derive the clauses so far
-abbrev pub invariant-loop-place : goal.invariant-loop-place
-invariant-loop-place l = DerivesAll l.formula (take l.place l.steps) l.derived
+abbrev pub invariant-loop-index : goal.invariant-loop-index
+invariant-loop-index l = DerivesAll l.formula (take l.index l.steps) l.derived

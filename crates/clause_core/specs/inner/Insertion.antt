@@ -1,4 +1,4 @@
--- One literal is added to an ascending list.
+-- One literal is inserted to an ascending list.
 use Rattle.std.specs.Prelude.{◌≡◌, ◌↔◌, ◌⊎◌, List, Contains}
 use Rattle.clause_core.specs.declared.literal.Lit.{Lit}
 use Rattle.clause_core.specs.Clause.{IsAscending}

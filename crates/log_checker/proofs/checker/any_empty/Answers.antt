@@ -2,7 +2,7 @@
 use Rattle.std.proofs.Common.{inl, inr}
 use Rattle.std.proofs.lemmas.Bool.{iff_false}
 use Rattle.std.proofs.lemmas.List.Elements.{Contains-append_right, Contains-append_cases}
-use Rattle.log_checker.proofs.checking.any_empty.Goals as goal
+use Rattle.log_checker.proofs.checker.any_empty.Goals as goal
 
 pub returns-else-has_empty : goal.returns-else-has_empty
 returns-else-has_empty c =

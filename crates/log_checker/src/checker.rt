@@ -2,16 +2,16 @@ ghost use Rattle.std.specs.Prelude.{◌≡◌, ◌≢◌, ◌+◌, ◌^◌, ◌<
 ghost use Rattle.clause_core.specs.Clause.{IsUnsatisfiable};
 ghost use Rattle.refutation_log.specs.Resolution.{Accepts};
 ghost use Rattle.log_checker.specs.FirstFailure.{FailsFirst};
-ghost use Rattle.log_checker.specs.Stops.{LogStops};
+ghost use Rattle.log_checker.specs.inner.Stops.{LogStops};
 
 use super::refusal::Reject;
 use super::steps::derived_clauses;
-use clause_core::{Clause, Formula};
+use clause_core::{Clause, Formula, resolvents_agree, resolvents_follow};
 use refutation_log::Log;
 use std::alloc::Global;
 
 /// Checks a log that anybody may have made: each step in order, in it each link in order, and of a
-/// link its clause before its pivot. The first failure is answered.
+/// link its clause before its pivot. The first failure is reported.
 pub fn check_log(alloc: Global, f: &Formula, log: &Log) -> Result<(), Reject>
     requires { length f.now.clauses + length log.now.steps < 2 ^ 32 }
     ensures sound { OnOk result (IsUnsatisfiable f.now.clauses) }
@@ -22,6 +22,9 @@ pub fn check_log(alloc: Global, f: &Formula, log: &Log) -> Result<(), Reject>
     ensures rejects { result ≢ Err Reject.NoMemory →
         (e : Reject) → ((result ≡ Err e) ↔ FailsFirst f.now log.now e) }
 {
+    // laws: clauses have one resolvent on a pivot at most, and it holds wherever both do
+    resolvents_agree();
+    resolvents_follow();
     checked(alloc, f, log)
 }
 
@@ -40,12 +43,14 @@ fn checked(alloc: Global, f: &Formula, log: &Log) -> Result<(), Reject>
     }
 }
 
+/// Whether a clause of the formula or a derived one is empty.
 fn any_empty(formula: &[Clause], derived: &[Clause]) -> bool
     ensures { IsTrue result ↔ Contains (formula.now ++ derived.now) [] }
 {
     has_empty(formula) || has_empty(derived)
 }
 
+/// Whether one of the clauses is empty.
 fn has_empty(clauses: &[Clause]) -> bool
     ensures { IsTrue result ↔ Contains clauses.now [] }
 {

@@ -1,7 +1,7 @@
 -- The merge keeps the union, and what is left shrinks.
 use Rattle.std.proofs.Common.{◌+◌, length}
 use Rattle.clause_core.proofs.MergeLemmas.{IsMerging}
-use Rattle.clause_core.proofs.merging.merged.Given as goal
+use Rattle.clause_core.proofs.merge.merged.Given as goal
 
 -- what was kept and what is left make up the union
 abbrev pub invariant-merge : goal.invariant-merge

@@ -2,34 +2,36 @@
 use Rattle.std.specs.Prelude.{◌≡◌, ℕ, List}
 use Rattle.clause_core.specs.declared.literal.Lit.{Lit}
 use Rattle.clause_core.specs.declared.formula.Formula.{Formula}
+use Rattle.clause_core.specs.Numbering.{Numbering}
 use Rattle.refutation_log.specs.declared.refutation.Log.{Log}
 use Rattle.refutation_log.specs.declared.refutation.Link.{Link}
 use Rattle.refutation_log.specs.declared.refutation.Chain.{Chain}
 use Rattle.refutation_log.specs.Resolution.{Resolved}
-use Rattle.log_checker.specs.declared.refusal.Fault.{Fault}
-use Rattle.log_checker.specs.declared.refusal.Fault.TheVariants.{NoClause, NoPivot, NoMemory}
+use Rattle.log_checker.specs.declared.refusal.ChainError.{ChainError}
+use Rattle.log_checker.specs.declared.refusal.ChainError.TheVariants.{NoClause, NoPivot, NoMemory}
 use Rattle.log_checker.specs.declared.refusal.Reject.{Reject}
 use Rattle.log_checker.specs.declared.refusal.Reject.TheVariants as rejects
-use Rattle.log_checker.specs.FirstFailure.{NamesNone, CannotResolve, LacksClause, LacksPivot, FailsAt, LacksEmpty}
+use Rattle.log_checker.specs.FirstFailure.{HasNoClause, CannotResolve, LacksClause, LacksPivot, FailsAt, LacksEmpty}
 
 -- the clause and that of the link have this resolvent
-abbrev pub ResolvesTo : List (List Lit) → List Lit → Link → List Lit → Type 0
-ResolvesTo clauses clause link resolvent = Resolved clauses clause link (λ r. r ≡ resolvent)
+abbrev pub ResolvesTo : Numbering → List Lit → Link → List Lit → Type 0
+ResolvesTo numbering clause link resolvent = Resolved numbering clause link (λ r. r ≡ resolvent)
 
 -- why the clause has no resolvent with that of the link of this number
-abbrev pub LinkStops : List (List Lit) → List Lit → Link → ℕ → Fault → Type 0
-LinkStops clauses clause link number NoClause = NamesNone clauses link.clause
-LinkStops clauses clause link number (NoPivot named) = (named ≡ number) × CannotResolve clauses clause link
-LinkStops clauses clause link number NoMemory = Unit {0}
+abbrev pub LinkStops : Numbering → List Lit → Link → ℕ → ChainError → Type 0
+LinkStops numbering clause link number NoClause = HasNoClause numbering link.clause
+LinkStops numbering clause link number (NoPivot named) =
+    (named ≡ number) × CannotResolve numbering clause link
+LinkStops numbering clause link number NoMemory = Unit {0}
 
 -- why the chain has no clause
-abbrev pub ChainStops : List (List Lit) → Chain → Fault → Type 0
-ChainStops clauses chain NoClause = LacksClause clauses chain
-ChainStops clauses chain (NoPivot link) = LacksPivot link clauses chain
-ChainStops clauses chain NoMemory = Unit {0}
+abbrev pub ChainStops : Numbering → Chain → ChainError → Type 0
+ChainStops numbering chain NoClause = LacksClause numbering chain
+ChainStops numbering chain (NoPivot link) = LacksPivot link numbering chain
+ChainStops numbering chain NoMemory = Unit {0}
 
--- the answer for a fault of the step of this number
-abbrev pub rejection : ℕ → Fault → Reject
+-- the answer if the step of this number has no clause
+abbrev pub rejection : ℕ → ChainError → Reject
 rejection step NoClause = rejects.NoClause step
 rejection step (NoPivot link) = rejects.NoPivot step link
 rejection step NoMemory = rejects.NoMemory
@@ -45,5 +47,6 @@ StepsStop formula steps rejects.NoMemory = Unit {0}
 abbrev pub LogStops : Formula → Log → Reject → Type 0
 LogStops f log rejects.NotEmpty = LacksEmpty f.clauses log.steps
 LogStops f log (rejects.NoClause step) = StepsStop f.clauses log.steps (rejects.NoClause step)
-LogStops f log (rejects.NoPivot step link) = StepsStop f.clauses log.steps (rejects.NoPivot step link)
+LogStops f log (rejects.NoPivot step link) =
+    StepsStop f.clauses log.steps (rejects.NoPivot step link)
 LogStops f log rejects.NoMemory = Unit {0}

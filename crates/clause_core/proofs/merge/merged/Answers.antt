@@ -2,7 +2,7 @@
 use Rattle.std.proofs.Common.{false, arith}
 use Rattle.clause_core.specs.declared.literal.Lit.{Lit}
 use Rattle.clause_core.proofs.MergeLemmas.{merging_ends, keeps_first, keeps_second, keeps_both, head_least}
-use Rattle.clause_core.proofs.merging.merged.Goals as goal
+use Rattle.clause_core.proofs.merge.merged.Goals as goal
 
 -- the literal that a read past the end would give
 abbrev no_literal : Lit

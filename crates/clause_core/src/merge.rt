@@ -53,7 +53,7 @@ pub fn merged(
     }
 }
 
-/// Puts the literal at the end, unless it is the one to leave out.
+/// Appends the literal, unless it is the one to leave out.
 fn keep(kept: &mut Seq<Lit>, lit: Lit, out: Lit) -> Result<(), NoMemory>
     ensures left { OnOk result (lit ≡ out → kept.new ≡ kept.old) }
     ensures kept { OnOk result (lit ≢ out → kept.new ≡ kept.old ++ lit ∷ []) }
