@@ -22,13 +22,13 @@ set-more f place set next v from_one within = elim (cases_eq v (place + 1)) [
 ]
 
 -- the values of the first variables, with false for what is missing
-pub record IsModel (f : ℕ → Option Bool) (values : List Bool) (place : ℕ) : Type 0 where
+pub record HasValues (f : ℕ → Option Bool) (values : List Bool) (place : ℕ) : Type 0 where
   pub many : length values ≡ place
   pub each : (k : ℕ) → k < place → get_or values k false ≡ unwrap_or (f (k + 1)) false
 
 -- one more value
-pub IsModel-push : (f : ℕ → Option Bool) (values new : List Bool) (place : ℕ) (b : Bool) → IsModel f values place → b ≡ unwrap_or (f (place + 1)) false → new ≡ values ++ b ∷ [] → IsModel f new (place + 1)
-IsModel-push f values new place b model is grows = rw grows (record {
+pub HasValues-push : (f : ℕ → Option Bool) (values new : List Bool) (place : ℕ) (b : Bool) → HasValues f values place → b ≡ unwrap_or (f (place + 1)) false → new ≡ values ++ b ∷ [] → HasValues f new (place + 1)
+HasValues-push f values new place b model is grows = rw grows (record {
   many = omega (arith, model.many, length-append values (b ∷ []));
   each = λ k within. elim (cases_lt k place) [
     | inl before ↦ get_or_append_left values (b ∷ []) false k (omega (arith, before, model.many)) ∙ model.each k before
@@ -39,7 +39,7 @@ IsModel-push f values new place b model is grows = rw grows (record {
 })
 
 -- a literal whose variable has a value is true under the assignment, or false
-literal-decided : (f : ℕ → Option Bool) (values : List Bool) (vars : ℕ) (l : Lit) (o : Option Bool) → IsModel f values vars → 0 < l.var → l.var ≤ vars → f l.var ≡ o → IsSome o → MakesTrue (valuation values) l ⊎ MakesFalse f l
+literal-decided : (f : ℕ → Option Bool) (values : List Bool) (vars : ℕ) (l : Lit) (o : Option Bool) → HasValues f values vars → 0 < l.var → l.var ≤ vars → f l.var ≡ o → IsSome o → MakesTrue (valuation values) l ⊎ MakesFalse f l
 literal-decided f values vars l None model from_one exists is some = cc
 literal-decided f values vars l (Some b) model from_one exists is some = elim (cases_bool b l.positive) [
   | inr opposite ↦ inr (is ∙ ap Some opposite)
@@ -47,7 +47,7 @@ literal-decided f values vars l (Some b) model from_one exists is some = elim (c
 ]
 
 -- a clause has a true literal, or is false
-clause-decided : (f : ℕ → Option Bool) (values : List Bool) (vars : ℕ) (clause : List Lit) → IsModel f values vars → ((v : ℕ) → 0 < v → v ≤ vars → IsSome (f v)) → VariablesExist vars clause → Satisfies (valuation values) clause ⊎ Falsifies f clause
+clause-decided : (f : ℕ → Option Bool) (values : List Bool) (vars : ℕ) (clause : List Lit) → HasValues f values vars → ((v : ℕ) → 0 < v → v ≤ vars → IsSome (f v)) → VariablesExist vars clause → Satisfies (valuation values) clause ⊎ Falsifies f clause
 clause-decided f values vars [] model set exist = inr (λ k d within. absurd (omega arith))
 clause-decided f values vars (l ∷ rest) model set exist =
     elim (literal-decided f values vars l (f l.var) model (All-head (λ m. (0 < m.var) × (m.var ≤ vars)) l rest exist).0 (All-head (λ m. (0 < m.var) × (m.var ≤ vars)) l rest exist).1 refl
@@ -60,7 +60,7 @@ clause-decided f values vars (l ∷ rest) model set exist =
     ]
 
 -- where no clause is false and all variables have values, the values satisfy
-pub SatisfiesAll-model : (t : State) (values : List Bool) → IsTrail t → IsModel (values_of t.entries) values t.vars → AllSet t → IsPropagated (values_of t.entries) t.clauses → SatisfiesAll (valuation values) t.clauses
+pub SatisfiesAll-model : (t : State) (values : List Bool) → IsTrail t → HasValues (values_of t.entries) values t.vars → AllSet t → IsPropagated (values_of t.entries) t.clauses → SatisfiesAll (valuation values) t.clauses
 SatisfiesAll-model t values trail model set quiet k d within =
     elim (clause-decided (values_of t.entries) values t.vars (get_or t.clauses k d) model set (trail.clauses_exist k d within)) [
       | inl holds ↦ holds

@@ -1,5 +1,5 @@
 -- What each outcome of the solver says of the formula.
-use Rattle.std.specs.Prelude.{◌≡◌, ℕ, ◌≤◌, List, [], length, Contains}
+use Rattle.std.specs.Prelude.{◌≡◌, ℕ, ◌≤◌, Bool, List, [], length, Contains}
 use Rattle.clause_core.specs.declared.literal.Lit.{Lit}
 use Rattle.clause_core.specs.declared.formula.Formula.{Formula}
 use Rattle.clause_core.specs.Assignment.{valuation}
@@ -8,6 +8,11 @@ use Rattle.refutation_log.specs.declared.refutation.Log.{Log}
 use Rattle.refutation_log.specs.Resolution.{Accepts, IsNew, DerivesAll}
 use Rattle.sat_solver.specs.declared.outcome.Outcome.{Outcome}
 use Rattle.sat_solver.specs.declared.outcome.Outcome.TheVariants.{Sat, Unsat, Budget}
+
+-- the assignment has exactly the formula's variables, and satisfies its clauses
+pub record IsModel (f : Formula) (assignment : List Bool) : Type 0 where
+  pub whole : length assignment ≡ f.vars
+  pub satisfies : SatisfiesAll (valuation assignment) f.clauses
 
 -- the log is accepted, new and within the budget; it has no step where the formula has an empty clause
 pub record Refutes (f : Formula) (budget : ℕ) (log : Log) : Type 0 where
@@ -26,6 +31,6 @@ pub record Spends (f : Formula) (budget : ℕ) (log : Log) : Type 0 where
 
 -- the outcome is right
 abbrev pub IsOutcome : Formula → ℕ → Outcome → Type 0
-IsOutcome f budget (Sat assignment) = SatisfiesAll (valuation assignment) f.clauses
+IsOutcome f budget (Sat assignment) = IsModel f assignment
 IsOutcome f budget (Unsat log) = Refutes f budget log
 IsOutcome f budget (Budget log) = Spends f budget log

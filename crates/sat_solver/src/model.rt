@@ -17,7 +17,8 @@ pub fn model(alloc: Global, trail: &Trail, vars: u32) -> Result<Assignment, NoMe
     requires sound { IsTrail trail.now }
     requires quiet { IsPropagated (values_of trail.now.entries) trail.now.clauses }
     requires all_set { AllSet trail.now }
-    ensures { IfOk result (λ assignment. SatisfiesAll (valuation assignment) trail.now.clauses) }
+    ensures whole { IfOk result (λ assignment. length assignment ≡ vars) }
+    ensures satisfies { IfOk result (λ assignment. SatisfiesAll (valuation assignment) trail.now.clauses) }
 {
     let mut values: Seq<bool> = Seq::new(alloc);
     for place in 0..vars {

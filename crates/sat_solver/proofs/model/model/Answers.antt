@@ -1,12 +1,17 @@
--- The values satisfy, since no clause is false.
-use Rattle.std.proofs.Common.{◌≡◌, subst, arith}
+-- There is a value for each variable, and the values satisfy, since no clause is false.
+use Rattle.std.proofs.Common.{◌≡◌, length, sym, ap, ◌∙◌, subst, arith}
 use Rattle.sat_trail.specs.Entry.{values_of}
-use Rattle.sat_solver.proofs.ModelLemmas.{IsModel, SatisfiesAll-model}
+use Rattle.sat_solver.proofs.ModelLemmas.{HasValues, SatisfiesAll-model}
 use Rattle.sat_solver.proofs.model.model.Goals as goal
 
-pub returns : goal.returns
-returns c =
+pub returns-clause-whole : goal.returns-clause-whole
+returns-clause-whole c =
+    let many : length c.in_ok-assignment.assignment ≡ c.loop-place.place = rw (c.in_ok-assignment.ensures, c.as_slice.ensures) c.loop-place.invariant.many in
+    omega (arith, many, c.requires.vars)
+
+pub returns-clause-satisfies : goal.returns-clause-satisfies
+returns-clause-satisfies c =
     SatisfiesAll-model c.args.trail.now c.in_ok-assignment.assignment c.requires.sound
     (rw (c.in_ok-assignment.ensures, c.as_slice.ensures)
-    (subst (IsModel (values_of c.args.trail.now.entries) c.loop-place.values) (let at_end : c.loop-place.place ≡ c.args.trail.now.vars = omega arith in at_end) c.loop-place.invariant))
+    (subst (HasValues (values_of c.args.trail.now.entries) c.loop-place.values) (let at_end : c.loop-place.place ≡ c.args.trail.now.vars = omega arith in at_end) c.loop-place.invariant))
     c.requires.all_set c.requires.quiet

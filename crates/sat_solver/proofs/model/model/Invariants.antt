@@ -1,7 +1,7 @@
 -- The values of the variables that were passed.
 use Rattle.sat_trail.specs.Entry.{values_of}
-use Rattle.sat_solver.proofs.ModelLemmas.{IsModel}
+use Rattle.sat_solver.proofs.ModelLemmas.{HasValues}
 use Rattle.sat_solver.proofs.model.model.Given as goal
 
 abbrev pub invariant-loop-place : goal.invariant-loop-place
-invariant-loop-place l = IsModel (values_of l.trail.entries) l.values l.place
+invariant-loop-place l = HasValues (values_of l.trail.entries) l.values l.place

@@ -17,7 +17,10 @@ loop-init c =
 
 pub returns-in_default : goal.returns-in_default
 returns-in_default c =
-    SatisfiesAll-formula c.args.f.now c.search.new.trail c.loop.steps _ (HasLearned-search _ _ _ _ c.loop.invariant.0 c.search.ensures.goes_on) c.in_ok-model.ensures
+    record {
+      whole = c.in_ok-model.ensures.whole;
+      satisfies = SatisfiesAll-formula c.args.f.now c.search.new.trail c.loop.steps _ (HasLearned-search _ _ _ _ c.loop.invariant.0 c.search.ensures.goes_on) c.in_ok-model.ensures.satisfies;
+    }
 
 pub returns-then-level-eq0 : goal.returns-then-level-eq0
 returns-then-level-eq0 c = rw c.in_ok-push.ensures.ok
