@@ -4,14 +4,15 @@
 ghost use Rattle.std.specs.Prelude.{◌≡◌, map, string_bytes, IfOk, IfErr};
 ghost use Rattle.bspl.specs.Answer.{Suits};
 
-use bspl_io::{StdSink, StdSource, words_given};
+use bspl_io::{StdSink, StdSource};
 use bspl_tool::{Status, bspl};
+use program_args::args_given;
 use std::alloc::Global;
 use std::io::{self, Read, Write};
 use std::process::ExitCode;
 
 fn main(rt: HostRuntime) -> ExitCode {
-    let words = words_given(&rt);
+    let words = args_given(&rt);
     let status = answer(rt.alloc(), words, rt.reader(), io::writer(&rt));
     ExitCode::from(status.number())
 }

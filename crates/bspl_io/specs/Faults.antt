@@ -5,10 +5,10 @@ use Rattle.std.specs.Prelude.{◌≡◌, ℕ, ◌+◌, ◌<◌, ◌⊎◌, min}
 abbrev pub last_count : ℕ
 last_count = 18446744073709551615
 
--- the count after one more, which stands still at its last value
+-- the count after one more, which stays at its last value
 abbrev pub count_after : ℕ → ℕ
 count_after n = min (n + 1) last_count
 
--- the count rose, or stands at its last value
+-- the count rose, or it was and is at its last value
 abbrev pub HasCounted : ℕ → ℕ → Type 0
-HasCounted old new = (old < new) ⊎ (new ≡ last_count)
+HasCounted old new = (old < new) ⊎ ((old ≡ last_count) × (new ≡ last_count))

@@ -1,6 +1,7 @@
 -- What the contracts of this crate cite.
-pub mod Faults
 pub mod Source
 pub mod Sink
-pub mod Schedule
+pub mod Faults
+pub mod Refusal
 pub mod Memory
+pub mod Schedule

@@ -1,4 +1,4 @@
-//! Where bytes come from and go to, how a whole text is read and written, and the words of a program.
+//! Where bytes come from and go to, and how a whole text is read and written.
 #![tactic(auto)]
 
 mod memory;
@@ -7,13 +7,9 @@ mod schedule;
 mod sink;
 mod source;
 mod standard;
-#[cfg(test)]
-mod tests;
-mod words;
 
 pub use memory::{MemSink, MemSource};
 pub use plain::{PlainSink, PlainSource};
 pub use sink::{Sink, Trouble, WriteRefusal, write_all};
 pub use source::{Failed, ReadRefusal, Source, read_all};
 pub use standard::{StdSink, StdSource};
-pub use words::words_given;

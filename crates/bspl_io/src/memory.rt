@@ -1,9 +1,9 @@
-ghost use Rattle.std.specs.Prelude.{◌≡◌, ◌<◌, ◌≤◌, [], ◌++◌, min, length, Some, Ok, IfOk, OnErr};
+ghost use Rattle.std.specs.Prelude.{◌≡◌, ◌<◌, ◌≤◌, [], ◌++◌, min, length, Some, IfOk, OnOk, OnErr};
 ghost use Rattle.std.specs.Io.KnownBytes.{ReadConsumes, WriteAppends};
 ghost use Rattle.bspl_io.specs.Faults.{HasCounted};
 ghost use Rattle.bspl_io.specs.Schedule.{unstarted};
 ghost use Rattle.bspl_io.specs.Memory.{GivesPiece, TakesPiece};
-ghost use Rattle.bspl_io.specs.Sink.{Stalls};
+ghost use Rattle.bspl_io.specs.Sink.{IsFault};
 
 use super::plain::{PlainSink, PlainSource};
 use super::schedule::Schedule;
@@ -54,8 +54,9 @@ impl Source for MemSource {
     fn read(&mut self, into: &mut [u8]) -> Result<usize, Failed>
         ensures bound { IfOk result (λ n. n ≤ length into.new) }
         ensures bytes { ReadConsumes (Some self.old.remaining) (Some self.new.remaining) result into.new }
-        ensures fault { OnErr result (HasCounted self.old.schedule.faults self.new.schedule.faults) }
-        ensures count { self.old.schedule.faults ≤ self.new.schedule.faults }
+        ensures counted { OnErr result
+            (HasCounted self.old.schedule.faults self.new.schedule.faults) }
+        ensures still { OnOk result (self.new.schedule.faults ≡ self.old.schedule.faults) }
         ensures piece { GivesPiece self.old self.new (length into.old) result }
     {
         self.schedule.call()?;
@@ -111,9 +112,10 @@ impl Sink for MemSink {
         ensures bound { IfOk result (λ n. n ≤ length piece.now) }
         ensures bytes { WriteAppends (Some self.old.contents) (Some self.new.contents)
             result piece.now }
-        ensures fault { Stalls result piece.now →
+        ensures counted { IsFault result piece.now →
             HasCounted self.old.schedule.faults self.new.schedule.faults }
-        ensures count { self.old.schedule.faults ≤ self.new.schedule.faults }
+        ensures still { ¬ IsFault result piece.now →
+            self.new.schedule.faults ≡ self.old.schedule.faults }
         ensures piece { TakesPiece self.old self.new (length piece.now) result }
     {
         self.schedule.call()?;

@@ -1,7 +1,5 @@
-ghost use Rattle.std.specs.Prelude.{◌≡◌, ◌≤◌, [], ◌++◌, min, length, take, drop, Ok, IfOk, OnErr, IsOkUnless};
+ghost use Rattle.std.specs.Prelude.{◌≡◌, ◌≤◌, [], ◌++◌, min, length, take, drop, Some, Ok, IfOk, OnErr, IsOkUnless};
 ghost use Rattle.std.specs.Io.KnownBytes.{ReadConsumes, WriteAppends};
-ghost use Rattle.bspl_io.specs.Faults.{HasCounted};
-ghost use Rattle.bspl_io.specs.Sink.{Stalls};
 
 use super::sink::{Sink, Trouble};
 use super::source::{Failed, Source};

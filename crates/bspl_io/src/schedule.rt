@@ -1,6 +1,7 @@
-ghost use Rattle.std.specs.Prelude.{◌≡◌, ◌≤◌, ◌==◌, ◌↔◌, IsErr, IsTrue};
+ghost use Rattle.std.specs.Prelude.{◌≡◌, ◌==◌, ◌↔◌, OnOk, OnErr, IsErr, IsTrue};
 ghost use Rattle.std.specs.List.{list_any};
 ghost use Rattle.bspl_io.specs.Schedule.{unstarted, is_due, after_call};
+ghost use Rattle.bspl_io.specs.Faults.{HasCounted};
 
 use super::source::Failed;
 use list_base::NumberList;
@@ -29,8 +30,9 @@ impl Schedule {
     /// Counts a call, and says whether it fails.
     pub fn call(&mut self) -> Result<(), Failed>
         ensures listed { IsErr result ↔ IsTrue (is_due self.old) }
-        ensures counted { self.new ≡ after_call self.old }
-        ensures count { self.old.faults ≤ self.new.faults }
+        ensures after { self.new ≡ after_call self.old }
+        ensures counted { OnErr result (HasCounted self.old.faults self.new.faults) }
+        ensures still { OnOk result (self.new.faults ≡ self.old.faults) }
     {
         self.calls = self.calls.saturating_add(1);
         if is_listed(self.fails.as_slice(), self.calls) {

@@ -1,7 +1,7 @@
-ghost use Rattle.std.specs.Prelude.{◌≡◌, ◌<◌, ◌≤◌, ◌↔◌, length, IfOk, OnErr, IsErrOf};
+ghost use Rattle.std.specs.Prelude.{◌≡◌, ◌<◌, ◌≤◌, ◌↔◌, length, IfOk, OnOk, OnErr, IsErrOf};
 ghost use Rattle.std.specs.Io.KnownBytes.{ReadConsumes};
 ghost use Rattle.bspl_io.specs.Faults.{HasCounted};
-ghost use Rattle.bspl_io.specs.Source.{ReadsAll, IsLonger, Takes};
+ghost use Rattle.bspl_io.specs.Source.{ReadsAll, Takes};
 
 use list_base::{Bytes, NoMemory};
 use std::alloc::Global;
@@ -44,18 +44,18 @@ impl From<NoMemory> for ReadRefusal {
 pub trait Source {
     ghost use Rattle.std.specs.Prelude.{Option, List, ℕ};
 
-    // The bytes that are remaining, where the source tells them.
+    // The bytes that are still to be read, if they are known.
     ghost remaining: { Self → Option (List ℕ) };
 
-    // How often reading failed. The counter of an adapter stands still at its last value.
+    // How often reading failed. A counter may stay at its last value.
     ghost faults: { Self → ℕ };
 
     /// Hands out the next bytes. `Ok(0)` into a slice with room is the end of the input.
     fn read(&mut self, into: &mut [u8]) -> Result<usize, Failed>
         ensures bound { IfOk result (λ n. n ≤ length into.new) }
         ensures bytes { ReadConsumes (remaining self.old) (remaining self.new) result into.new }
-        ensures fault { OnErr result (HasCounted (faults self.old) (faults self.new)) }
-        ensures count { faults self.old ≤ faults self.new };
+        ensures counted { OnErr result (HasCounted (faults self.old) (faults self.new)) }
+        ensures still { OnOk result (faults self.new ≡ faults self.old) };
 }
 
 /// The most bytes that one turn of `read_all` asks for.
@@ -64,12 +64,12 @@ const PIECE: usize = 4096;
 /// Reads to the end of the input, unless more than `limit` bytes come.
 pub fn read_all<R: Source>(alloc: Global, source: &mut R, limit: u64) -> Result<Bytes, ReadRefusal>
     ensures all { IfOk result (ReadsAll (R.remaining source.old) (R.remaining source.new) limit) }
-    ensures too_long { IsErrOf result ReadRefusal.TooLong → IsLonger (R.remaining source.old) limit }
     ensures taken { Takes (R.remaining source.old) (R.remaining source.new)
         (λ bytes. IsErrOf result ReadRefusal.TooLong ↔ (limit < length bytes)) }
-    ensures fault { IsErrOf result ReadRefusal.ReadFault →
+    ensures counted { IsErrOf result ReadRefusal.ReadFault →
         HasCounted (R.faults source.old) (R.faults source.new) }
-    ensures count { R.faults source.old ≤ R.faults source.new }
+    ensures still { ¬ IsErrOf result ReadRefusal.ReadFault →
+        R.faults source.new ≡ R.faults source.old }
 {
     let mut text = Bytes::new(alloc);
     let mut piece = [0u8; PIECE];

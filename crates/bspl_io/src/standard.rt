@@ -1,11 +1,14 @@
-ghost use Rattle.std.specs.Prelude.{◌≡◌};
+ghost use Rattle.std.specs.Prelude.{◌≡◌, ◌≤◌, length, IfOk, IsErrOf};
+ghost use Rattle.std.specs.Io.KnownBytes.{WriteAppends};
+ghost use Rattle.bspl_io.specs.Faults.{HasCounted};
+ghost use Rattle.bspl_io.specs.Sink.{IsFault};
 
 use super::sink::{Sink, Trouble};
 use super::source::{Failed, Source};
 use std::io::{Read, Write};
 
-/// A reader as a source, such as standard input. It tells the bytes that its reader tells:
-/// standard input tells none. Each error of the reader counts as a fault.
+/// A reader as a source, such as standard input. Its remaining bytes are those of the reader:
+/// of standard input none are known. Each error of the reader counts as a fault.
 #[derive(Drop)]
 pub struct StdSource<R> {
     reader: R,
@@ -37,8 +40,8 @@ impl<R: Read> Source for StdSource<R> {
     }
 }
 
-/// A writer that keeps nothing back as a sink, such as standard output. It tells the bytes that
-/// its writer tells: standard output tells none. Each error of the writer counts as a fault, and
+/// A writer that keeps nothing back as a sink, such as standard output. Its contents are those of
+/// the writer: of standard output none are known. Each error of the writer counts as a fault, and
 /// so does the answer that nothing was taken.
 #[derive(Drop)]
 pub struct StdSink<W> {
@@ -48,7 +51,7 @@ pub struct StdSink<W> {
 
 impl<W: Write> StdSink<W> {
     pub fn new(writer: W) -> StdSink<W>
-        ensures written { ⟦<StdSink<W> as Sink>⟧.contents result ≡ W.contents writer }
+        ensures contents { ⟦<StdSink<W> as Sink>⟧.contents result ≡ W.contents writer }
         ensures faults { ⟦<StdSink<W> as Sink>⟧.faults result ≡ 0 }
     {
         StdSink { writer, faults: 0 }
@@ -60,7 +63,14 @@ impl<W: Write> Sink for StdSink<W> {
 
     ghost faults = { λ s. s.faults };
 
-    fn write(&mut self, piece: &[u8]) -> Result<usize, Trouble> {
+    fn write(&mut self, piece: &[u8]) -> Result<usize, Trouble>
+        ensures bound { IfOk result (λ n. n ≤ length piece.now) }
+        ensures bytes { WriteAppends (W.contents self.old.writer) (W.contents self.new.writer)
+            result piece.now }
+        ensures counted { IsFault result piece.now → HasCounted self.old.faults self.new.faults }
+        ensures still { ¬ IsFault result piece.now → self.new.faults ≡ self.old.faults }
+        ensures memory { ¬ IsErrOf result Trouble.NoMemory }
+    {
         if piece.is_empty() {
             return Ok(0);
         }

@@ -5,14 +5,15 @@ ghost use Rattle.std.specs.Prelude.{◌≡◌, IfErr, IsTrue};
 ghost use Rattle.dimacs.specs.Call.{is_verdict};
 ghost use Rattle.dimacs_sat.specs.Answer.{IsRightFor};
 
-use bspl_io::{StdSink, StdSource, words_given};
+use bspl_io::{StdSink, StdSource};
 use dimacs::{Status, run};
+use program_args::args_given;
 use std::alloc::Global;
 use std::io::{self, Read, Write};
 use std::process::ExitCode;
 
 fn main(rt: HostRuntime) -> ExitCode {
-    let words = words_given(&rt);
+    let words = args_given(&rt);
     let status = answer(rt.alloc(), words, rt.reader(), io::writer(&rt));
     ExitCode::from(status.number())
 }

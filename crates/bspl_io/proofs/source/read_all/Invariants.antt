@@ -9,7 +9,7 @@ invariant-loop-text g l = record {
   within : length l.text ≤ l.limit;
   room : length l.piece ≡ 4096;
   consumed : Consumes (g.R.Source.remaining l.fn.source) (g.R.Source.remaining l.source) l.text;
-  count : g.R.Source.faults l.fn.source ≤ g.R.Source.faults l.source;
+  still : g.R.Source.faults l.source ≡ g.R.Source.faults l.fn.source;
 }
 
 -- what the limit still allows

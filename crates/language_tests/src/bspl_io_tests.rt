@@ -1,4 +1,7 @@
-use super::*;
+use bspl_io::{
+    MemSink, MemSource, PlainSink, PlainSource, ReadRefusal, StdSink, StdSource, WriteRefusal,
+    read_all, write_all,
+};
 use list_base::{Bytes, NumberList};
 use std::test::Fail;
 

@@ -1,0 +1,5 @@
+//! Tests of the crates that read and write texts and protocols.
+#![tactic(auto)]
+
+#[cfg(test)]
+mod bspl_io_tests;
