@@ -1,1 +1,4 @@
 pub mod Members
+pub mod Membership
+pub mod Settled
+pub mod Tables

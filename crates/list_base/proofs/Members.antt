@@ -19,7 +19,7 @@ pub nowhere : {X : Type 0} (x : X) → Contains [] x → ⊥
 nowhere x among = absurd (omega (arith, among.1))
 
 -- a list of one item has it alone
-only : {X : Type 0} (x y : X) → Contains (x ∷ []) y → x ≡ y
+pub only : {X : Type 0} (x y : X) → Contains (x ∷ []) y → x ≡ y
 only x y (zero, within, is) = is
 only x y (suc k, within, is) = absurd (omega (arith, within))
 
