@@ -22,15 +22,6 @@ one_carried params f c d is_c is_d =
     let same_adornment : c.adornment ≡ d.adornment = cc (is_c.adorned, is_d.adorned) in
     λ i. record { param = same_place i; adornment = same_adornment i }
 
--- where each has one partner at most, so does a list
-pub one_list : {A B : Type 0} (R : A → B → Type 0) → ((a : A) (b c : B) → R a b → R a c → b ≡ c) → (xs : List A) (ys zs : List B) → AllZip R xs ys → AllZip R xs zs → ys ≡ zs
-one_list R one [] [] [] all other = refl
-one_list R one [] [] (z ∷ zs) all other = absurd other
-one_list R one [] (y ∷ ys) zs all other = absurd all
-one_list R one (x ∷ xs) [] zs all other = absurd all
-one_list R one (x ∷ xs) (y ∷ ys) [] all other = absurd other
-one_list R one (x ∷ xs) (y ∷ ys) (z ∷ zs) all other = λ i. one x y z all.0 other.0 i ∷ one_list R one xs ys zs all.1 other.1 i
-
 -- an item has one image at most
 one_image : (roles : List (List ℕ)) (params : List ParamInfo) (i : Item) (m n : Message) → IsMessageOfItem roles params i m → IsMessageOfItem roles params i n → m ≡ n
 one_image roles params (item.Reference r) m n is_m is_n = absurd is_m

@@ -21,8 +21,8 @@ use Rattle.bspl_parser.specs.Alike.{word_without_offset, formal_without_offsets,
 use Rattle.bspl_parser.specs.Spelling.{IsDeclaration, IsFormal, IsItem}
 use Rattle.flat_expansion.specs.Expansion.{adornment_of, public_param, private_param, IsCarried, IsExpansionOf, IsMessageOfItem}
 use Rattle.flat_expansion.specs.Flat.{IsCanonical, IsItemOf, IsPrivateOf, IsPublicOf, IsUnkeyed, IsWordOf}
-use Rattle.flat_expansion.proofs.Mapped.{as_long}
-use Rattle.flat_expansion.proofs.Zipped.{flipped, mapped_back, mapped_same, seconds}
+use Rattle.list_base.proofs.Mapped.{as_long}
+use Rattle.list_base.proofs.Zipped.{flipped, mapped_back, mapped_same, seconds}
 
 -- each piece of the protocol is made of its piece of the expansion
 pub record IsMade (x : Expanded) (d : Declaration) : Type 0 where

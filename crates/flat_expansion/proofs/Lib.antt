@@ -1,11 +1,6 @@
 pub mod Expanding
 pub mod Flattened
-pub mod Mapped
-pub mod OwnPlace
-pub mod Pairings
 pub mod Pieces
-pub mod Placed
 pub mod Readiness
 pub mod Same
 pub mod Shaped
-pub mod Zipped

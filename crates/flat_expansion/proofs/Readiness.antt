@@ -18,11 +18,11 @@ use Rattle.bspl_parser.specs.declared.document.Item.TheVariants as item
 use Rattle.bspl_parser.specs.declared.document.Schema.{Schema}
 use Rattle.bspl_parser.specs.Spelling.{IsItem, IsSchema}
 use Rattle.protocol_names.specs.Names.{texts, param_words}
-use Rattle.protocol_names.proofs.Places.{has_place}
+use Rattle.list_base.proofs.FirstIndex.{has_index}
 use Rattle.flat_expansion.specs.Expansion.{adornment_of, params_of, role_index, IsCarried, IsExpansionOf, IsMessageOfItem, IsMessageFor}
 use Rattle.flat_expansion.specs.Ready.{IsAdorned, IsWellScoped, IsWellScopedItem, IsWellScopedMessage}
-use Rattle.flat_expansion.proofs.Mapped.{as_long, partners}
-use Rattle.flat_expansion.proofs.Placed.{first_place, named_place}
+use Rattle.list_base.proofs.Mapped.{as_long, partners}
+use Rattle.list_base.proofs.FirstIndex.{first_index, named_index}
 use Rattle.flat_expansion.proofs.Shaped.{param_texts, shape_of}
 
 -- an adornment of an expansion
@@ -36,13 +36,13 @@ adornment_found Opt not_any not_opt = absurd (not_opt refl)
 -- a declared parameter can be carried
 carried_found : (d : Declaration) (f : Formal) → Contains (texts (param_words d)) f.name.text → IsAdorned f → (c : Carried) × IsCarried (params_of d) f c × (c.param < length (params_of d))
 carried_found d f known adorned =
-    let at = named_place (λ (p : ParamInfo). p.name) (params_of d) f.name.text (subst (λ ns. Contains ns f.name.text) (sym (param_texts d.public d.private)) known) in
+    let at = named_index (λ (p : ParamInfo). p.name) (params_of d) f.name.text (subst (λ ns. Contains ns f.name.text) (sym (param_texts d.public d.private)) known) in
     let bound = adornment_found f.adorn adorned.not_any adorned.not_opt in
     (record { param = at.0; adornment = bound.0 }, record { place = at.2; adorned = bound.1 }, at.1)
 
 -- a declared role has a place
 role_found : (roles : List (List ℕ)) (text : List ℕ) → Contains roles text → (k : ℕ) × (k < length roles) × (role_index roles text ≡ Some k)
-role_found roles text known = first_place (λ role. bytes_eq role text) roles ((has_place roles text).1 known)
+role_found roles text known = first_index (λ role. bytes_eq role text) roles ((has_index roles text).1 known)
 
 -- what is not empty has partners
 some_partners : {A B : Type 0} (xs : List A) (ys : List B) → xs ≢ [] → length ys ≡ length xs → 0 < length ys

@@ -21,7 +21,7 @@ use Rattle.bspl_parser.specs.Spelling.{IsDeclaration}
 use Rattle.protocol_names.specs.Names.{texts, message_words, param_words}
 use Rattle.flat_expansion.specs.Expansion.{adornment_of, public_param, private_param, params_of, IsMessageOfItem}
 use Rattle.flat_expansion.specs.Ready.{AreDistinct, IsAdorned, IsWellScoped, IsWithin}
-use Rattle.flat_expansion.proofs.Mapped.{all_of_mapped, as_long, mapped_pairs, pairs_of_mapped}
+use Rattle.list_base.proofs.Mapped.{all_of_mapped, as_long, mapped_pairs, pairs_of_mapped}
 
 -- what is not empty has an item
 some_items : {X : Type 0} (xs : List X) → xs ≢ [] → 0 < length xs

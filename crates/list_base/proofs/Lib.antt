@@ -1,4 +1,9 @@
+pub mod FirstIndex
+pub mod LentItem
+pub mod Mapped
 pub mod Members
 pub mod Membership
+pub mod OwnIndex
 pub mod Settled
 pub mod Tables
+pub mod Zipped

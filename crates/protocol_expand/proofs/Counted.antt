@@ -26,8 +26,8 @@ use Rattle.protocol_limits.proofs.MessageLemmas.{messages_counted}
 use Rattle.protocol_limits.proofs.PrivateLemmas.{privates_counted}
 use Rattle.protocol_limits.proofs.WideLemmas.{first_width, is_wide, width}
 use Rattle.flat_expansion.specs.Ready.{IsWithin}
-use Rattle.flat_expansion.proofs.Mapped.{as_long}
-use Rattle.flat_expansion.proofs.Zipped.{seconds}
+use Rattle.list_base.proofs.Mapped.{as_long}
+use Rattle.list_base.proofs.Zipped.{seconds}
 
 -- where nothing is found, the test fails at each
 none_found : {X : Type 0} (test : X → Bool) (xs : List X) → find test xs ≡ None → All (λ x. test x ≡ false) xs

@@ -17,7 +17,7 @@ use Rattle.protocol_names.specs.declared.fault.FaultKind.TheVariants.{Duplicate,
 use Rattle.protocol_names.specs.Fault.{HasNoFault, IsDuplicate, repeated, IsFaultIn, IsItemFault, IsUnsupported, other_arity}
 use Rattle.protocol_names.specs.Finding.{HasNone, stands}
 use Rattle.protocol_names.specs.Names.{IsSameArity, names_of, param_words, params_used, protocol_of, roles_used, texts}
-use Rattle.protocol_names.proofs.Places.{has_place}
+use Rattle.list_base.proofs.FirstIndex.{has_index}
 use Rattle.flat_expansion.specs.Ready.{AreDistinct, IsAdorned}
 
 -- the item's roles and parameters are declared, and adorned as an expansion's are
@@ -29,8 +29,8 @@ pub record IsFaultless (p : Declaration) (i : Item) : Type 0 where
 -- a name that is not unknown is known
 is_known : (names : List (List ℕ)) (name : List ℕ) → ¬ ¬ Contains names name → Contains names name
 is_known names name never = elim (cases_Bool (is_some (position (λ n. bytes_eq n name) names))) [
-  | inl found ↦ (has_place names name).0 found
-  | inr missing ↦ absurd (never (λ among. false≢true (sym missing ∙ (has_place names name).1 among)))
+  | inl found ↦ (has_index names name).0 found
+  | inr missing ↦ absurd (never (λ among. false≢true (sym missing ∙ (has_index names name).1 among)))
 ]
 
 -- a protocol has no fault

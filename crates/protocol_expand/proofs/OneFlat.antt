@@ -11,7 +11,7 @@ use Rattle.protocol_paths.specs.Flat.{IsFlat, IsImage, IsImageFormal, IsImageIte
 use Rattle.protocol_paths.specs.Path.{Step, message_paths}
 use Rattle.protocol_paths.specs.Scope.{Scope, param_at, scope_at, role_at, start}
 use Rattle.protocol_paths.specs.Renamed.{IsRenamed}
-use Rattle.flat_expansion.proofs.Expanding.{one_list}
+use Rattle.list_base.proofs.Zipped.{one_list}
 
 -- a word under a name is one
 one_word : (name : List ℕ) (w one other : Word) → IsRenamed name w one → IsRenamed name w other → one ≡ other

@@ -9,7 +9,7 @@ use Rattle.bspl_parser.specs.declared.word.Word.{Word}
 use Rattle.protocol_names.specs.Names.{message_words, param_words, texts}
 use Rattle.flat_expansion.specs.Expansion.{IsExpansionOf}
 use Rattle.flat_expansion.specs.Ready.{AreDistinct}
-use Rattle.flat_expansion.proofs.Mapped.{mapped_pairs, pairs_of_mapped}
+use Rattle.list_base.proofs.Mapped.{mapped_pairs, pairs_of_mapped}
 use Rattle.protocol_expand.specs.Repeats.{AreOwn, RepeatsName}
 use Rattle.protocol_expand.proofs.OneFirst.{none_repeated}
 use Rattle.protocol_expand.proofs.PlainParts.{declared_messages, declared_params}

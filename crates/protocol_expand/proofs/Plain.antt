@@ -10,7 +10,7 @@ use Rattle.protocol_names.specs.Names.{protocol_words}
 use Rattle.protocol_paths.specs.Flat.{IsFlat}
 use Rattle.protocol_limits.specs.Graph.{number_of}
 use Rattle.flat_expansion.specs.Expansion.{IsExpansionOf}
-use Rattle.flat_expansion.proofs.OwnPlace.{own_place}
+use Rattle.list_base.proofs.OwnIndex.{own_index}
 use Rattle.protocol_expand.specs.Asked.{IsFinite}
 use Rattle.protocol_expand.specs.Expansion.{IsExpansion, IsPlain}
 use Rattle.protocol_expand.proofs.OneFlat.{one_flat}
@@ -21,7 +21,7 @@ use Rattle.protocol_expand.proofs.PlainGraph.{unrolled}
 
 -- the one protocol has the first number
 first_number : (p : Declaration) → number_of (p ∷ []) p.name.text ≡ Some 0
-first_number p = own_place (λ (q : Declaration). q.name.text) (p ∷ []) 0 p (λ i j d before within same. omega (arith, before, within)) (omega arith) refl
+first_number p = own_index (λ (q : Declaration). q.name.text) (p ∷ []) 0 p (λ i j d before within same. omega (arith, before, within)) (omega arith) refl
 
 -- a plain protocol alone in a document has the expansion that is its own
 pub plain_expands : (d : Document) (p : Declaration) (x : Expanded) → d.protocols ≡ p ∷ [] → IsPlain p → IsExpansionOf p x → IsExpansion d p.name.text x

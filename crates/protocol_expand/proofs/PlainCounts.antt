@@ -23,7 +23,7 @@ use Rattle.protocol_limits.specs.Wide.{first_wide, or_else}
 use Rattle.protocol_limits.proofs.LimitLemmas.{after_carried, after_depth, after_keys, after_params, after_protocols, after_roles, over_later, params_at, roles_at}
 use Rattle.protocol_limits.proofs.WideOrder.{wide_at, wide_here-suc}
 use Rattle.flat_expansion.specs.Expansion.{public_param, private_param, IsCarried, IsExpansionOf, IsMessageOfItem}
-use Rattle.flat_expansion.proofs.Mapped.{as_long}
+use Rattle.list_base.proofs.Mapped.{as_long}
 use Rattle.flat_expansion.proofs.Shaped.{as_many_keys}
 use Rattle.protocol_expand.specs.Expansion.{IsPlain}
 use Rattle.protocol_expand.proofs.PlainParts.{declared_messages}

@@ -25,7 +25,7 @@ use Rattle.protocol_names.specs.Finding.{EitherFault, HasNone, OfSome}
 use Rattle.protocol_names.specs.Names.{message_words, names_of, param_words, protocol_words, texts}
 use Rattle.protocol_names.proofs.Faults.{no_key}
 use Rattle.protocol_names.proofs.Findings.{stands_not}
-use Rattle.protocol_names.proofs.Places.{has_place}
+use Rattle.list_base.proofs.FirstIndex.{has_index}
 use Rattle.flat_expansion.specs.Expansion.{adornment_of, param_index, role_index, IsCarried, IsExpansionOf, IsMessageOfItem}
 use Rattle.flat_expansion.specs.Flat.{IsUnkeyed}
 use Rattle.flat_expansion.specs.Ready.{AreDistinct}
@@ -67,7 +67,7 @@ supported f adorned = stands_not ((f.adorn ≡ Any) ⊎ (f.adorn ≡ Opt)) BadAd
 -- a role that has a place is declared
 known_role : (roles : List (List ℕ)) (p : Declaration) (w : Word) (k : ℕ) → roles ≡ texts p.roles → role_index roles w.text ≡ Some k → HasNone (IsUnknown (texts p.roles) w)
 known_role roles p w k role_names found =
-    let known : Contains roles w.text = (has_place roles w.text).0 (ap is_some found) in
+    let known : Contains roles w.text = (has_index roles w.text).0 (ap is_some found) in
     stands_not (¬ Contains (texts p.roles) w.text) Unknown w.offset (λ absent. absent (subst (λ names. Contains names w.text) role_names known))
 
 -- and so is a parameter

@@ -13,7 +13,7 @@ use Rattle.protocol_names.specs.Names.{texts, message_words, param_words}
 use Rattle.protocol_paths.specs.Bare.{IsMessage}
 use Rattle.flat_expansion.specs.Expansion.{adornment_of, public_param, private_param, IsExpansionOf}
 use Rattle.flat_expansion.specs.Flat.{IsUnkeyed}
-use Rattle.flat_expansion.proofs.Mapped.{all_of_mapped}
+use Rattle.list_base.proofs.Mapped.{all_of_mapped}
 use Rattle.flat_expansion.proofs.Shaped.{message_texts, param_texts}
 use Rattle.protocol_expand.specs.Expansion.{IsPlain}
 

@@ -18,8 +18,8 @@ use Rattle.protocol_paths.specs.Flat.{IsFlat, IsImage, IsImageFormal, IsImageIte
 use Rattle.protocol_paths.specs.Path.{Step, message_paths, paths}
 use Rattle.protocol_paths.specs.Scope.{Scope, scope_at, start}
 use Rattle.flat_expansion.specs.Ready.{AreDistinct, IsAdorned}
-use Rattle.flat_expansion.proofs.Mapped.{all_of_mapped}
-use Rattle.flat_expansion.proofs.Zipped.{seconds}
+use Rattle.list_base.proofs.Mapped.{all_of_mapped}
+use Rattle.list_base.proofs.Zipped.{seconds}
 use Rattle.protocol_expand.specs.Asked.{IsAsked}
 use Rattle.protocol_expand.proofs.Faultless.{declared_roles_are_apart, item_is_faultless, public_params_are_adorned}
 use Rattle.protocol_expand.proofs.Gathered.{all_of_gathered, among_mapped}

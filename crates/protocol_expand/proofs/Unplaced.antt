@@ -15,7 +15,7 @@ use Rattle.bspl_parser.specs.declared.word.Word.{Word}
 use Rattle.bspl_parser.specs.Alike.{ReadsBack, declaration_without_offsets, formal_without_offsets, item_without_offsets, key_without_offset, word_without_offset}
 use Rattle.flat_expansion.specs.Expansion.{params_of, private_param, public_param, IsCarried, IsExpansionOf, IsMessageOfItem}
 use Rattle.flat_expansion.specs.Flat.{IsCanonical, IsUnkeyed}
-use Rattle.flat_expansion.proofs.Mapped.{all_of_mapped}
+use Rattle.list_base.proofs.Mapped.{all_of_mapped}
 use Rattle.protocol_expand.specs.Expansion.{IsExpansion, IsPlain}
 use Rattle.protocol_expand.specs.Printed.{ExpandsBack}
 use Rattle.protocol_expand.proofs.Plain.{plain_expands}

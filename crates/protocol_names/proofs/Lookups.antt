@@ -1,22 +1,16 @@
 -- The first protocol of a name stands at the first place of the name.
 use Rattle.std.proofs.Common.{◌≡◌, ℕ, ◌+◌, ◌≤◌, Bool, cond, List, [], ◌∷◌, length, Option, Some, None, refl, sym, ◌∙◌, ap, arith, inl, inr}
-use Rattle.std.specs.Prelude.{map, nat_lt, not, option_copied}
+use Rattle.std.specs.Prelude.{map, nat_lt, not}
 use Rattle.std.specs.List.{position, position_or_len, slice_get}
 use Rattle.std.specs.Str.{bytes_eq}
 use Rattle.std.proofs.lemmas.Bool.{cases_lt}
 use Rattle.std.proofs.lemmas.Bool.Decides.{nat_tests}
 use Rattle.std.proofs.lemmas.List.{length-map}
 use Rattle.std.proofs.lemmas.List.Folds.{find_at}
-use Rattle.std.proofs.lemmas.Option.{slice_get_past, slice_get_read}
-use Rattle.std.specs.Slice.{IsItemAt}
-use denote.Ref.{Bor}
+use Rattle.std.proofs.lemmas.Option.{slice_get_past}
+use Rattle.list_base.proofs.FirstIndex.{index_mapped}
 use Rattle.bspl_parser.specs.declared.document.Declaration.{Declaration}
 use Rattle.protocol_names.specs.Names.{protocol_of, protocol_words, texts}
-
--- the first place in a mapped list
-place_of_map : {X Y : Type 0} (p : Y → Bool) (f : X → Y) (xs : List X) → position_or_len p (map f xs) ≡ position_or_len (λ x. p (f x)) xs
-place_of_map p f [] = refl
-place_of_map p f (x ∷ xs) = ap (λ n. cond (not (p (f x))) (1 + n) 0) (place_of_map p f xs)
 
 -- the place that was found
 place_is : (n l : ℕ) (place : ℕ) → cond (nat_lt n l) (Some n) None ≡ Some place → n ≡ place
@@ -34,18 +28,13 @@ named name n = bytes_eq n name
 pub protocol_at : (protocols : List Declaration) (names : List (List ℕ)) (name : List ℕ) (place : ℕ) → names ≡ texts (protocol_words protocols) → position (named name) names ≡ Some place → slice_get protocols place ≡ protocol_of protocols name
 protocol_at protocols names name place in_order is =
     let here : position_or_len (named name) names ≡ place = place_is _ _ place is in
-    let same : position_or_len (named name) names ≡ position_or_len (λ p. bytes_eq p.name.text name) protocols = ap (position_or_len (named name)) in_order ∙ place_of_map (named name) (λ w. w.text) (protocol_words protocols) ∙ place_of_map (λ w. bytes_eq w.text name) (λ (p : Declaration). p.name) protocols in
+    let same : position_or_len (named name) names ≡ position_or_len (λ p. bytes_eq p.name.text name) protocols = ap (position_or_len (named name)) in_order ∙ index_mapped (named name) (λ w. w.text) (protocol_words protocols) ∙ index_mapped (λ w. bytes_eq w.text name) (λ (p : Declaration). p.name) protocols in
     ap (slice_get protocols) (sym here ∙ same) ∙ sym (find_at (λ p. bytes_eq p.name.text name) protocols)
 
 -- and where it has none, there is no protocol
 pub no_protocol : (protocols : List Declaration) (names : List (List ℕ)) (name : List ℕ) → names ≡ texts (protocol_words protocols) → position (named name) names ≡ None → protocol_of protocols name ≡ None
 no_protocol protocols names name in_order is =
     let past : length names ≤ position_or_len (named name) names = place_past _ _ is in
-    let same : position_or_len (named name) names ≡ position_or_len (λ p. bytes_eq p.name.text name) protocols = ap (position_or_len (named name)) in_order ∙ place_of_map (named name) (λ w. w.text) (protocol_words protocols) ∙ place_of_map (λ w. bytes_eq w.text name) (λ (p : Declaration). p.name) protocols in
+    let same : position_or_len (named name) names ≡ position_or_len (λ p. bytes_eq p.name.text name) protocols = ap (position_or_len (named name)) in_order ∙ index_mapped (named name) (λ w. w.text) (protocol_words protocols) ∙ index_mapped (λ w. bytes_eq w.text name) (λ (p : Declaration). p.name) protocols in
     let long : length names ≡ length protocols = ap length in_order ∙ length-map _ _ ∙ length-map _ _ in
     find_at (λ p. bytes_eq p.name.text name) protocols ∙ slice_get_past protocols _ (omega (arith, past, same, long))
-
--- what `get` lends is the item at the place
-pub item_at : {X : Type 0} (xs : List X) (i : ℕ) (found : Option (Bor X)) → IsItemAt xs i found → option_copied found ≡ slice_get xs i
-item_at xs i None got = sym (slice_get_past xs i got.3)
-item_at xs i (Some x) got = sym (slice_get_read xs (length xs) i x.now refl got.3.0 got.1)

@@ -17,50 +17,8 @@ use Rattle.std.proofs.lemmas.Bool.{cases_lt, cases_Bool, cond-true, cond-false, 
 use Rattle.std.proofs.lemmas.Bool.Decides.{nat_tests}
 use Rattle.std.proofs.lemmas.Map.Text.{is_eq-slice_cmp}
 use Rattle.std.proofs.lemmas.Slice.Eq.{bytes_eq-Decides}
+use Rattle.list_base.proofs.FirstIndex.{has_index, is_name_at, position_push}
 use Rattle.protocol_names.specs.Table.{IsTable}
-
--- the place after one more, by the place before
-place_push : (n l : ℕ) (b : Bool) → n ≤ l → cond (nat_lt (cond (eqb n l) (l + cond b 0 1) n) (l + 1)) (Some (cond (eqb n l) (l + cond b 0 1) n)) None ≡ option_or (cond (nat_lt n l) (Some n) None) (cond b (Some l) None)
-place_push n l true bound = grind (arith, nat_tests)
-place_push n l false bound = grind (arith, nat_tests)
-
--- one name more has its place unless the test passes before
-pub position_push : {X : Type 0} (p : X → Bool) (xs : List X) (y : X) → position p (xs ++ y ∷ []) ≡ option_or (position p xs) (cond (p y) (Some (length xs)) None)
-position_push p xs y =
-    let place = position_or_len_push p xs y in
-    let long : length (xs ++ y ∷ []) ≡ length xs + 1 = length-append xs (y ∷ []) in
-    (λ i. cond (nat_lt (place i) (long i)) (Some (place i)) None) ∙ place_push (position_or_len p xs) (length xs) (p y) (prefix_len-le-length (λ x. not (p x)) xs)
-
--- a place that passes bounds the first one
-place_found : {X : Type 0} (p : X → Bool) (xs : List X) (k : ℕ) (d : X) → k < length xs → p (get_or xs k d) ≡ true → position_or_len p xs < length xs
-place_found p [] k d within passes = absurd (omega (arith, within))
-place_found p (x ∷ xs) k d within passes =
-    ⊎_elim
-    (λ yes. rw yes (omega arith))
-    (λ none. rw none (elim k as (λ n. n < length (x ∷ xs) → p (get_or (x ∷ xs) n d) ≡ true → 1 + position_or_len p xs < length (x ∷ xs)) [
-      | zero ↦ λ w q. absurd (true≢false (sym q ∙ none))
-      | suc n ↦ λ w q. let later = place_found p xs n d (omega (arith, w)) q in omega (arith, later)
-    ] within passes))
-    (cases_Bool (p x))
-
--- the test for a name
-abbrev pub is_name_at : List ℕ → List ℕ → Bool
-is_name_at name n = bytes_eq n name
-
--- a name has a place exactly if it is among the names
-pub has_place : (names : List (List ℕ)) (name : List ℕ) → IsTrue (is_some (position (λ n. bytes_eq n name) names)) ↔ Contains names name
-has_place names name = (
-  (λ some. elim (cases_lt (position_or_len (is_name_at name) names) (length names)) [
-    | inl below ↦
-        let at : position (is_name_at name) names ≡ Some (position_or_len (is_name_at name) names) = grind (arith, nat_tests) in
-        let found = position-Some (is_name_at name) names (position_or_len (is_name_at name) names) name at in
-        (position_or_len (is_name_at name) names, found.0, (bytes_eq-Decides _ _).0 found.1)
-    | inr past ↦ absurd (grind (arith, nat_tests))
-  ]),
-  (λ among.
-      let below = place_found (is_name_at name) names among.0 name among.1 ((bytes_eq-Decides _ _).1 among.2) in
-      grind (arith, nat_tests)),
-)
 
 -- what a lookup by bytes finds
 abbrev pub found : {Z : Type 0} → BTreeMap (Vec ℕ Z) ℕ → List ℕ → Option ℕ
@@ -128,4 +86,4 @@ placed {Z} names name bytes place old new is_name is_last is_table absent update
 pub is_held : {Z : Type 0} (names value : List (List ℕ)) (table : BTreeMap (Vec ℕ Z) ℕ) (name : List ℕ) (held : Bool) → names ≡ value → IsTable names table → held ≡ is_some (found table name) → IsTrue held ↔ Contains value name
 is_held names value table name held same is_table is_found =
     subst (λ ns. IsTrue held ↔ Contains ns name) same
-    (subst (λ b. IsTrue b ↔ Contains names name) (sym (is_found ∙ ap is_some (is_table.finds name))) (has_place names name))
+    (subst (λ b. IsTrue b ↔ Contains names name) (sym (is_found ∙ ap is_some (is_table.finds name))) (has_index names name))

@@ -10,7 +10,7 @@ use Rattle.protocol_paths.specs.Flat.{AddsEach, IsImageItem}
 use Rattle.protocol_paths.specs.Path.{Step, behind}
 use Rattle.protocol_paths.specs.Scope.{Scope, after}
 use Rattle.protocol_paths.proofs.Numbered.{made_all, made_more}
-use Rattle.protocol_paths.proofs.Pairs.{zip_append, zip_map}
+use Rattle.list_base.proofs.Zipped.{zip_append, zip_map}
 
 -- nothing for nothing
 pub adds_none : {X Y : Type 0} (R : X → Y → Type 0) (xs : List X) (old new : List Y) → xs ≡ [] → new ≡ old → AddsEach R xs old new

@@ -28,13 +28,6 @@ stands_same declared name =
       | Some k ↦ λ found. (bytes_eq-Decides (get_or declared k name) name).0 (position-Some (λ n. bytes_eq n name) declared k name found).1
     ]) refl
 
--- pairs of one sort are pairs of another
-zip_to : {A B : Type 0} (R S : A → B → Type 0) → ((x : A) (y : B) → R x y → S x y) → (xs : List A) (ys : List B) → AllZip R xs ys → AllZip S xs ys
-zip_to R S to [] [] all = tt
-zip_to R S to [] (y ∷ ys) all = absurd all
-zip_to R S to (x ∷ xs) [] all = absurd all
-zip_to R S to (x ∷ xs) (y ∷ ys) all = (to x y all.0, zip_to R S to xs ys all.1)
-
 -- a parameter and a message of the top protocol
 bare_formal : (top : Declaration) (f f' : Formal) → IsImageFormal (start top) f f' → IsBareFormal f f'
 bare_formal top f f' image = record {

@@ -5,6 +5,5 @@ pub mod Fewer
 pub mod Named
 pub mod Numbered
 pub mod Opened
-pub mod Pairs
 pub mod Pieces
 pub mod Standing

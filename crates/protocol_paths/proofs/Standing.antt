@@ -9,7 +9,7 @@ use Rattle.std.proofs.lemmas.Option.{unwrap_or-slice_get}
 use denote.Ref.{Bor}
 use Rattle.bspl_parser.specs.declared.word.Word.{Word}
 use Rattle.protocol_names.specs.Names.{texts}
-use Rattle.protocol_names.proofs.Lookups.{item_at}
+use Rattle.list_base.proofs.LentItem.{item_at}
 use Rattle.protocol_paths.specs.Scope.{stands_for}
 
 -- what is lent, or the word itself

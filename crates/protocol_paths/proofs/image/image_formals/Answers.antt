@@ -1,7 +1,7 @@
 -- One parameter more.
 use Rattle.protocol_paths.specs.Flat.{IsImageFormal}
 use Rattle.protocol_paths.specs.Seen.{seen}
-use Rattle.protocol_paths.proofs.Pairs.{paired_more}
+use Rattle.list_base.proofs.Zipped.{paired_more}
 use Rattle.protocol_paths.proofs.image.image_formals.Goals as goal
 
 pub loop-formal-preserved : goal.loop-formal-preserved

@@ -1,7 +1,8 @@
 -- The place of the name is the place of its protocol.
 use Rattle.std.proofs.Common.{◌∙◌, sym, ap, rules}
 use Rattle.std.specs.Prelude.{option_copied}
-use Rattle.protocol_names.proofs.Lookups.{protocol_at, no_protocol, item_at}
+use Rattle.list_base.proofs.LentItem.{item_at}
+use Rattle.protocol_names.proofs.Lookups.{protocol_at, no_protocol}
 use Rattle.protocol_names.proofs.protocol_table.ProtocolTable.protocol.Goals as goal
 
 pub returns-in_err-place : goal.returns-in_err-place

@@ -8,7 +8,7 @@ use Rattle.std.proofs.lemmas.List.Elements.{All-nil, All-cons, All-head, All-tai
 pub all_of_mapped : {X A : Type 0} (P : A → Type 0) (f : X → A) (xs : List X) → All P (map f xs) → All (λ x. P (f x)) xs
 all_of_mapped {X} {A} P f xs all k d within = subst (λ (a : A). P a) (get_or-map f xs k d (f d) within) (all k (f d) (omega (arith, length-map xs f, within)))
 
--- names that are apart are those of items that are apart
+-- distinct names are those of distinct items
 pub pairs_of_mapped : {X A : Type 0} (R : A → A → Type 0) (f : X → A) (xs : List X) → AllPairs R (map f xs) → AllPairs (λ x y. R (f x) (f y)) xs
 pairs_of_mapped {X} {A} R f xs pairs i j d before within =
     let first : i < length xs = omega (arith, before, within) in
