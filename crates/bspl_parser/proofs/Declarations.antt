@@ -1,4 +1,4 @@
--- Reading protocols and documents.
+-- ParseResult protocols and documents.
 use Rattle.std.proofs.Common.{◌≡◌, ◌≢◌, length, Bool, true, false, not, cond, List, [], ◌∷◌, ◌++◌, Ok, refl, ap, ◌∙◌, arith}
 use Rattle.std.specs.List.{All, flat_map}
 use Rattle.std.proofs.lemmas.List.Elements.{All-cons, All-head, All-tail}
@@ -6,18 +6,18 @@ use Rattle.std.proofs.lemmas.Bool.{ne_eqb}
 use Rattle.bspl_parser.specs.declared.document.Item.{Item}
 use Rattle.bspl_parser.specs.declared.document.Declaration.{Declaration}
 use Rattle.bspl_parser.specs.declared.document.Document.{Document}
-use Rattle.bspl_parser.specs.declared.repeat.Repeat.TheVariants as repeat
+use Rattle.bspl_parser.specs.declared.list_kind.ListKind.TheVariants as list_kind
 use Rattle.bspl_parser.specs.declared.symbol.Symbol.{Symbol}
 use Rattle.bspl_parser.specs.declared.symbol.Symbol.TheVariants.{Roles, Role, Parameters, Parameter, Private, Key, OpenBrace, CloseBrace, Comma}
 use Rattle.bspl_parser.specs.declared.token.Token.{Token}
 use Rattle.bspl_parser.specs.declared.word.Word.{Word}
-use Rattle.bspl_parser.specs.Symbol.{same_symbol}
-use Rattle.bspl_parser.specs.Sign.{Sign, Named, Plain, Either, listed}
+use Rattle.bspl_parser.specs.inner.SymbolTable.{same_symbol}
+use Rattle.bspl_parser.specs.Sign.{Sign, Named, Plain, OneOf, listed}
 use Rattle.bspl_parser.specs.Grammar.{signs_of_word, signs_of_formal, signs_of_item, signs_of_private, signs_of_head, signs_of_declaration, signs_of_document}
 use Rattle.bspl_parser.specs.Spelling.{IsFormal, IsItem, IsDeclaration, Spells}
-use Rattle.bspl_parser.specs.Reading.{◌>>=◌, Reading}
-use Rattle.bspl_parser.specs.TokenReading.{begins_with, word_at, symbol_at, either_at}
-use Rattle.bspl_parser.specs.PhraseReading.{formal_at, item_at, with_front, many_at, listed_at, private_at, declaration_at, document_at}
+use Rattle.bspl_parser.specs.inner.ParseResult.{◌>>=◌, ParseResult}
+use Rattle.bspl_parser.specs.inner.TokenParsers.{begins_with, word_at, symbol_at, either_at}
+use Rattle.bspl_parser.specs.inner.GrammarParsers.{formal_at, item_at, with_prefix, many_at, listed_at, private_at, declaration_at, document_at}
 use Rattle.bspl_parser.proofs.Spelled.{Spelled, Spelled-then, Spelled-shorter, Spelled-whole, whole_from_Spelled, Reads, bind_then, split_then, took}
 use Rattle.bspl_parser.proofs.Primitives.{word_sound, word_complete, word_reads, plain_sound, plain_complete, either_sound, either_complete}
 use Rattle.bspl_parser.proofs.Formals.{Keyless, formal_reads}
@@ -45,15 +45,15 @@ body_begins t other (i ∷ is) ts rest spelled =
     split_then (signs_of_item i) (flat_map signs_of_item is) ts mid items (λ left first further. items_begin i t ts left first))
 
 -- the private parameters
-private_found : (ts rest : List Token) (ws : List Word) (goes : Bool) → ◌≡◌ {A = Reading (List Word)} (cond goes (◌>>=◌ {B = List Word × List Token} (symbol_at Private ts) (λ word. listed_at word_at word.1)) (Ok ([], ts))) (Ok (ws, rest)) → Spelled (signs_of_private ws) ts rest
+private_found : (ts rest : List Token) (ws : List Word) (goes : Bool) → ◌≡◌ {A = ParseResult (List Word)} (cond goes (◌>>=◌ {B = List Word × List Token} (symbol_at Private ts) (λ word. listed_at word_at word.1)) (Ok ([], ts))) (Ok (ws, rest)) → Spelled (signs_of_private ws) ts rest
 private_found ts rest ws true e =
     bind_then (symbol_at Private ts) _ (ws, rest) e (λ word read then_list.
     let list = listed-sound word_at signs_of_word AnyWord AnyTokens word_reads word.1 rest ws then_list in
-    behind ws list.1.some (Spelled-then (Plain Private ∷ []) (listed signs_of_word ws) ts word.1 rest (plain_sound Private ts word.1 word.0 read) list.0))
+    following ws list.1.some (Spelled-then (Plain Private ∷ []) (listed signs_of_word ws) ts word.1 rest (plain_sound Private ts word.1 word.0 read) list.0))
   where
-    behind : (ws : List Word) → ws ≢ [] → Spelled (Plain Private ∷ listed signs_of_word ws) ts rest → Spelled (signs_of_private ws) ts rest
-    behind [] some spelled = absurd (some refl)
-    behind (w ∷ ws) some spelled = spelled
+    following : (ws : List Word) → ws ≢ [] → Spelled (Plain Private ∷ listed signs_of_word ws) ts rest → Spelled (signs_of_private ws) ts rest
+    following [] some spelled = absurd (some refl)
+    following (w ∷ ws) some spelled = spelled
 private_found ts rest ws false e = (took signs_of_private (λ list. Unit {0}) ts ([], ts) (ws, rest) e refl tt).0
 
 -- the private parameters that are read are spelled so
@@ -91,17 +91,17 @@ declaration_sound ts rest d e =
     bind_then (either_at Parameters Parameter roles.1) _ (d, rest) then_public_word (λ public_word public_word_read then_public.
     bind_then (listed_at formal_at public_word.1) _ (d, rest) then_public (λ public public_read then_private.
     bind_then (private_at public.1) _ (d, rest) then_private (λ private private_read then_body.
-    bind_then (many_at repeat.Name item_at private.1) _ (d, rest) then_body (λ body body_read then_close.
+    bind_then (many_at list_kind.Name item_at private.1) _ (d, rest) then_body (λ body body_read then_close.
     bind_then (symbol_at CloseBrace body.1) _ (d, rest) then_close (λ close close_read made.
     let role_list = listed-sound word_at signs_of_word AnyWord AnyTokens word_reads roles_word.1 roles.1 roles.0 roles_read in
     let public_list = listed-sound formal_at signs_of_formal IsFormal Keyless formal_reads public_word.1 public.1 public.0 public_read in
-    let items = many-sound repeat.Name item_at signs_of_item IsItem AnyTokens item_reads private.1 body.1 body.0 body_read in
+    let items = many-sound list_kind.Name item_at signs_of_item IsItem AnyTokens item_reads private.1 body.1 body.0 body_read in
     let from_body = Spelled-then (flat_map signs_of_item body.0) (Plain CloseBrace ∷ []) private.1 body.1 close.1 items.0 (plain_sound CloseBrace body.1 close.1 close.0 close_read) in
     let from_private = Spelled-then (signs_of_private private.0) (body_on body.0) public.1 private.1 close.1 (private_sound public.1 private.1 private.0 private_read) from_body in
-    let publics = Spelled-then (Either Parameters Parameter ∷ []) (listed signs_of_formal public.0) roles.1 public_word.1 public.1 (either_sound Parameters Parameter roles.1 public_word.1 public_word.0 public_word_read) public_list.0 in
-    let from_roles = Spelled-then (listed signs_of_word roles.0) (Either Parameters Parameter ∷ listed signs_of_formal public.0) roles_word.1 roles.1 public.1 role_list.0 publics in
-    let head : List Sign = Either Roles Role ∷ (listed signs_of_word roles.0 ++ Either Parameters Parameter ∷ listed signs_of_formal public.0) in
-    let heads : Spelled head brace.1 public.1 = Spelled-then (Either Roles Role ∷ []) (listed signs_of_word roles.0 ++ Either Parameters Parameter ∷ listed signs_of_formal public.0) brace.1 roles_word.1 public.1 (either_sound Roles Role brace.1 roles_word.1 roles_word.0 roles_word_read) from_roles in
+    let publics = Spelled-then (OneOf Parameters Parameter ∷ []) (listed signs_of_formal public.0) roles.1 public_word.1 public.1 (either_sound Parameters Parameter roles.1 public_word.1 public_word.0 public_word_read) public_list.0 in
+    let from_roles = Spelled-then (listed signs_of_word roles.0) (OneOf Parameters Parameter ∷ listed signs_of_formal public.0) roles_word.1 roles.1 public.1 role_list.0 publics in
+    let head : List Sign = OneOf Roles Role ∷ (listed signs_of_word roles.0 ++ OneOf Parameters Parameter ∷ listed signs_of_formal public.0) in
+    let heads : Spelled head brace.1 public.1 = Spelled-then (OneOf Roles Role ∷ []) (listed signs_of_word roles.0 ++ OneOf Parameters Parameter ∷ listed signs_of_formal public.0) brace.1 roles_word.1 public.1 (either_sound Roles Role brace.1 roles_word.1 roles_word.0 roles_word_read) from_roles in
     let from_head = Spelled-then head (private_on private.0 body.0) brace.1 public.1 close.1 heads from_private in
     let from_brace = Spelled-then (Plain OpenBrace ∷ []) (head ++ private_on private.0 body.0) name.1 brace.1 close.1 (plain_sound OpenBrace name.1 brace.1 brace.0 brace_read) from_head in
     let whole = Spelled-then (Named name.0 ∷ []) (Plain OpenBrace ∷ (head ++ private_on private.0 body.0)) ts name.1 close.1 (word_sound ts name.1 name.0 name_read) from_brace in
@@ -113,14 +113,14 @@ declaration_complete : (ts rest : List Token) (d : Declaration) → Spelled (sig
 unfolding declaration_at
 declaration_complete ts rest d spelled good =
     let tail : List Sign = private_on d.private d.body in
-    let publics : List Sign = Either Parameters Parameter ∷ listed signs_of_formal d.public in
+    let publics : List Sign = OneOf Parameters Parameter ∷ listed signs_of_formal d.public in
     let roles_on : List Sign = listed signs_of_word d.roles ++ publics in
-    split_then (Named d.name ∷ []) (Plain OpenBrace ∷ ((Either Roles Role ∷ roles_on) ++ tail)) ts rest spelled (λ at_brace name from_brace.
-    split_then (Plain OpenBrace ∷ []) ((Either Roles Role ∷ roles_on) ++ tail) at_brace rest from_brace (λ at_head brace from_head.
-    split_then (Either Roles Role ∷ roles_on) tail at_head rest from_head (λ at_private head from_private.
-    split_then (Either Roles Role ∷ []) roles_on at_head at_private head (λ at_roles roles_word from_roles.
+    split_then (Named d.name ∷ []) (Plain OpenBrace ∷ ((OneOf Roles Role ∷ roles_on) ++ tail)) ts rest spelled (λ at_brace name from_brace.
+    split_then (Plain OpenBrace ∷ []) ((OneOf Roles Role ∷ roles_on) ++ tail) at_brace rest from_brace (λ at_head brace from_head.
+    split_then (OneOf Roles Role ∷ roles_on) tail at_head rest from_head (λ at_private head from_private.
+    split_then (OneOf Roles Role ∷ []) roles_on at_head at_private head (λ at_roles roles_word from_roles.
     split_then (listed signs_of_word d.roles) publics at_roles at_private from_roles (λ at_public_word roles from_public_word.
-    split_then (Either Parameters Parameter ∷ []) (listed signs_of_formal d.public) at_public_word at_private from_public_word (λ at_public public_word public.
+    split_then (OneOf Parameters Parameter ∷ []) (listed signs_of_formal d.public) at_public_word at_private from_public_word (λ at_public public_word public.
     split_then (signs_of_private d.private) (body_on d.body) at_private rest from_private (λ at_body private from_body.
     split_then (flat_map signs_of_item d.body) (Plain CloseBrace ∷ []) at_body rest from_body (λ at_close body close.
     let roles_again = listed-complete word_at signs_of_word AnyWord AnyTokens word_reads words_repeat at_roles at_public_word d.roles roles (record { some = good.some_role; each = λ k w below. tt })
@@ -128,22 +128,22 @@ declaration_complete ts rest d spelled good =
     let public_again = listed-complete formal_at signs_of_formal IsFormal Keyless formal_reads formals_repeat at_public at_private d.public public (record { some = good.some_public; each = good.each_public })
     (private_begins Comma refl refl d.private d.body at_private rest from_private) (private_begins Key refl refl d.private d.body at_private rest from_private) in
     let private_again = private_complete at_private at_body d.private private (body_begins Private refl d.body at_body rest from_body) (body_begins Comma refl d.body at_body rest from_body) in
-    let body_again = many-complete repeat.Name item_at signs_of_item IsItem AnyTokens item_reads items_repeat at_body at_close d.body body good.each_item (plain_is_no_name CloseBrace [] at_close rest close) tt in
+    let body_again = many-complete list_kind.Name item_at signs_of_item IsItem AnyTokens item_reads items_repeat at_body at_close d.body body good.each_item (plain_is_no_name CloseBrace [] at_close rest close) tt in
     rw (word_complete ts at_brace d.name name, (plain_complete OpenBrace at_brace at_head brace).1, (either_complete Roles Role at_head at_roles roles_word).1, roles_again, (either_complete Parameters Parameter at_public_word at_public public_word).1, public_again, private_again, body_again, (plain_complete CloseBrace at_close rest close).1) refl))))))))
 
 -- the signs of a protocol behind its name
-abbrev pub behind_name : Declaration → List Sign
-behind_name d = Plain OpenBrace ∷ (signs_of_head d ++ private_on d.private d.body)
+abbrev pub after_name : Declaration → List Sign
+after_name d = Plain OpenBrace ∷ (signs_of_head d ++ private_on d.private d.body)
 
 pub declaration_reads : Reads declaration_at signs_of_declaration IsDeclaration AnyTokens
 declaration_reads = record { sound = declaration_sound; complete = λ ts rest d spelled good may. declaration_complete ts rest d spelled good }
 
-pub declarations_repeat : Repeats repeat.Rest signs_of_declaration AnyTokens
+pub declarations_repeat : Repeats list_kind.Rest signs_of_declaration AnyTokens
 declarations_repeat =
     record {
       goes = λ d ts rest spelled. rw spelled.2 (ap not (ne_eqb (length (spelled.0 ∷ spelled.1)) 0 (λ is. omega arith)));
       seam = λ d ts rest spelled. tt;
-      shorter = λ d ts rest spelled. Spelled-shorter (Named d.name) (behind_name d) ts rest spelled;
+      shorter = λ d ts rest spelled. Spelled-shorter (Named d.name) (after_name d) ts rest spelled;
     }
 
 -- a document that is read up to the end of the tokens is spelled by them
@@ -151,10 +151,10 @@ pub document_sound : (ts : List Token) (d : Document) → document_at ts ≡ Ok 
 unfolding document_at
 document_sound ts d e =
     bind_then (declaration_at ts) _ (d, []) e (λ first first_read then_rest.
-    bind_then (with_front (first.0 ∷ []) (many_at repeat.Rest declaration_at first.1)) _ (d, []) then_rest (λ all all_read made.
-    bind_then (many_at repeat.Rest declaration_at first.1) _ all all_read (λ more more_read all_made.
+    bind_then (with_prefix (first.0 ∷ []) (many_at list_kind.Rest declaration_at first.1)) _ (d, []) then_rest (λ all all_read made.
+    bind_then (many_at list_kind.Rest declaration_at first.1) _ all all_read (λ more more_read all_made.
     let one = declaration_sound ts first.1 first.0 first_read in
-    let others = many-sound repeat.Rest declaration_at signs_of_declaration IsDeclaration AnyTokens declaration_reads first.1 more.1 more.0 more_read in
+    let others = many-sound list_kind.Rest declaration_at signs_of_declaration IsDeclaration AnyTokens declaration_reads first.1 more.1 more.0 more_read in
     let list = took (λ ds. flat_map signs_of_declaration ds) (GoodList IsDeclaration) ts (first.0 ∷ more.0, more.1) all all_made
     (Spelled-then (signs_of_declaration first.0) (flat_map signs_of_declaration more.0) ts first.1 more.1 one.0 others.0)
     (record { some = λ is. cc; each = All-cons IsDeclaration first.0 more.0 one.1 others.1 }) in
@@ -170,4 +170,4 @@ document_complete ts d spells = again d.protocols spells.formed.some spells.form
     again [] some each spelled = absurd (some refl)
     again (p ∷ ps) some each spelled =
         split_then (signs_of_declaration p) (flat_map signs_of_declaration ps) ts [] spelled (λ mid first further.
-        rw (declaration_complete ts mid p first (All-head IsDeclaration p ps each), many-complete repeat.Rest declaration_at signs_of_declaration IsDeclaration AnyTokens declaration_reads declarations_repeat mid [] ps further (All-tail IsDeclaration p ps each) refl tt) refl)
+        rw (declaration_complete ts mid p first (All-head IsDeclaration p ps each), many-complete list_kind.Rest declaration_at signs_of_declaration IsDeclaration AnyTokens declaration_reads declarations_repeat mid [] ps further (All-tail IsDeclaration p ps each) refl tt) refl)

@@ -7,8 +7,8 @@ use Rattle.std.specs.Option.{option_map_or}
 use Rattle.std.proofs.lemmas.Bool.{cases_Bool, eqb-true, ltb-true, ltb-false}
 use Rattle.std.proofs.lemmas.List.{take-append-drop, take_all, drop_all}
 use Rattle.std.proofs.lemmas.List.Elements.{All-nil, All-cons}
-use Rattle.bspl_parser.specs.Scanning.{comment_len, gap_len}
-use Rattle.bspl_parser.specs.Tokens.{is_blank, IsLine, IsGap, nothing, blank, comment, IsEnd}
+use Rattle.bspl_parser.specs.inner.Scanner.{comment_len, gap_len}
+use Rattle.bspl_parser.specs.Tokens.{is_blank_byte, IsLine, IsGap, nothing, blank, comment, IsEnd}
 use Rattle.bspl_parser.proofs.Gaps.{NotLf}
 
 abbrev is_lf : ℕ → Bool
@@ -30,9 +30,9 @@ up_to_lf (b ∷ bs) within =
     elim (cases_Bool (eqb b 10)) [
       | inl is ↦ rw is (ap (λ c. c ∷ []) (eqb-true b 10 is))
       | inr other ↦
-          let place : position_or_len is_lf (b ∷ bs) ≡ suc (position_or_len is_lf bs) = rw (other, one-add) refl in
+          let same_offset : position_or_len is_lf (b ∷ bs) ≡ suc (position_or_len is_lf bs) = rw (other, one-add) refl in
           let within' : position_or_len is_lf bs < length bs = omega arith in
-          rw place (ap (λ r. b ∷ r) (up_to_lf bs within'))
+          rw same_offset (ap (λ r. b ∷ r) (up_to_lf bs within'))
     ]
 
 -- a gap of so many bytes stands at the front, or a comment that has no LF
@@ -40,13 +40,13 @@ abbrev pub IsPassed : List ℕ → ℕ → Type 0
 IsPassed bytes n = IsGap (take n bytes) ⊎ (IsEnd bytes × (drop n bytes ≡ []))
 
 comment_found : (cs : List ℕ) (has : Bool) → ltb (1 + (1 + position_or_len is_lf cs)) (suc (suc (length cs))) ≡ has
-    → IsPassed (47 ∷ 47 ∷ cs) (option_map_or (λ place. place + 1) (cond has (Some (1 + (1 + position_or_len is_lf cs))) None) (suc (suc (length cs))))
+    → IsPassed (47 ∷ 47 ∷ cs) (option_map_or (λ index. index + 1) (cond has (Some (1 + (1 + position_or_len is_lf cs))) None) (suc (suc (length cs))))
 comment_found cs true has =
     let k = position_or_len is_lf cs in
     let inside = ltb-true (1 + (1 + k)) (suc (suc (length cs))) has in
     let within : k < length cs = omega arith in
-    let place : 1 + (1 + k) + 1 ≡ suc (suc (suc k)) = omega arith in
-    inl (rw place (rw (up_to_lf cs within) (comment (take k cs) (before_lf cs) nothing)))
+    let same_offset : 1 + (1 + k) + 1 ≡ suc (suc (suc k)) = omega arith in
+    inl (rw same_offset (rw (up_to_lf cs within) (comment (take k cs) (before_lf cs) nothing)))
 comment_found cs false has =
     let k = position_or_len is_lf cs in
     let outside = ltb-false (1 + (1 + k)) (suc (suc (length cs))) has in
@@ -62,7 +62,7 @@ comment_is bytes starts =
     let cs = drop 2 bytes in
     subst (λ x. IsPassed x (comment_len x)) (sym (slashes bytes starts)) (comment_found cs (ltb (1 + (1 + position_or_len is_lf cs)) (suc (suc (length cs)))) refl)
 
-gap_found : (b : ℕ) (bs : List ℕ) (is : Bool) → is_blank b ≡ is → (starts : Bool) → starts_with eqb (b ∷ bs) (codes "//") ≡ starts → 0 < cond is 1 (cond starts (comment_len (b ∷ bs)) 0) → IsPassed (b ∷ bs) (cond is 1 (cond starts (comment_len (b ∷ bs)) 0))
+gap_found : (b : ℕ) (bs : List ℕ) (is : Bool) → is_blank_byte b ≡ is → (starts : Bool) → starts_with eqb (b ∷ bs) (codes "//") ≡ starts → 0 < cond is 1 (cond starts (comment_len (b ∷ bs)) 0) → IsPassed (b ∷ bs) (cond is 1 (cond starts (comment_len (b ∷ bs)) 0))
 gap_found b bs true is starts s some = inl (blank is nothing)
 gap_found b bs false is true s some = comment_is (b ∷ bs) s
 gap_found b bs false is false s some = absurd (omega arith)
@@ -71,18 +71,18 @@ gap_found b bs false is false s some = absurd (omega arith)
 pub gap_is_passed : (bytes : List ℕ) → 0 < gap_len bytes → IsPassed bytes (gap_len bytes)
 unfolding gap_len
 gap_is_passed [] some = absurd (omega arith)
-gap_is_passed (b ∷ bs) some = gap_found b bs (is_blank b) refl (starts_with eqb (b ∷ bs) (codes "//")) refl some
+gap_is_passed (b ∷ bs) some = gap_found b bs (is_blank_byte b) refl (starts_with eqb (b ∷ bs) (codes "//")) refl some
 
 -- no blank and no comment is in front
 pub record NoGap (bytes : List ℕ) : Type 0 where
-  pub no_blank : (b : ℕ) (rest : List ℕ) → bytes ≡ b ∷ rest → IsTrue (is_blank b) → ⊥
+  pub no_blank : (b : ℕ) (rest : List ℕ) → bytes ≡ b ∷ rest → IsTrue (is_blank_byte b) → ⊥
   pub no_comment : (rest : List ℕ) → bytes ≡ codes "//" ++ rest → ⊥
 
-comment_is_some : (cs : List ℕ) (has : Bool) → option_map_or (λ place. place + 1) (cond has (Some (1 + (1 + position_or_len is_lf cs))) None) (suc (suc (length cs))) ≡ 0 → ⊥
+comment_is_some : (cs : List ℕ) (has : Bool) → option_map_or (λ index. index + 1) (cond has (Some (1 + (1 + position_or_len is_lf cs))) None) (suc (suc (length cs))) ≡ 0 → ⊥
 comment_is_some cs true e = omega arith
 comment_is_some cs false e = omega arith
 
-no_blank_at : (b : ℕ) (bs : List ℕ) → gap_len (b ∷ bs) ≡ 0 → is_blank b ≡ true → ⊥
+no_blank_at : (b : ℕ) (bs : List ℕ) → gap_len (b ∷ bs) ≡ 0 → is_blank_byte b ≡ true → ⊥
 unfolding gap_len
 no_blank_at b bs none is = (let found : gap_len (b ∷ bs) ≡ 1 = rw is refl in omega arith)
 

@@ -2,7 +2,7 @@
 use Rattle.std.proofs.Common.{◌≡◌, ℕ, true, List, [], ◌∷◌, ◌++◌, inl, inr, refl, sym, ap, subst, ◌∙◌, append_assoc}
 use Rattle.std.specs.Prelude.{IsTrue}
 use Rattle.std.proofs.lemmas.List.Elements.{All-head, All-tail}
-use Rattle.bspl_parser.specs.Tokens.{is_blank, IsLine, IsGap, nothing, blank, comment, IsEnd}
+use Rattle.bspl_parser.specs.Tokens.{is_blank_byte, IsLine, IsGap, nothing, blank, comment, IsEnd}
 
 -- the byte is no LF
 abbrev pub NotLf : ℕ → Type 0
@@ -10,7 +10,7 @@ NotLf b = b ≡ 10 → ⊥
 
 -- no blank and no comment with an LF begins it
 pub record NoPiece (bytes : List ℕ) : Type 0 where
-  pub no_blank : (b : ℕ) (rest : List ℕ) → bytes ≡ b ∷ rest → IsTrue (is_blank b) → ⊥
+  pub no_blank : (b : ℕ) (rest : List ℕ) → bytes ≡ b ∷ rest → IsTrue (is_blank_byte b) → ⊥
   pub no_comment : (text rest : List ℕ) → IsLine text → bytes ≡ 47 ∷ 47 ∷ (text ++ 10 ∷ rest) → ⊥
 
 -- two lines that end at their LF are one
@@ -32,8 +32,8 @@ no_lf (b ∷ t) [] v line e = (let is : b ≡ 10 = cc in All-head NotLf b t line
 no_lf (b ∷ t) (c ∷ u) v line e = (let tails : t ≡ u ++ 10 ∷ v = cc in no_lf t u v (All-tail NotLf b t line) tails)
 
 -- the slash is no blank
-no_slash : (b : ℕ) → IsTrue (is_blank b) → b ≡ 47 → ⊥
-no_slash b is e = (let at_slash : is_blank 47 ≡ true = subst (λ c. is_blank c ≡ true) e is in cc)
+no_slash : (b : ℕ) → IsTrue (is_blank_byte b) → b ≡ 47 → ⊥
+no_slash b is e = (let at_slash : is_blank_byte 47 ≡ true = subst (λ c. is_blank_byte c ≡ true) e is in cc)
 
 -- behind a gap that two have in front one goes on
 cancel_gap : {p g : List ℕ} → IsGap p → IsGap g → (bytes z : List ℕ) → NoPiece z → p ++ bytes ≡ g ++ z → (more : List ℕ) × IsGap more × (bytes ≡ more ++ z)

@@ -4,12 +4,12 @@ use Rattle.std.specs.Prelude.{IsTrue}
 use Rattle.std.specs.List.{slice_split}
 use Rattle.std.proofs.lemmas.Bool.{and_parts}
 use Rattle.bspl_types.specs.Name.{is_grouped, is_reserved, is_name}
-use Rattle.bspl_parser.specs.declared.naming.State.TheVariants.{Start}
+use Rattle.bspl_parser.specs.declared.name_length.State.TheVariants.{Start}
 use Rattle.bspl_parser.specs.declared.symbol.Symbol.{Symbol}
 use Rattle.bspl_parser.specs.declared.symbol.Symbol.TheVariants.{Roles, Role, Parameters, Parameter, Private, In, Out, Nil, Any, Opt, Key, Arrow, OpenBrace, CloseBrace, OpenBracket, CloseBracket, OpenParen, CloseParen, Comma, Colon}
 use Rattle.bspl_parser.specs.Symbol.{spelling}
 use Rattle.bspl_parser.specs.Tokens.{long_arrow}
-use Rattle.bspl_parser.proofs.NamingLemmas.{accepts, accepts-is_grouped}
+use Rattle.bspl_parser.proofs.NameLengthLemmas.{accepts, accepts-is_grouped}
 
 -- what is accepted and not reserved is a name
 pub accepted_is_name : (text : List ℕ) → accepts Start text ≡ true → is_reserved text ≡ false → IsTrue (is_name text)

@@ -1,26 +1,26 @@
--- Reading one token.
+-- ParseResult one token.
 use Rattle.std.proofs.Common.{◌≡◌, ℕ, Bool, true, false, cond, List, [], ◌∷◌, Option, Some, None, Ok, Err, inl, inr, refl, ap, ◌∙◌}
 use Rattle.std.specs.Option.{option_map_or}
 use Rattle.std.proofs.lemmas.Bool.{cases_Bool}
 use Rattle.bspl_parser.specs.declared.document.Adorn.{Adorn}
 use Rattle.bspl_parser.specs.declared.document.Adorn.TheVariants as adorn
-use Rattle.bspl_parser.specs.declared.fault.Fault.{Fault}
-use Rattle.bspl_parser.specs.declared.fault.Fault.TheVariants.{At}
+use Rattle.bspl_parser.specs.declared.parse_error.ErrorPosition.{ErrorPosition}
+use Rattle.bspl_parser.specs.declared.parse_error.ErrorPosition.TheVariants.{At}
 use Rattle.bspl_parser.specs.declared.symbol.Symbol.{Symbol}
 use Rattle.bspl_parser.specs.declared.symbol.Symbol.TheVariants.{In, Out, Nil, Any, Opt}
 use Rattle.bspl_parser.specs.declared.token.Token.{Token}
 use Rattle.bspl_parser.specs.declared.token.Token.TheVariants.{Name, Fixed}
 use Rattle.bspl_parser.specs.declared.word.Word.{Word}
-use Rattle.bspl_parser.specs.Symbol.{same_symbol}
-use Rattle.bspl_parser.specs.Sign.{Named, Placed, Plain, Either}
+use Rattle.bspl_parser.specs.inner.SymbolTable.{same_symbol}
+use Rattle.bspl_parser.specs.Sign.{Named, Located, Plain, OneOf}
 use Rattle.bspl_parser.specs.Grammar.{signs_of_word, symbol_of}
-use Rattle.bspl_parser.specs.Reading.{Reading}
-use Rattle.bspl_parser.specs.TokenReading.{begins_with, word_at, symbol_at, either_at, adorn_of, adorn_at}
+use Rattle.bspl_parser.specs.inner.ParseResult.{ParseResult}
+use Rattle.bspl_parser.specs.inner.TokenParsers.{begins_with, word_at, symbol_at, either_at, adorn_of, adorn_at}
 use Rattle.bspl_parser.proofs.SymbolLemmas.{same_symbol-refl, same_symbol-true}
 use Rattle.bspl_parser.proofs.Spelled.{Spelled, Reads, ok_is}
 
 -- a reading behind a test that it passed
-pub guard_ok : {A : Type 0} (b : Bool) (x y : A) (fault : Fault) → cond b (Ok x) (Err fault) ≡ Ok y → (b ≡ true) × (x ≡ y)
+pub guard_ok : {A : Type 0} (b : Bool) (x y : A) (fault : ErrorPosition) → cond b (Ok x) (Err fault) ≡ Ok y → (b ≡ true) × (x ≡ y)
 guard_ok true x y fault e = (refl, ok_is x y e)
 guard_ok false x y fault e = absurd cc
 
@@ -40,37 +40,37 @@ pub word_reads : Reads word_at signs_of_word (λ w. Unit {0}) (λ ts. Unit {0})
 word_reads = record { sound = λ ts rest w e. (word_sound ts rest w e, tt); complete = λ ts rest w spelled good may. word_complete ts rest w spelled }
 
 -- a symbol at its place
-pub symbol_sound : (s : Symbol) (ts rest : List Token) (o : ℕ) → symbol_at s ts ≡ Ok (o, rest) → Spelled (Placed s o ∷ []) ts rest
+pub symbol_sound : (s : Symbol) (ts rest : List Token) (o : ℕ) → symbol_at s ts ≡ Ok (o, rest) → Spelled (Located s o ∷ []) ts rest
 unfolding symbol_at
 symbol_sound s [] rest o e = absurd cc
 symbol_sound s (Name v ∷ ts) rest o e = absurd cc
 symbol_sound s (Fixed t p ∷ ts) rest o e =
     let passed = guard_ok (same_symbol t s) (p, ts) (o, rest) (At p) e in
     let same : t ≡ s = same_symbol-true t s passed.0 in
-    let place : p ≡ o = ap (λ q. q.0) passed.1 in
+    let same_offset : p ≡ o = ap (λ q. q.0) passed.1 in
     (Fixed t p, ts, refl, cc, ap (λ q. q.1) passed.1)
 
 -- a symbol that is spelled is read
-pub symbol_complete : (s : Symbol) (ts rest : List Token) (o : ℕ) → Spelled (Placed s o ∷ []) ts rest → symbol_at s ts ≡ Ok (o, rest)
+pub symbol_complete : (s : Symbol) (ts rest : List Token) (o : ℕ) → Spelled (Located s o ∷ []) ts rest → symbol_at s ts ≡ Ok (o, rest)
 unfolding symbol_at
 symbol_complete s ts rest o spelled = rw (spelled.2, spelled.3, same_symbol-refl s, spelled.4) refl
 
 -- a symbol, wherever it stands
 pub plain_sound : (s : Symbol) (ts rest : List Token) (o : ℕ) → symbol_at s ts ≡ Ok (o, rest) → Spelled (Plain s ∷ []) ts rest
 plain_sound s ts rest o e =
-    let placed = symbol_sound s ts rest o e in
-    (placed.0, placed.1, placed.2, (o, placed.3), placed.4)
+    let at_offset = symbol_sound s ts rest o e in
+    (at_offset.0, at_offset.1, at_offset.2, (o, at_offset.3), at_offset.4)
 
 -- and so is it wherever it stands
 pub plain_complete : (s : Symbol) (ts rest : List Token) → Spelled (Plain s ∷ []) ts rest → (o : ℕ) × (symbol_at s ts ≡ Ok (o, rest))
 plain_complete s ts rest spelled = (spelled.3.0, symbol_complete s ts rest spelled.3.0 (spelled.0, spelled.1, spelled.2, spelled.3.1, spelled.4))
 
 -- one of two symbols
-pub either_sound : (a b : Symbol) (ts rest : List Token) (o : ℕ) → either_at a b ts ≡ Ok (o, rest) → Spelled (Either a b ∷ []) ts rest
+pub either_sound : (a b : Symbol) (ts rest : List Token) (o : ℕ) → either_at a b ts ≡ Ok (o, rest) → Spelled (OneOf a b ∷ []) ts rest
 either_sound a b ts rest o e =
-    (elim (begins_with a ts) as (λ goes. cond goes (symbol_at a ts) (symbol_at b ts) ≡ Ok (o, rest) → Spelled (Either a b ∷ []) ts rest) [
-      | true ↦ λ read. let placed = symbol_sound a ts rest o read in (placed.0, placed.1, placed.2, (o, inl placed.3), placed.4)
-      | false ↦ λ read. let placed = symbol_sound b ts rest o read in (placed.0, placed.1, placed.2, (o, inr placed.3), placed.4)
+    (elim (begins_with a ts) as (λ goes. cond goes (symbol_at a ts) (symbol_at b ts) ≡ Ok (o, rest) → Spelled (OneOf a b ∷ []) ts rest) [
+      | true ↦ λ read. let at_offset = symbol_sound a ts rest o read in (at_offset.0, at_offset.1, at_offset.2, (o, inl at_offset.3), at_offset.4)
+      | false ↦ λ read. let at_offset = symbol_sound b ts rest o read in (at_offset.0, at_offset.1, at_offset.2, (o, inr at_offset.3), at_offset.4)
     ]) e
 
 -- the first of two is read
@@ -88,7 +88,7 @@ either_second a b rest o =
     ]
 
 -- one of two that is spelled is read
-pub either_complete : (a b : Symbol) (ts rest : List Token) → Spelled (Either a b ∷ []) ts rest → (o : ℕ) × (either_at a b ts ≡ Ok (o, rest))
+pub either_complete : (a b : Symbol) (ts rest : List Token) → Spelled (OneOf a b ∷ []) ts rest → (o : ℕ) × (either_at a b ts ≡ Ok (o, rest))
 either_complete a b ts rest spelled =
     let o = spelled.3.0 in
     elim spelled.3.1 [
@@ -114,26 +114,26 @@ adorn_of-symbol_of adorn.Any = refl
 adorn_of-symbol_of adorn.Opt = refl
 
 -- the adornment that is found is spelled so
-adorn_found : (s : Symbol) (p : ℕ) (ts rest : List Token) (a : Adorn) (o : ℕ) (found : Option Adorn) → adorn_of s ≡ found → option_map_or {U = Reading (Adorn × ℕ)} (λ b. Ok ((b, p), ts)) found (Err (At p)) ≡ Ok ((a, o), rest) → Spelled (Placed (symbol_of a) o ∷ []) (Fixed s p ∷ ts) rest
+adorn_found : (s : Symbol) (p : ℕ) (ts rest : List Token) (a : Adorn) (o : ℕ) (found : Option Adorn) → adorn_of s ≡ found → option_map_or {U = ParseResult (Adorn × ℕ)} (λ b. Ok ((b, p), ts)) found (Err (At p)) ≡ Ok ((a, o), rest) → Spelled (Located (symbol_of a) o ∷ []) (Fixed s p ∷ ts) rest
 adorn_found s p ts rest a o None is e = absurd cc
 adorn_found s p ts rest a o (Some b) is e =
     let same = ok_is ((b, p), ts) ((a, o), rest) e in
     let symbol : s ≡ symbol_of a = adorn_of-some s b is ∙ ap (λ q. symbol_of q.0.0) same in
-    let place : p ≡ o = ap (λ q. q.0.1) same in
+    let same_offset : p ≡ o = ap (λ q. q.0.1) same in
     (Fixed s p, ts, refl, cc, ap (λ q. q.1) same)
 
 -- the adornment that is read is spelled so
-pub adorn_sound : (ts rest : List Token) (a : Adorn) (o : ℕ) → adorn_at ts ≡ Ok ((a, o), rest) → Spelled (Placed (symbol_of a) o ∷ []) ts rest
+pub adorn_sound : (ts rest : List Token) (a : Adorn) (o : ℕ) → adorn_at ts ≡ Ok ((a, o), rest) → Spelled (Located (symbol_of a) o ∷ []) ts rest
 unfolding adorn_at
 adorn_sound [] rest a o e = absurd cc
 adorn_sound (Name v ∷ ts) rest a o e = absurd cc
 adorn_sound (Fixed s p ∷ ts) rest a o e = adorn_found s p ts rest a o (adorn_of s) refl e
 
 -- and the one that is spelled so is read
-pub adorn_complete : (ts rest : List Token) (a : Adorn) (o : ℕ) → Spelled (Placed (symbol_of a) o ∷ []) ts rest → adorn_at ts ≡ Ok ((a, o), rest)
+pub adorn_complete : (ts rest : List Token) (a : Adorn) (o : ℕ) → Spelled (Located (symbol_of a) o ∷ []) ts rest → adorn_at ts ≡ Ok ((a, o), rest)
 unfolding adorn_at
 adorn_complete ts rest a o spelled = rw (spelled.2, spelled.3, adorn_of-symbol_of a, spelled.4) refl
 
 -- the value of two readings that are one
-pub first_of_same : {X : Type 0} {rest : List Token} (x y : X) → ◌≡◌ {A = Reading X} (Ok (x, rest)) (Ok (y, rest)) → x ≡ y
+pub first_of_same : {X : Type 0} {rest : List Token} (x y : X) → ◌≡◌ {A = ParseResult X} (Ok (x, rest)) (Ok (y, rest)) → x ≡ y
 first_of_same {X} {rest} x y e = ap (λ p. p.0) (ok_is (x, rest) (y, rest) e)

@@ -8,13 +8,13 @@ use Rattle.bspl_parser.specs.Layout.{printed}
 use Rattle.bspl_parser.specs.Spelling.{IsDocument}
 use Rattle.bspl_parser.specs.Tokens.{Tokens, nothing}
 use Rattle.bspl_parser.proofs.AlikeLemmas.{formed_alike}
-use Rattle.bspl_parser.proofs.LaidDocuments.{document_laid}
+use Rattle.bspl_parser.proofs.PrintsBackDocuments.{document_prints_back}
 use Rattle.bspl_parser.proofs.Spelled.{whole_from_Spelled}
 
 -- the layout of a well-formed document spells one that is alike it
 pub printed_is_read : (d : Document) → IsDocument d → ReadsBack (printed d) d
 printed_is_read d formed =
-    let found = (document_laid d).laid 0 [] [] tt ([], [], nothing, refl, inl refl) in
+    let found = (document_prints_back d).prints_back 0 [] [] tt ([], [], nothing, refl, inl refl) in
     record {
       document = found.value;
       read = record {

@@ -2,12 +2,12 @@
 use Rattle.std.proofs.Common.{◌≡◌, ℕ, ◌+◌, ◌-◌, ◌<◌, ◌≤◌, List, [], ◌∷◌, ◌++◌, length, take, drop, Option, Some, None, sym, ap, subst, ◌∙◌, arith}
 use Rattle.std.specs.Prelude.{IfSome}
 use Rattle.std.proofs.lemmas.List.{take_rest, drop_all, drop-drop, length-drop}
-use Rattle.bspl_parser.specs.declared.scanning.Kind.{Kind}
+use Rattle.bspl_parser.specs.declared.scanner.Kind.{Kind}
 use Rattle.bspl_parser.specs.declared.token.Token.{Token}
-use Rattle.bspl_parser.specs.Scanning.{gap_len, front_token, IsTokenOf}
+use Rattle.bspl_parser.specs.inner.Scanner.{gap_len, first_token, IsTokenOf}
 use Rattle.bspl_parser.specs.Tokens.{Tokens, IsBadByte}
 use Rattle.bspl_parser.proofs.GapLengths.{gap_is_passed}
-use Rattle.bspl_parser.proofs.Scans.{IsFront, front_is_longest}
+use Rattle.bspl_parser.proofs.Scans.{IsFirstToken, first_is_longest}
 use Rattle.bspl_parser.proofs.Scanned.{IsScanned, at_end, gap_skipped, token_taken, bad_byte}
 
 -- what is left of the text, as a slice of it has it
@@ -30,33 +30,33 @@ module _ (text : List ℕ) (tokens : List Token) (offset : ℕ) (at_offset : IsA
       subst (IsScanned text tokens (offset + n)) (drop-drop n offset text) (subst (λ m. IsScanned text tokens (offset + m) (drop m (drop offset text))) (sym len) skipped)
 
   -- a token was taken
-  pub token_step : (k : Kind) (n : ℕ) (t : Token) → Some (k, n) ≡ front_token (left text offset) → IsTokenOf k (take n (left text offset)) offset t → IsAt text (tokens ++ t ∷ []) (offset + n)
+  pub token_step : (k : Kind) (n : ℕ) (t : Token) → Some (k, n) ≡ first_token (left text offset) → IsTokenOf k (take n (left text offset)) offset t → IsAt text (tokens ++ t ∷ []) (offset + n)
   token_step k n t found is =
       let rest = take_rest text offset in
-      let taken = token_taken text tokens offset (drop offset text) k n t at_offset (sym (found ∙ ap front_token rest)) (subst (λ r. IsTokenOf k (take n r) offset t) rest is) in
+      let taken = token_taken text tokens offset (drop offset text) k n t at_offset (sym (found ∙ ap first_token rest)) (subst (λ r. IsTokenOf k (take n r) offset t) rest is) in
       subst (IsScanned text (tokens ++ t ∷ []) (offset + n)) (drop-drop n offset text) taken
 
   -- neither was found
-  pub fault_step : offset < length text → (n : ℕ) → n ≡ gap_len (left text offset) → n ≤ 0 → None ≡ front_token (left text offset) → IsBadByte text offset
+  pub fault_step : offset < length text → (n : ℕ) → n ≡ gap_len (left text offset) → n ≤ 0 → None ≡ first_token (left text offset) → IsBadByte text offset
   fault_step within n is nothing none =
       let rest = take_rest text offset in
       let len : n ≡ gap_len (drop offset text) = is ∙ ap gap_len rest in
       let long = length-drop offset text in
-      bad_byte text tokens offset (drop offset text) at_offset (omega arith) (omega arith) (ap front_token (sym rest) ∙ sym none)
+      bad_byte text tokens offset (drop offset text) at_offset (omega arith) (omega arith) (ap first_token (sym rest) ∙ sym none)
 
   -- the end was reached
   pub last_step : length text ≤ offset → Tokens text tokens
   last_step past = at_end text tokens offset (drop offset text) at_offset (drop_all offset text past)
 
 -- what is known of a token that is found in what is left
-pub found_front : (text : List ℕ) (k : Kind) (n : ℕ) → Some (k, n) ≡ front_token text → IsFront text k n
-found_front text k n found = front_is_longest text k n (sym found)
+pub found_first : (text : List ℕ) (k : Kind) (n : ℕ) → Some (k, n) ≡ first_token text → IsFirstToken text k n
+found_first text k n found = first_is_longest text k n (sym found)
 
 -- what was taken lies within the text
 pub room_left : (text : List ℕ) (offset n : ℕ) → offset ≤ length text → n ≤ length (left text offset) → offset + n ≤ length text
 room_left text offset n within fits = let rest = ap length (take_rest text offset) in omega (arith, length-drop offset text)
 
 -- so many bytes has a token that is found
-pub front_within : (bytes : List ℕ) (found : Option (Kind × ℕ)) → found ≡ front_token bytes → IfSome found (λ f. (0 < f.1) × (f.1 ≤ length bytes))
-front_within bytes None is = tt
-front_within bytes (Some f) is = let front = front_is_longest bytes f.0 f.1 (sym is) in (front.some, front.within)
+pub first_within : (bytes : List ℕ) (found : Option (Kind × ℕ)) → found ≡ first_token bytes → IfSome found (λ f. (0 < f.1) × (f.1 ≤ length bytes))
+first_within bytes None is = tt
+first_within bytes (Some f) is = let prefix = first_is_longest bytes f.0 f.1 (sym is) in (prefix.some, prefix.within)

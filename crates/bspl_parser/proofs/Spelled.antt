@@ -1,10 +1,10 @@
 -- Tokens that begin with what some signs say.
 use Rattle.std.proofs.Common.{◌≡◌, ◌<◌, List, [], ◌∷◌, ◌++◌, length, Result, Ok, Err, refl, subst, arith}
 use Rattle.std.specs.List.{AllZip}
-use Rattle.bspl_parser.specs.declared.fault.Fault.{Fault}
+use Rattle.bspl_parser.specs.declared.parse_error.ErrorPosition.{ErrorPosition}
 use Rattle.bspl_parser.specs.declared.token.Token.{Token}
 use Rattle.bspl_parser.specs.Sign.{Sign, Matches}
-use Rattle.bspl_parser.specs.Reading.{◌>>=◌, Reading}
+use Rattle.bspl_parser.specs.inner.ParseResult.{◌>>=◌, ParseResult}
 
 -- the tokens begin with what the signs say, and the rest comes then
 abbrev pub Spelled : List Sign → List Token → List Token → Type 0
@@ -36,12 +36,12 @@ whole_from_Spelled [] ts spelled = rw spelled tt
 whole_from_Spelled (s ∷ signs) ts spelled = rw spelled.2 (spelled.3, whole_from_Spelled signs spelled.1 spelled.4)
 
 -- the reading gives what the signs spell, and nothing else; what comes after may have to be of a kind
-pub record Reads {X : Type 0} (one : List Token → Reading X) (signs : X → List Sign) (Good : X → Type 0) (May : List Token → Type 0) : Type 0 where
+pub record Reads {X : Type 0} (one : List Token → ParseResult X) (signs : X → List Sign) (Good : X → Type 0) (May : List Token → Type 0) : Type 0 where
   pub sound : (ts rest : List Token) (x : X) → one ts ≡ Ok (x, rest) → Spelled (signs x) ts rest × Good x
   pub complete : (ts rest : List Token) (x : X) → Spelled (signs x) ts rest → Good x → May rest → one ts ≡ Ok (x, rest)
 
 -- a step that did not fail, and what goes on with its value
-pub bind_then : {A B C : Type 0} (r : Result A Fault) (f : A → Result B Fault) (y : B) → (r >>= f) ≡ Ok y → ((x : A) → r ≡ Ok x → f x ≡ Ok y → C) → C
+pub bind_then : {A B C : Type 0} (r : Result A ErrorPosition) (f : A → Result B ErrorPosition) (y : B) → (r >>= f) ≡ Ok y → ((x : A) → r ≡ Ok x → f x ≡ Ok y → C) → C
 bind_then (Ok x) f y e goes_on = goes_on x refl e
 bind_then (Err fault) f y e goes_on = absurd cc
 
@@ -50,11 +50,11 @@ pub split_then : {C : Type 0} (signs others : List Sign) (ts rest : List Token) 
 split_then signs others ts rest both goes_on = let split = Spelled-split signs others ts rest both in goes_on split.0 split.1 split.2
 
 -- one value of `Ok`
-pub ok_is : {A : Type 0} (x y : A) → ◌≡◌ {A = Result A Fault} (Ok x) (Ok y) → x ≡ y
+pub ok_is : {A : Type 0} (x y : A) → ◌≡◌ {A = Result A ErrorPosition} (Ok x) (Ok y) → x ≡ y
 ok_is x y e = cc
 
 -- what was taken from the front spells a good value
-pub took : {X : Type 0} (signs : X → List Sign) (Good : X → Type 0) (ts : List Token) (made p : X × List Token) → ◌≡◌ {A = Reading X} (Ok made) (Ok p) → Spelled (signs made.0) ts made.1 → Good made.0 → Spelled (signs p.0) ts p.1 × Good p.0
+pub took : {X : Type 0} (signs : X → List Sign) (Good : X → Type 0) (ts : List Token) (made p : X × List Token) → ◌≡◌ {A = ParseResult X} (Ok made) (Ok p) → Spelled (signs made.0) ts made.1 → Good made.0 → Spelled (signs p.0) ts p.1 × Good p.0
 took {X} signs Good ts made p e spelled good = subst (λ (q : X × List Token). Spelled (signs q.0) ts q.1 × Good q.0) (ok_is made p e) (spelled, good)
 
 -- signs are not for nothing

@@ -4,24 +4,25 @@ use Rattle.std.specs.List.{find}
 use Rattle.std.specs.Str.{bytes_eq}
 use Rattle.std.proofs.lemmas.Bool.{cases_Bool, eqb-true}
 use Rattle.bspl_types.specs.Name.{begins_name, is_name}
-use Rattle.bspl_parser.specs.declared.naming.State.TheVariants.{Start}
+use Rattle.bspl_parser.specs.declared.name_length.State.TheVariants.{Start}
 use Rattle.bspl_parser.specs.declared.symbol.Symbol.{Symbol}
 use Rattle.bspl_parser.specs.declared.symbol.Symbol.TheVariants.{Roles, Role, Parameters, Parameter, Private, In, Out, Nil, Any, Opt, Key, Arrow, OpenBrace, CloseBrace, OpenBracket, CloseBracket, OpenParen, CloseParen, Comma, Colon}
 use Rattle.bspl_parser.specs.declared.token.Token.{Token}
 use Rattle.bspl_parser.specs.declared.token.Token.TheVariants.{Name, Fixed}
-use Rattle.bspl_parser.specs.Symbol.{spelling, words, marks}
-use Rattle.bspl_parser.specs.Scanning.{mark_at}
-use Rattle.bspl_parser.specs.Tokens.{is_blank, long_arrow, SpellsSymbol, SpellsToken}
+use Rattle.bspl_parser.specs.Symbol.{spelling}
+use Rattle.bspl_parser.specs.inner.SymbolTable.{words, marks}
+use Rattle.bspl_parser.specs.inner.Scanner.{mark_at}
+use Rattle.bspl_parser.specs.Tokens.{is_blank_byte, long_arrow, SpellsSymbol, SpellsToken}
 use Rattle.bspl_parser.proofs.Gaps.{NoPiece}
 use Rattle.bspl_parser.proofs.NameLemmas.{name_is_accepted}
-use Rattle.bspl_parser.proofs.NamingLemmas.{accepts}
+use Rattle.bspl_parser.proofs.NameLengthLemmas.{accepts}
 
 -- it begins with a byte that is no blank and no slash
 pub record IsSolid (text : List ℕ) : Type 0 where
   pub first : ℕ
   pub others : List ℕ
   pub is : text ≡ first ∷ others
-  pub no_blank : is_blank first ≡ false
+  pub no_blank : is_blank_byte first ≡ false
   pub no_slash : eqb first 47 ≡ false
 
 -- the text of a mark: the mark is found at the front of what begins with it, which begins no name
@@ -190,7 +191,7 @@ spelling_is text s t (inr of_s) (inl of_t) = absurd (other_spelling t text of_t 
 spelling_is text s t (inr of_s) (inr of_t) = of_s.0 ∙ sym of_t.0
 
 -- neither a blank nor a slash begins a name
-begins_solid : (b : ℕ) → begins_name b ≡ true → (is_blank b ≡ false) × (eqb b 47 ≡ false)
+begins_solid : (b : ℕ) → begins_name b ≡ true → (is_blank_byte b ≡ false) × (eqb b 47 ≡ false)
 begins_solid b begins = (no_blank, no_slash)
   where
     no : (c : ℕ) → begins_name c ≡ false → eqb b c ≡ false
@@ -203,7 +204,7 @@ begins_solid b begins = (no_blank, no_slash)
     no_slash : eqb b 47 ≡ false
     no_slash = no 47 refl
 
-    no_blank : is_blank b ≡ false
+    no_blank : is_blank_byte b ≡ false
     no_blank = rw (no 32 refl, no 9 refl, no 10 refl, no 13 refl) refl
 
 word_solid : (text : List ℕ) → accepts Start text ≡ true → IsSolid text
@@ -225,8 +226,8 @@ texts_solid text t spells =
 -- what begins with a solid text has no piece of a gap in front
 pub solid_is_no_piece : (text rest : List ℕ) → IsSolid text → NoPiece (text ++ rest)
 solid_is_no_piece text rest solid =
-    let front : text ++ rest ≡ solid.first ∷ (solid.others ++ rest) = ap (λ x. x ++ rest) solid.is in
+    let prefix : text ++ rest ≡ solid.first ∷ (solid.others ++ rest) = ap (λ x. x ++ rest) solid.is in
     record {
-      no_blank = λ b more e is. (let first : solid.first ≡ b = (let both = sym front ∙ e in cc) in let other : is_blank b ≡ false = subst (λ c. is_blank c ≡ false) first solid.no_blank in cc);
-      no_comment = λ t more line e. (let first : solid.first ≡ 47 = (let both = sym front ∙ e in cc) in let other : eqb 47 47 ≡ false = subst (λ c. eqb c 47 ≡ false) first solid.no_slash in cc);
+      no_blank = λ b more e is. (let first : solid.first ≡ b = (let both = sym prefix ∙ e in cc) in let other : is_blank_byte b ≡ false = subst (λ c. is_blank_byte c ≡ false) first solid.no_blank in cc);
+      no_comment = λ t more line e. (let first : solid.first ≡ 47 = (let both = sym prefix ∙ e in cc) in let other : eqb 47 47 ≡ false = subst (λ c. eqb c 47 ≡ false) first solid.no_slash in cc);
     }

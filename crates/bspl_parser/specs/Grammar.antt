@@ -1,4 +1,5 @@
--- The grammar: for each thing the signs that spell it, in reading order, in one line for each line of the grammar.
+-- The grammar: the signs that spell each part of a document, in reading order. Above each
+-- definition stands its line of the grammar.
 use Rattle.std.specs.Prelude.{ℕ, List, [], ◌∷◌, ◌++◌, Option, Some, None}
 use Rattle.std.specs.List.{flat_map}
 use Rattle.bspl_parser.specs.declared.document.Adorn.{Adorn}
@@ -11,9 +12,13 @@ use Rattle.bspl_parser.specs.declared.document.Item.TheVariants as item
 use Rattle.bspl_parser.specs.declared.document.Declaration.{Declaration}
 use Rattle.bspl_parser.specs.declared.document.Document.{Document}
 use Rattle.bspl_parser.specs.declared.symbol.Symbol.{Symbol}
-use Rattle.bspl_parser.specs.declared.symbol.Symbol.TheVariants.{Roles, Role, Parameters, Parameter, Private, In, Out, Nil, Any, Opt, Key, Arrow, OpenBrace, CloseBrace, OpenBracket, CloseBracket, OpenParen, CloseParen, Colon}
+use Rattle.bspl_parser.specs.declared.symbol.Symbol.TheVariants.{Roles, Role, Parameters, Parameter}
+use Rattle.bspl_parser.specs.declared.symbol.Symbol.TheVariants.{Private, In, Out, Nil, Any, Opt}
+use Rattle.bspl_parser.specs.declared.symbol.Symbol.TheVariants.{Key, Arrow, OpenBrace, CloseBrace}
+use Rattle.bspl_parser.specs.declared.symbol.Symbol.TheVariants.{OpenBracket, CloseBracket}
+use Rattle.bspl_parser.specs.declared.symbol.Symbol.TheVariants.{OpenParen, CloseParen, Colon}
 use Rattle.bspl_parser.specs.declared.word.Word.{Word}
-use Rattle.bspl_parser.specs.Sign.{Sign, Named, Placed, Plain, Either, after_commas, listed}
+use Rattle.bspl_parser.specs.Sign.{Sign, Named, Located, Plain, OneOf, after_commas, listed}
 
 -- name
 abbrev pub signs_of_word : Word → List Sign
@@ -30,19 +35,23 @@ symbol_of adorn.Opt = Opt
 -- [ "key" ]
 abbrev pub signs_of_key : Option ℕ → List Sign
 signs_of_key None = []
-signs_of_key (Some offset) = Placed Key offset ∷ []
+signs_of_key (Some offset) = Located Key offset ∷ []
 
 -- ( "in" | "out" | "any" | "opt" ) name [ "key" ] | "nil" name
 abbrev pub signs_of_formal : Formal → List Sign
-signs_of_formal f = Placed (symbol_of f.adorn) f.offset ∷ Named f.name ∷ signs_of_key f.key
+signs_of_formal f = Located (symbol_of f.adorn) f.offset ∷ Named f.name ∷ signs_of_key f.key
 
 -- name arrow name ":" name "[" formal { "," formal } "]"
 abbrev pub signs_of_message : Schema → List Sign
-signs_of_message m = Named m.sender ∷ Plain Arrow ∷ Named m.receiver ∷ Plain Colon ∷ Named m.name ∷ Plain OpenBracket ∷ (listed signs_of_formal m.params ++ Plain CloseBracket ∷ [])
+signs_of_message m =
+    Named m.sender ∷ Plain Arrow ∷ Named m.receiver ∷ Plain Colon ∷ Named m.name ∷
+    Plain OpenBracket ∷ (listed signs_of_formal m.params ++ Plain CloseBracket ∷ [])
 
 -- name "(" name { "," name } { "," formal } ")"
 abbrev pub signs_of_reference : Reference → List Sign
-signs_of_reference r = Named r.protocol ∷ Plain OpenParen ∷ (listed signs_of_word r.roles ++ (after_commas signs_of_formal r.params ++ Plain CloseParen ∷ []))
+signs_of_reference r =
+    Named r.protocol ∷ Plain OpenParen ∷ (listed signs_of_word r.roles ++
+    (after_commas signs_of_formal r.params ++ Plain CloseParen ∷ []))
 
 -- message | reference
 abbrev pub signs_of_item : Item → List Sign
@@ -56,11 +65,15 @@ signs_of_private (w ∷ ws) = Plain Private ∷ listed signs_of_word (w ∷ ws)
 
 -- ( "roles" | "role" ) name { "," name } ( "parameters" | "parameter" ) formal { "," formal }
 abbrev pub signs_of_head : Declaration → List Sign
-signs_of_head d = Either Roles Role ∷ (listed signs_of_word d.roles ++ Either Parameters Parameter ∷ listed signs_of_formal d.public)
+signs_of_head d =
+    OneOf Roles Role ∷ (listed signs_of_word d.roles ++
+    OneOf Parameters Parameter ∷ listed signs_of_formal d.public)
 
 -- name "{" roles params [ private ] { item } "}"
 abbrev pub signs_of_declaration : Declaration → List Sign
-signs_of_declaration d = Named d.name ∷ Plain OpenBrace ∷ (signs_of_head d ++ (signs_of_private d.private ++ (flat_map signs_of_item d.body ++ Plain CloseBrace ∷ [])))
+signs_of_declaration d =
+    Named d.name ∷ Plain OpenBrace ∷ (signs_of_head d ++ (signs_of_private d.private ++
+    (flat_map signs_of_item d.body ++ Plain CloseBrace ∷ [])))
 
 -- protocol { protocol }
 abbrev pub signs_of_document : Document → List Sign

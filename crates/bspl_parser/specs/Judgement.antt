@@ -1,10 +1,8 @@
--- What a text spells, and the places at which it is refused.
+-- What a text spells, and the offset at which it is refused.
 use Rattle.std.specs.Prelude.{◌≡◌, ℕ, List, [], ◌∷◌, ◌++◌, length, ◌⊎◌}
 use Rattle.bspl_types.specs.declared.refusals.Refusal.{Refusal}
 use Rattle.bspl_types.specs.declared.refusals.Refusal.TheVariants.{Byte, Syntax, NoMemory}
 use Rattle.bspl_parser.specs.declared.document.Document.{Document}
-use Rattle.bspl_parser.specs.declared.fault.Fault.{Fault}
-use Rattle.bspl_parser.specs.declared.fault.Fault.TheVariants.{At, End}
 use Rattle.bspl_parser.specs.declared.token.Token.{Token}
 use Rattle.bspl_parser.specs.Spelling.{Spells}
 use Rattle.bspl_parser.specs.Token.{offset_of}
@@ -16,29 +14,30 @@ pub record IsText (text : List ℕ) (d : Document) : Type 0 where
   pub scanned : Tokens text tokens
   pub spelled : Spells tokens d
 
--- some tokens behind these make a document
+-- these tokens begin a document: some tokens after them complete it
 abbrev pub IsViable : List Token → Type 0
 IsViable tokens = (more : List Token) × (d : Document) × Spells (tokens ++ more) d
 
--- the first token up to which no document agrees: some document begins with those before it, and none with it too
+-- the first token that no document can have there: some document begins with the tokens before
+-- it, and none with it too
 pub record IsBadToken (text : List ℕ) (offset : ℕ) : Type 0 where
-  pub front : List Token
+  pub prefix : List Token
   pub token : Token
   pub rest : List Token
-  pub scanned : Tokens text (front ++ token ∷ rest)
-  pub placed : offset_of token ≡ offset
-  pub before : IsViable front
-  pub dead : ¬ IsViable (front ++ token ∷ [])
+  pub scanned : Tokens text (prefix ++ token ∷ rest)
+  pub at_offset : offset_of token ≡ offset
+  pub viable : IsViable prefix
+  pub not_viable : ¬ IsViable (prefix ++ token ∷ [])
 
--- the text's tokens spell no document, but some document begins with them; the place is the end of the text
+-- the text's tokens spell no document, but some document begins with them; the offset is the end
 pub record IsUnfinished (text : List ℕ) (offset : ℕ) : Type 0 where
   pub tokens : List Token
   pub scanned : Tokens text tokens
   pub viable : IsViable tokens
   pub none : (d : Document) → ¬ Spells tokens d
-  pub placed : offset ≡ length text
+  pub at_offset : offset ≡ length text
 
--- all tokens are good, and there they go wrong
+-- the bytes are tokens, which are invalid from that offset on
 abbrev pub IsBadSyntax : List ℕ → ℕ → Type 0
 IsBadSyntax text offset = IsBadToken text offset ⊎ IsUnfinished text offset
 
@@ -49,13 +48,8 @@ IsRefusedFor text (Syntax offset) = IsBadSyntax text offset
 IsRefusedFor text NoMemory = Unit {0}
 IsRefusedFor text other = ⊥
 
--- where a fault stands in a text of that length
-abbrev pub place_of : Fault → ℕ → ℕ
-place_of (At offset) end = offset
-place_of End end = end
-
 -- no two hold together
-pub record AreApart (P Q R : Type 0) : Type 0 where
+pub record AreExclusive (P Q R : Type 0) : Type 0 where
   pub first : P → ¬ Q
   pub second : P → ¬ R
   pub third : Q → ¬ R

@@ -1,15 +1,12 @@
-pub mod Alike
-pub mod Grammar
-pub mod Judgement
-pub mod Layout
-pub mod Naming
-pub mod PhraseReading
-pub mod Reading
-pub mod Scanning
-pub mod Sign
-pub mod Spelling
+-- What `parse` and `print` promise, in reading order; then what only private functions cite.
+pub use Rattle.bspl_types.specs.Name
 pub mod Symbol
 pub mod Token
-pub mod TokenReading
 pub mod Tokens
-pub use Rattle.bspl_types.specs.Name
+pub mod Sign
+pub mod Grammar
+pub mod Spelling
+pub mod Judgement
+pub mod Layout
+pub mod Alike
+pub mod inner

@@ -44,7 +44,7 @@ pub record IsDocument (d : Document) : Type 0 where
   pub some : d.protocols ≢ []
   pub each : All IsDeclaration d.protocols
 
--- the tokens spell the document: it is well formed, and they are its signs one by one
+-- the tokens spell the document: it is well formed, and each token is one that its sign allows
 pub record Spells (tokens : List Token) (d : Document) : Type 0 where
   pub formed : IsDocument d
   pub signed : AllZip Matches (signs_of_document d) tokens

@@ -1,14 +1,14 @@
 ghost use Rattle.std.specs.Prelude.{◌≡◌, ◌++◌, codes, OnOk};
 ghost use Rattle.std.specs.List.{flat_map, join_by};
-ghost use Rattle.bspl_parser.specs.Layout.{line};
+ghost use Rattle.bspl_parser.specs.Layout.{indented_line};
 
 use bspl_types::{Bytes, NoMemory};
 
-/// What has one text in the layout of documents.
+/// What is printed in one way.
 pub trait Print {
     ghost use Rattle.std.specs.Prelude.{List, ℕ};
 
-    /// Its text.
+    /// Its text in the layout of documents.
     ghost printed: { Self → List ℕ };
 
     /// Adds its text.
@@ -16,7 +16,7 @@ pub trait Print {
         ensures { OnOk result (text.new ≡ text.old ++ printed self.now) };
 }
 
-/// Adds the text of each, and those bytes before each.
+/// Adds the text of each item, with those bytes before it.
 pub fn add_each<T: Print>(text: &mut Bytes, before: &[u8], items: &[T]) -> Result<(), NoMemory>
     ensures { OnOk result
         (text.new ≡ text.old ++ flat_map (λ x. before.now ++ T.printed x) items.now) }
@@ -28,7 +28,7 @@ pub fn add_each<T: Print>(text: &mut Bytes, before: &[u8], items: &[T]) -> Resul
     Ok(())
 }
 
-/// Adds the text of each, and those bytes between each two.
+/// Adds the texts of the items, with those bytes between each two.
 pub fn add_joined<T: Print>(text: &mut Bytes, between: &[u8], items: &[T]) -> Result<(), NoMemory>
     ensures { OnOk result (text.new ≡ text.old ++ join_by T.printed between.now items.now) }
 {
@@ -41,19 +41,19 @@ pub fn add_joined<T: Print>(text: &mut Bytes, between: &[u8], items: &[T]) -> Re
     }
 }
 
-/// Adds a line within a protocol.
+/// Adds an indented line.
 pub fn add_line<T: Print>(text: &mut Bytes, item: &T) -> Result<(), NoMemory>
-    ensures { OnOk result (text.new ≡ text.old ++ line (T.printed item.now)) }
+    ensures { OnOk result (text.new ≡ text.old ++ indented_line (T.printed item.now)) }
 {
     text.append(b"  ")?;
     item.add_to(text)?;
     text.push(b'\n')
 }
 
-/// Adds a line that has a word and a list.
+/// Adds an indented line that has a word and a list.
 pub fn add_list_line<T: Print>(text: &mut Bytes, word: &[u8], items: &[T]) -> Result<(), NoMemory>
-    ensures { OnOk result
-        (text.new ≡ text.old ++ line (word.now ++ join_by T.printed (codes ", ") items.now)) }
+    ensures { let list = join_by T.printed (codes ", ") items.now in
+        OnOk result (text.new ≡ text.old ++ indented_line (word.now ++ list)) }
 {
     text.append(b"  ")?;
     text.append(word)?;

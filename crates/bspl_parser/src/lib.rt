@@ -1,32 +1,27 @@
 //! Protocol texts: their tokens, their grammar, and the documents that they spell.
 #![tactic(auto)]
 
-mod cursor;
 mod document;
-mod fault;
+mod grammar;
+mod laws;
 mod layout;
-mod naming;
-mod parsing;
-mod phrases;
-mod printing;
-mod repeat;
-mod repetition;
-mod scanning;
+mod list_kind;
+mod list_parser;
+mod name_length;
+mod parse_error;
+mod parser;
+mod printer;
+mod scanner;
 mod symbol;
 mod token;
+mod token_stream;
 mod word;
 
 pub use document::{
     Adorn, Declaration, DeclarationList, Document, Formal, FormalList, Item, ItemList, Reference,
     Schema,
 };
-pub use parsing::{answers_once, parse};
-pub use printing::{print, reads_back};
+pub use laws::{answers_once, equal_words, reads_back};
+pub use parser::parse;
+pub use printer::print;
 pub use word::{Word, WordList};
-
-#[cfg(test)]
-mod printing_tests;
-#[cfg(test)]
-mod refusal_tests;
-#[cfg(test)]
-mod tests;

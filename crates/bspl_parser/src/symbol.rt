@@ -1,5 +1,6 @@
 ghost use Rattle.std.specs.Prelude.{◌≡◌};
-ghost use Rattle.bspl_parser.specs.Symbol.{spelling, same_symbol};
+ghost use Rattle.bspl_parser.specs.Symbol.{spelling};
+ghost use Rattle.bspl_parser.specs.inner.SymbolTable.{same_symbol};
 
 /// A reserved word or a mark.
 #[derive(Clone, Copy, Debug, PartialEq, Eq)]
@@ -83,7 +84,7 @@ impl Symbol {
         }
     }
 
-    /// Whether both are one symbol.
+    /// Whether it is the other symbol.
     pub fn is(self, other: Symbol) -> bool
         ensures { result ≡ same_symbol self other }
     {

@@ -7,12 +7,14 @@ use super::word::Word;
 /// One token of a text.
 #[derive(Drop)]
 pub enum Token {
+    /// A name.
     Name(Word),
+    /// A reserved word or a mark, and the offset of its first byte.
     Fixed { symbol: Symbol, offset: u64 },
 }
 
 impl Token {
-    /// Where its first byte stands.
+    /// The offset of its first byte.
     pub fn offset(&self) -> u64
         ensures { result ≡ offset_of self.now }
     {

@@ -3,10 +3,12 @@ ghost use Rattle.bspl_types.specs.Name.{is_name};
 
 use bspl_types::{Name, Seq};
 
-/// A name, and the place of its first byte in the text.
+/// A name, and the offset of its first byte in the text.
 #[derive(Drop)]
 pub struct Word {
+    /// The name's bytes.
     pub text: Name,
+    /// The offset of the first of them.
     pub offset: u64,
     pub ghost named: { IsTrue (is_name text) },
 }

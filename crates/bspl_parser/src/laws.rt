@@ -1,0 +1,35 @@
+//! Laws of texts and documents: functions without a body, whose contracts are facts about the
+//! definitions. A caller gains the facts by the call.
+
+ghost use Rattle.std.specs.Prelude.{◌≡◌, ℕ, List};
+ghost use Rattle.bspl_parser.specs.declared.document.Document.{Document};
+ghost use Rattle.bspl_parser.specs.Alike.{AreAlike, ReadsBack, WordsAreEqual};
+ghost use Rattle.bspl_parser.specs.Judgement.{IsText, IsBadSyntax, AreExclusive};
+ghost use Rattle.bspl_parser.specs.Layout.{printed};
+ghost use Rattle.bspl_parser.specs.Spelling.{IsDocument};
+ghost use Rattle.bspl_parser.specs.Tokens.{IsBadByte};
+
+/// A law: a text spells one document at most, it has one first bad byte at most and one offset of
+/// bad syntax at most, and it has only one of these three.
+pub fn answers_once()
+    ensures documents { (text : List ℕ) (d e : Document)
+        → IsText text d → IsText text e → d ≡ e }
+    ensures bytes { (text : List ℕ) (a b : ℕ) → IsBadByte text a → IsBadByte text b → a ≡ b }
+    ensures tokens { (text : List ℕ) (a b : ℕ)
+        → IsBadSyntax text a → IsBadSyntax text b → a ≡ b }
+    ensures exclusive { (text : List ℕ) (a b : ℕ) (d : Document)
+        → AreExclusive (IsText text d) (IsBadByte text a) (IsBadSyntax text b) }
+{}
+
+/// A law: what a text spells is well formed; the layout of a well-formed document spells a
+/// document, and each document that it spells is the laid out one, but for offsets.
+pub fn reads_back()
+    ensures formed { (text : List ℕ) (d : Document) → IsText text d → IsDocument d }
+    ensures read { (d : Document) → IsDocument d → ReadsBack (printed d) d }
+    ensures alike { (d e : Document) → IsDocument d → IsText (printed d) e → AreAlike d e }
+{}
+
+/// A law: two words of one text and one offset are equal.
+pub fn equal_words()
+    ensures { WordsAreEqual }
+{}

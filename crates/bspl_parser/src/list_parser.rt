@@ -1,0 +1,55 @@
+ghost use Rattle.std.specs.Prelude.{◌≡◌, ◌<◌, ◌≤◌, false, List, Result, length, OnOk};
+ghost use Rattle.bspl_parser.specs.declared.parse_error.ErrorPosition.{ErrorPosition as SpecErrorPosition};
+ghost use Rattle.bspl_parser.specs.declared.token.Token.{Token as SpecToken};
+ghost use Rattle.bspl_parser.specs.inner.ParseResult.{Gives};
+ghost use Rattle.bspl_parser.specs.inner.GrammarParsers.{has_more, with_prefix, many_at, listed_at};
+
+use super::list_kind::ListKind;
+use super::parse_error::ParseError;
+use super::token_stream::TokenStream;
+use bspl_types::Seq;
+use std::alloc::Global;
+
+/// What a line of the grammar reads from tokens.
+pub trait Parse: Drop {
+    /// The reading of one, over lists of tokens.
+    ghost at: { List SpecToken → Result (Self × List SpecToken) SpecErrorPosition };
+
+    /// Reads one.
+    /// Reads one.
+    fn read(alloc: Global, stream: &mut TokenStream) -> Result<Self, ParseError>
+        ensures gives { Gives result stream.new (at stream.old) }
+        ensures shorter { OnOk result (length stream.new < length stream.old) };
+}
+
+/// Reads the further items of a list, and puts them after those that were read before.
+pub fn read_more<T: Parse>(
+    alloc: Global,
+    stream: &mut TokenStream,
+    kind: ListKind,
+    prefix: Seq<T>,
+) -> Result<Seq<T>, ParseError>
+    ensures gives { Gives result stream.new (with_prefix prefix (many_at kind T.at stream.old)) }
+    ensures no_longer { OnOk result (length stream.new ≤ length stream.old) }
+    ensures ended { OnOk result (has_more kind stream.new ≡ false) }
+{
+    let mut items = prefix;
+    'items: while stream.has_more(kind) {
+        stream.separator(kind)?;
+        let item = T::read(alloc, stream)?;
+        items.push(item)?;
+    }
+    Ok(items)
+}
+
+/// Reads one item, and one more after each comma.
+#[tactic(auto, unfolding(crate::specs::inner::GrammarParsers::listed_at))]
+pub fn read_list<T: Parse>(alloc: Global, stream: &mut TokenStream) -> Result<Seq<T>, ParseError>
+    ensures gives { Gives result stream.new (listed_at T.at stream.old) }
+    ensures shorter { OnOk result (length stream.new < length stream.old) }
+{
+    let first = T::read(alloc, stream)?;
+    let mut prefix = Seq::new(alloc);
+    prefix.push(first)?;
+    read_more(alloc, stream, ListKind::Comma, prefix)
+}

@@ -1,0 +1,44 @@
+ghost use Rattle.std.specs.Prelude.{◌≡◌, IfOk, IfErr};
+ghost use Rattle.bspl_parser.specs.Judgement.{IsText, IsRefusedFor};
+ghost use Rattle.bspl_parser.specs.inner.ParseResult.{error_offset};
+
+use super::document::Document;
+use super::grammar::read_document;
+use super::parse_error::{ErrorPosition, ParseError};
+use super::scanner::tokens_of;
+use bspl_types::Refusal;
+use std::alloc::Global;
+
+/// The offset of an error in a text of that length.
+fn error_offset(position: ErrorPosition, len: usize) -> u64
+    ensures { result ≡ error_offset position len }
+{
+    match position {
+        ErrorPosition::At(offset) => offset,
+        ErrorPosition::End => len as u64,
+    }
+}
+
+/// The document that the text spells. Otherwise the text is refused at an offset: at the first byte
+/// that begins no token, or else at the first token with which no document begins.
+pub fn parse(alloc: Global, text: &[u8]) -> Result<Document, Refusal>
+    ensures ok { IfOk result (IsText text.now) }
+    ensures refused { IfErr result (IsRefusedFor text.now) }
+{
+    let mut tokens = match tokens_of(alloc, text) {
+        Ok(tokens) => tokens,
+        Err(ParseError::NoMemory) => return Err(Refusal::NoMemory),
+        Err(ParseError::Invalid(position)) => {
+            let offset = error_offset(position, text.len());
+            return Err(Refusal::Byte { offset });
+        }
+    };
+    match read_document(alloc, &mut tokens) {
+        Ok(document) => Ok(document),
+        Err(ParseError::NoMemory) => Err(Refusal::NoMemory),
+        Err(ParseError::Invalid(position)) => {
+            let offset = error_offset(position, text.len());
+            Err(Refusal::Syntax { offset })
+        }
+    }
+}

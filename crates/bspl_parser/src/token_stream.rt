@@ -1,0 +1,188 @@
+ghost use Rattle.std.specs.Prelude.{◌≡◌, ◌<◌, ◌≤◌, [], ◌∷◌, ◌++◌, drop, length};
+ghost use Rattle.std.specs.Prelude.{IfSome, IfNone, OnOk};
+ghost use Rattle.bspl_parser.specs.inner.ParseResult.{Returns, ReturnsRest};
+ghost use Rattle.bspl_parser.specs.inner.TokenParsers.{begins_with, begins_with_name, word_at};
+ghost use Rattle.bspl_parser.specs.inner.TokenParsers.{symbol_at};
+ghost use Rattle.bspl_parser.specs.inner.TokenParsers.{either_at, adorn_of, adorn_at, key_at};
+ghost use Rattle.bspl_parser.specs.inner.GrammarParsers.{has_more, separator_at};
+
+use super::document::Adorn;
+use super::list_kind::ListKind;
+use super::parse_error::ErrorPosition;
+use super::symbol::Symbol;
+use super::token::Token;
+use super::word::Word;
+use bspl_types::NoMemory;
+use std::alloc::Global;
+use std::collections::VecDeque;
+use std::marker::Model;
+
+/// The tokens that are still to come, in order.
+#[derive(Drop)]
+pub struct TokenStream {
+    tokens: VecDeque<Token>,
+}
+
+impl Model for TokenStream {
+    ghost use Rattle.std.specs.Prelude.{List};
+    ghost use Rattle.bspl_parser.specs.declared.token.Token.{Token as SpecToken};
+
+    ghost Value = { List SpecToken };
+
+    ghost view = { λ c. c.tokens.items };
+}
+
+impl TokenStream {
+    /// No tokens.
+    pub fn new(alloc: Global) -> TokenStream
+        ensures { result ≡ [] }
+    {
+        TokenStream {
+            tokens: VecDeque::new(alloc),
+        }
+    }
+
+    /// Puts a token at the end.
+    pub fn push(&mut self, token: Token) -> Result<(), NoMemory>
+        ensures { OnOk result (self.new ≡ self.old ++ token ∷ []) }
+    {
+        self.tokens.push_back(token)?;
+        Ok(())
+    }
+
+    /// Takes the next token.
+    fn next(&mut self) -> Option<Token>
+        ensures some { IfSome result (λ token. self.old ≡ token ∷ self.new) }
+        ensures none { IfNone result (self.old ≡ []) }
+    {
+        self.tokens.pop_front()
+    }
+
+    /// Whether the symbol comes next.
+    pub fn begins_with(&self, symbol: Symbol) -> bool
+        ensures { result ≡ begins_with symbol self.now }
+    {
+        match self.tokens.front() {
+            Some(Token::Fixed { symbol: other, .. }) => other.is(symbol),
+            _ => false,
+        }
+    }
+
+    /// Whether a name follows after as many tokens as are skipped.
+    fn has_name_after(&self, skipped: usize) -> bool
+        ensures { result ≡ begins_with_name (drop skipped self.now) }
+    {
+        matches!(self.tokens.get(skipped), Some(Token::Name(_)))
+    }
+
+    /// Whether a further item of the list comes.
+    pub fn has_more(&self, kind: ListKind) -> bool
+        ensures { result ≡ has_more kind self.now }
+    {
+        match kind {
+            ListKind::Comma => self.begins_with(Symbol::Comma),
+            ListKind::CommaName => self.begins_with(Symbol::Comma) && self.has_name_after(1),
+            ListKind::Name => self.has_name_after(0),
+            ListKind::Rest => !self.tokens.is_empty(),
+        }
+    }
+
+    /// Takes what separates a further item from the one before.
+    pub fn separator(&mut self, kind: ListKind) -> Result<(), ErrorPosition>
+        ensures gives { ReturnsRest result self.new (separator_at kind self.old) }
+        ensures no_longer { OnOk result (length self.new ≤ length self.old) }
+    {
+        if kind.has_comma() {
+            let _offset = self.symbol(Symbol::Comma)?;
+        }
+        Ok(())
+    }
+
+    /// Takes a name.
+    #[tactic(auto, unfolding(crate::specs::inner::TokenParsers::word_at))]
+    pub fn word(&mut self) -> Result<Word, ErrorPosition>
+        ensures gives { Returns result self.new (word_at self.old) }
+        ensures shorter { OnOk result (length self.new < length self.old) }
+    {
+        match self.next() {
+            None => Err(ErrorPosition::End),
+            Some(Token::Name(word)) => Ok(word),
+            Some(Token::Fixed { offset, .. }) => Err(ErrorPosition::At(offset)),
+        }
+    }
+
+    /// Takes that symbol, and returns its offset.
+    #[tactic(auto, unfolding(crate::specs::inner::TokenParsers::symbol_at))]
+    pub fn symbol(&mut self, wanted: Symbol) -> Result<u64, ErrorPosition>
+        ensures gives { Returns result self.new (symbol_at wanted self.old) }
+        ensures shorter { OnOk result (length self.new < length self.old) }
+    {
+        match self.next() {
+            None => Err(ErrorPosition::End),
+            Some(Token::Name(word)) => Err(ErrorPosition::At(word.offset)),
+            Some(Token::Fixed { symbol, offset }) => {
+                if symbol.is(wanted) {
+                    Ok(offset)
+                } else {
+                    Err(ErrorPosition::At(offset))
+                }
+            }
+        }
+    }
+
+    /// Takes one of two symbols, and returns its offset.
+    pub fn either(&mut self, one: Symbol, other: Symbol) -> Result<u64, ErrorPosition>
+        ensures gives { Returns result self.new (either_at one other self.old) }
+        ensures shorter { OnOk result (length self.new < length self.old) }
+    {
+        if self.begins_with(one) {
+            self.symbol(one)
+        } else {
+            self.symbol(other)
+        }
+    }
+
+    /// Takes an adornment, and returns it with its offset.
+    #[tactic(auto, unfolding(crate::specs::inner::TokenParsers::adorn_at))]
+    pub fn adornment(&mut self) -> Result<(Adorn, u64), ErrorPosition>
+        ensures gives { Returns result self.new (adorn_at self.old) }
+        ensures shorter { OnOk result (length self.new < length self.old) }
+    {
+        let (symbol, offset) = match self.next() {
+            None => return Err(ErrorPosition::End),
+            Some(Token::Name(word)) => return Err(ErrorPosition::At(word.offset)),
+            Some(Token::Fixed { symbol, offset }) => (symbol, offset),
+        };
+        match adorn_of(symbol) {
+            Some(adorn) => Ok((adorn, offset)),
+            None => Err(ErrorPosition::At(offset)),
+        }
+    }
+
+    /// Takes the word `key` if it comes, but not after a `nil` parameter, and returns its offset.
+    #[tactic(auto, unfolding(crate::specs::inner::TokenParsers::key_at))]
+    pub fn key(&mut self, adorn: Adorn) -> Result<Option<u64>, ErrorPosition>
+        ensures gives { Returns result self.new (key_at adorn self.old) }
+        ensures no_longer { OnOk result (length self.new ≤ length self.old) }
+    {
+        if adorn.takes_key() && self.begins_with(Symbol::Key) {
+            let offset = self.symbol(Symbol::Key)?;
+            return Ok(Some(offset));
+        }
+        Ok(None)
+    }
+}
+
+/// The adornment that the symbol is.
+fn adorn_of(symbol: Symbol) -> Option<Adorn>
+    ensures { result ≡ adorn_of symbol }
+{
+    match symbol {
+        Symbol::In => Some(Adorn::In),
+        Symbol::Out => Some(Adorn::Out),
+        Symbol::Nil => Some(Adorn::Nil),
+        Symbol::Any => Some(Adorn::Any),
+        Symbol::Opt => Some(Adorn::Opt),
+        _ => None,
+    }
+}
