@@ -12,7 +12,7 @@ use Rattle.bspl_parser.specs.declared.document.Reference.{Reference}
 use Rattle.bspl_parser.specs.declared.document.Schema.{Schema}
 use Rattle.bspl_parser.specs.declared.word.Word.{Word}
 use Rattle.bspl_parser.specs.Grammar.{symbol_of}
-use Rattle.bspl_parser.specs.Layout.{behind_commas, item_line, line, printed, printed_declaration, printed_formal, printed_key, printed_message, printed_reference, printed_word, private_line, with_commas}
+use Rattle.bspl_parser.specs.Layout.{comma_prefixed, item_line, indented_line, printed, printed_declaration, printed_formal, printed_key, printed_message, printed_reference, printed_word, private_line, comma_separated}
 use Rattle.bspl_parser.specs.Symbol.{spelling}
 use Rattle.bspl_tool.proofs.NameBytes.{name_has_no_lf, name_is_no_verdict}
 use Rattle.bspl_tool.proofs.Otherwise.{IsOther, begins_with_s, calm_behind, has_lf, is_calm, joined_has_none}
@@ -47,12 +47,12 @@ formal_unbroken : (f : Formal) → IsUnbroken (printed_formal f)
 formal_unbroken f = unbroken (unbroken (unbroken (adorn_unbroken f.adorn) (record { whole = refl })) (word_unbroken f.name)) (key_unbroken f.key)
 
 -- parts behind commas
-commas_unbroken : {X : Type 0} (text : X → List ℕ) (xs : List X) → ((x : X) → IsUnbroken (text x)) → IsUnbroken (behind_commas text xs)
+commas_unbroken : {X : Type 0} (text : X → List ℕ) (xs : List X) → ((x : X) → IsUnbroken (text x)) → IsUnbroken (comma_prefixed text xs)
 commas_unbroken text [] each = record { whole = refl }
 commas_unbroken text (x ∷ xs) each = unbroken (unbroken {one = codes ", "} (record { whole = refl }) (each x)) (commas_unbroken text xs each)
 
 -- parts with commas between them
-list_unbroken : {X : Type 0} (text : X → List ℕ) (xs : List X) → ((x : X) → IsUnbroken (text x)) → IsUnbroken (with_commas text xs)
+list_unbroken : {X : Type 0} (text : X → List ℕ) (xs : List X) → ((x : X) → IsUnbroken (text x)) → IsUnbroken (comma_separated text xs)
 list_unbroken text [] each = record { whole = refl }
 list_unbroken text (x ∷ xs) each = unbroken (each x) (commas_unbroken text xs each)
 
@@ -77,7 +77,7 @@ record IsBlock (text : List ℕ) : Type 0 where
   calm : is_calm text ≡ true
 
 -- a line of the layout
-line_is_block : {text : List ℕ} → IsUnbroken text → IsBlock (line text)
+line_is_block : {text : List ℕ} → IsUnbroken text → IsBlock (indented_line text)
 line_is_block {text} one = record { quiet = refl; calm = calm_behind text (codes "\n") one.whole refl }
 
 -- such lines behind calm text

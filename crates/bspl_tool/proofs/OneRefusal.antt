@@ -6,7 +6,7 @@ use Rattle.bspl_types.specs.declared.refusals.Refusal.TheVariants.{Byte, Syntax,
 use Rattle.bspl_types.specs.Admission.{IsAdmitted}
 use Rattle.adornment_check.specs.Refusing.{IsNotAdmitted}
 use Rattle.bspl_parser.specs.declared.document.Document.{Document}
-use Rattle.bspl_parser.specs.Judgement.{AreApart, IsBadSyntax, IsRefusedFor, IsText}
+use Rattle.bspl_parser.specs.Judgement.{AreExclusive, IsBadSyntax, IsRefusedFor, IsText}
 use Rattle.bspl_parser.specs.Tokens.{IsBadByte}
 use Rattle.protocol_expand.specs.Expansion.{IsExpansion}
 use Rattle.protocol_expand.specs.Refusing.{IsNotExpanded}
@@ -19,7 +19,7 @@ pub record OneReading : Type 0 where
   pub documents : (text : List ℕ) (d e : Document) → IsText text d → IsText text e → d ≡ e
   pub bytes : (text : List ℕ) (a b : ℕ) → IsBadByte text a → IsBadByte text b → a ≡ b
   pub tokens : (text : List ℕ) (a b : ℕ) → IsBadSyntax text a → IsBadSyntax text b → a ≡ b
-  pub parsed : (text : List ℕ) (a b : ℕ) (d : Document) → AreApart (IsText text d) (IsBadByte text a) (IsBadSyntax text b)
+  pub parsed : (text : List ℕ) (a b : ℕ) (d : Document) → AreExclusive (IsText text d) (IsBadByte text a) (IsBadSyntax text b)
   pub expansions : (d : Document) (name : List ℕ) (x y : Expanded) → IsExpansion d name x → IsExpansion d name y → x ≡ y
   pub unexpanded : (d : Document) (name : List ℕ) (r s : Refusal) → r ≢ NoMemory → s ≢ NoMemory → IsNotExpanded d name r → IsNotExpanded d name s → r ≡ s
   pub expanded : (d : Document) (name : List ℕ) (x : Expanded) (r : Refusal) → r ≢ NoMemory → IsExpansion d name x → ¬ IsNotExpanded d name r
