@@ -1,7 +1,10 @@
-pub mod Members
 pub mod PairLemmas
-pub mod Following
+pub mod KnowledgeLemmas
+pub mod LegalLemmas
 pub mod ProjectionLemmas
-pub mod PlaceLemmas
-pub mod Sources
+pub mod PositionLemmas
+pub mod EnactmentLemmas
+pub mod SourceLemmas
 pub mod ProducerLemmas
+pub mod ExampleLemmas
+pub mod LocalExact

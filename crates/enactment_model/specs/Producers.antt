@@ -9,7 +9,7 @@ use Rattle.bspl_types.specs.declared.protocol.Message.{Message}
 abbrev pub Produces : Message → ℕ → Type 0
 Produces m p = Contains m.carried (record { param = p; adornment = Out })
 
--- some parameter is adorned `out` by both
+-- some parameter is adorned `out` by both messages
 pub record SharesOut (m n : Message) : Type 0 where
   pub param : ℕ
   pub one : Produces m param

@@ -1,13 +1,13 @@
-//! Legal runs, conflicts and safety of a protocol, and what holds of every legal run.
+//! Legal runs, safety and liveness of a protocol, and what holds of every legal run.
 #![tactic(auto)]
 
+mod examples;
 mod laws;
 mod producers;
-#[cfg(test)]
-mod tests;
 
+pub use examples::{nothing_is_not_live, ping_is_safe_and_live, twin_is_not_safe};
 pub use laws::{
-    front_is_legal, legal_by_places, no_conflict_agrees, one_producer_is_safe, projection_keeps,
-    second_emission_is_not_enabled,
+    known_exactly_if_some_event_binds, legal_by_positions, no_conflict_agrees,
+    one_producer_is_safe, prefix_is_legal, projection_keeps, second_emission_is_not_enabled,
 };
 pub use producers::single_producer;

@@ -3,3 +3,5 @@
 
 #[cfg(test)]
 mod bspl_io_tests;
+#[cfg(test)]
+mod enactment_model_tests;

@@ -1,9 +1,11 @@
+pub mod Filtered
 pub mod FirstIndex
 pub mod LentItem
 pub mod Mapped
 pub mod Members
 pub mod Membership
 pub mod OwnIndex
+pub mod Partners
 pub mod Settled
 pub mod Tables
 pub mod Zipped

@@ -1,11 +1,14 @@
 -- In a legal run every known value goes back to an emission that produced it.
-use Rattle.std.proofs.Common.{◌≡◌, ℕ, ◌<◌, ◌≤◌, List, [], ◌∷◌, ◌++◌, length, Some, ⊎_elim, refl, sym, ap, ◌∙◌, subst, true, true≢false, arith}
+use Rattle.std.proofs.Common.{◌≡◌, ℕ, ◌<◌, ◌≤◌, List, [], ◌∷◌, ◌++◌, length, Some, ⊎_elim, refl, sym, ap, ◌∙◌, subst, true≢false, arith}
 use Rattle.std.specs.Prelude.{◌==◌, slice_get}
 use Rattle.std.specs.List.{Contains}
 use Rattle.std.proofs.lemmas.Bool.{cases_lt, cases_order}
 use Rattle.std.proofs.lemmas.List.{append-nil, append_assoc, get_or_past}
 use Rattle.std.proofs.lemmas.List.Elements.{All-get_or, Contains-append_left, Contains-push, Contains-push_cases}
 use Rattle.std.proofs.lemmas.Option.{same_Some}
+use Rattle.list_base.proofs.Filtered.{filtered_member}
+use Rattle.list_base.proofs.Membership.{index_of}
+use Rattle.list_base.proofs.Partners.{NoRepeat, no_repeat_filter, no_repeat_from_pairs, one_partner}
 use Rattle.bspl_types.specs.declared.event.Event.{Event}
 use Rattle.bspl_types.specs.declared.event.Event.TheVariants.{Emit, Receive}
 use Rattle.bspl_types.specs.declared.event.Instance.{Instance}
@@ -15,14 +18,13 @@ use Rattle.bspl_types.specs.declared.protocol.Adornment.TheVariants.{In, Out, Ni
 use Rattle.bspl_types.specs.declared.value.Value.{Value}
 use Rattle.bspl_types.specs.Admission.{IsAdmitted, IsAdmittedMessage}
 use Rattle.bspl_types.specs.Adornment.{has_value, valued}
-use Rattle.bspl_types.specs.Expansion.{Adorns, message_of, no_message}
+use Rattle.bspl_types.specs.Expansion.{message_of, no_message}
 use Rattle.bspl_types.specs.History.{history_of, instance_of, role_of}
 use Rattle.bspl_types.specs.Instance.{Carries}
 use Rattle.bspl_types.specs.Knowledge.{Knows}
-use Rattle.enactment_model.specs.Conflict.{Conflict}
 use Rattle.enactment_model.specs.Legal.{IsLegal, LegalAfter, MayFollow}
-use Rattle.enactment_model.specs.Safety.{Agree, HasNoConflict}
-use Rattle.enactment_model.proofs.Members.{NoRepeat, contains_key, contains_unfilter, no_repeat_filter, no_repeat_from_pairs, place_of, same_partner}
+use Rattle.enactment_model.specs.Safety.{Agree, Conflict, HasNoConflict}
+use Rattle.enactment_model.proofs.KnowledgeLemmas.{carried_with_value}
 
 -- an emission under the key that produced the value
 pub record Source (x : Expanded) (run : List Event) (key : List Value) (p : ℕ) (v : Value) : Type 0 where
@@ -35,11 +37,6 @@ pub record Source (x : Expanded) (run : List Event) (key : List Value) (p : ℕ)
 abbrev IsSourced : Expanded → List Event → Type 0
 IsSourced x run = (event : Event) → Contains run event → (adornment : Adornment) (p : ℕ) (v : Value) → Carries x (instance_of event) adornment p v → Source x run (instance_of event).key p v
 
--- what an instance carries is a parameter of its message, adorned `in` or `out`
-carried_with_value : (x : Expanded) (i : Instance) (adornment : Adornment) (p : ℕ) (v : Value) → Carries x i adornment p v → Adorns x i.message adornment p × (has_value adornment ≡ true)
-carried_with_value x i adornment p v carries =
-    contains_unfilter (λ c. has_value c.adornment) (message_of x i.message).carried _ (contains_key (valued (message_of x i.message).carried) i.values _ v carries)
-
 -- a source of part of a run is one of the whole
 longer : (x : Expanded) (run more : List Event) (key : List Value) (p : ℕ) (v : Value) → Source x run key p v → Source x (run ++ more) key p v
 longer x run more key p v source =
@@ -48,7 +45,7 @@ longer x run more key p v source =
 -- what is known from a run has a source in it
 known_source : (x : Expanded) (run : List Event) (role : ℕ) (key : List Value) (p : ℕ) (v : Value) → IsSourced x run → Knows x (history_of x role run) key p v → Source x run key p v
 known_source x run role key p v sourced knows =
-    let among = (contains_unfilter (λ e. role_of x e == role) run knows.event knows.among).0 in
+    let among = (filtered_member (λ e. role_of x e == role) run knows.event knows.among).0 in
     let source = sourced knows.event among knows.adornment p v knows.carries in
     record { instance = source.instance; emitted = source.emitted; under = source.under ∙ knows.under; produced = source.produced }
 
@@ -90,11 +87,11 @@ carried_once x admitted m =
 -- an instance has one value of a parameter
 one_value : (x : Expanded) → IsAdmitted x → (i : Instance) (p : ℕ) (v w : Value) → Carries x i Out p v → Carries x i Out p w → v ≡ w
 one_value x admitted i p v w one other =
-    same_partner (valued (message_of x i.message).carried) i.values _ v w (no_repeat_filter (λ c. has_value c.adornment) (message_of x i.message).carried (carried_once x admitted i.message)) one other
+    one_partner (valued (message_of x i.message).carried) i.values _ v w (no_repeat_filter (λ c. has_value c.adornment) (message_of x i.message).carried (carried_once x admitted i.message)) one other
 
--- two sources at two places are a conflict
-rival_sources : (x : Expanded) (run : List Event) (key : List Value) (p : ℕ) (v w : Value) (one : Source x run key p v) (other : Source x run key p w) (place later : ℕ) → slice_get run place ≡ Some (Emit one.instance) → slice_get run later ≡ Some (Emit other.instance) → place < later → Conflict x run key p place later
-rival_sources x run key p v w one other place later one_at other_at in_order =
+-- two sources at two positions are a conflict
+rival_sources : (x : Expanded) (run : List Event) (key : List Value) (p : ℕ) (v w : Value) (one : Source x run key p v) (other : Source x run key p w) (position later : ℕ) → slice_get run position ≡ Some (Emit one.instance) → slice_get run later ≡ Some (Emit other.instance) → position < later → Conflict x run key p position later
+rival_sources x run key p v w one other position later one_at other_at in_order =
     record {
       in_order = in_order;
       first_produces = record { instance = one.instance; emitted = one_at; under = one.under; adorned = (carried_with_value x one.instance Out p v one.produced).0 };
@@ -104,14 +101,14 @@ rival_sources x run key p v w one other place later one_at other_at in_order =
 -- without a conflict two sources are one
 same_value_of_sources : (x : Expanded) (run : List Event) (key : List Value) (p : ℕ) (v w : Value) → IsAdmitted x → HasNoConflict x run → Source x run key p v → Source x run key p w → v ≡ w
 same_value_of_sources x run key p v w admitted no_conflict one other =
-    let (place, one_at) = place_of run (Emit one.instance) one.emitted in
-    let (later, other_at) = place_of run (Emit other.instance) other.emitted in
+    let (position, one_at) = index_of run (Emit one.instance) one.emitted in
+    let (later, other_at) = index_of run (Emit other.instance) other.emitted in
     ⊎_elim
-    (λ (same : place ≡ later). one_value x admitted one.instance p v w one.produced (subst (λ i. Carries x i Out p w) (sym (same_instance one.instance other.instance (sym one_at ∙ ap (slice_get run) same ∙ other_at))) other.produced))
+    (λ (same : position ≡ later). one_value x admitted one.instance p v w one.produced (subst (λ i. Carries x i Out p w) (sym (same_instance one.instance other.instance (sym one_at ∙ ap (slice_get run) same ∙ other_at))) other.produced))
     (⊎_elim
-    (λ (before : place < later). absurd (no_conflict key p place later (rival_sources x run key p v w one other place later one_at other_at before)))
-    (λ (after : later < place). absurd (no_conflict key p later place (rival_sources x run key p w v other one later place other_at one_at after))))
-    (cases_order place later)
+    (λ (before : position < later). absurd (no_conflict key p position later (rival_sources x run key p v w one other position later one_at other_at before)))
+    (λ (after : later < position). absurd (no_conflict key p later position (rival_sources x run key p w v other one later position other_at one_at after))))
+    (cases_order position later)
   where
     same_instance : (i j : Instance) → Some (Emit i) ≡ Some (Emit j) → i ≡ j
     same_instance i j same = ap instance_of (same_Some (Emit i) (Emit j) same)

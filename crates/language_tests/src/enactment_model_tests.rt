@@ -1,45 +1,54 @@
-use super::single_producer;
-use bspl_types::{Adornment, Carried, Expanded, Message, Name, NoMemory, ParamInfo, Seq};
+use bspl_types::{Adornment, Carried, Expanded, Message, Name, ParamInfo};
+use enactment_model::single_producer;
+use list_base::{NoMemory, Seq};
 use std::alloc::Global;
 use std::test::Fail;
 
+/// The key, adorned `in`.
 const IN_ID: Carried = Carried {
     param: 0,
     adornment: Adornment::In,
 };
 
+/// The key, adorned `out`.
 const OUT_ID: Carried = Carried {
     param: 0,
     adornment: Adornment::Out,
 };
 
+/// The item, adorned `in`.
 const IN_ITEM: Carried = Carried {
     param: 1,
     adornment: Adornment::In,
 };
 
+/// The item, adorned `out`.
 const OUT_ITEM: Carried = Carried {
     param: 1,
     adornment: Adornment::Out,
 };
 
+/// The item, adorned `nil`.
 const NIL_ITEM: Carried = Carried {
     param: 1,
     adornment: Adornment::Nil,
 };
 
+/// The price, adorned `out`.
 const OUT_PRICE: Carried = Carried {
     param: 2,
     adornment: Adornment::Out,
 };
 
-/// A name and what the message carries.
+/// A message's name and what it carries.
 type Schema<'a> = (&'a [u8], &'a [Carried]);
 
+/// The name with these bytes.
 fn name(alloc: Global, text: &[u8]) -> Result<Name, NoMemory> {
     Seq::from_slice(alloc, text)
 }
 
+/// The message from the first role to the second.
 fn message(alloc: Global, schema: Schema) -> Result<Message, NoMemory> {
     Ok(Message {
         name: name(alloc, schema.0)?,
@@ -49,6 +58,7 @@ fn message(alloc: Global, schema: Schema) -> Result<Message, NoMemory> {
     })
 }
 
+/// A public parameter that is adorned `out`.
 fn parameter(alloc: Global, text: &[u8], key: bool) -> Result<ParamInfo, NoMemory> {
     Ok(ParamInfo {
         name: name(alloc, text)?,
@@ -74,50 +84,39 @@ fn protocol(alloc: Global, schemas: &[Schema]) -> Result<Option<Expanded>, NoMem
 }
 
 #[test]
-fn each_parameter_has_one_producer(rt: HostRuntime) -> Result<(), Fail> {
+fn two_producers_of_a_parameter_are_found(rt: HostRuntime) -> Result<(), Fail> {
     let alloc = rt.alloc();
-    let safe: [&[Schema]; 5] = [
-        &[],
-        &[(b"ping", &[OUT_ID])],
-        &[(b"ask", &[OUT_ID]), (b"tell", &[IN_ID, OUT_ITEM])],
-        &[(b"ask", &[OUT_ID, OUT_ITEM]), (b"drop", &[IN_ID, NIL_ITEM])],
-        &[
-            (b"ask", &[OUT_ID, OUT_ITEM]),
-            (b"quote", &[IN_ID, IN_ITEM, OUT_PRICE]),
-            (b"drop", &[IN_ID, NIL_ITEM]),
-        ],
+    let rows: [(&[Schema], bool); 5] = [
+        (&[], true),
+        (
+            &[
+                (b"ask", &[OUT_ID, OUT_ITEM]),
+                (b"quote", &[IN_ID, IN_ITEM, OUT_PRICE]),
+                (b"drop", &[IN_ID, NIL_ITEM]),
+            ],
+            true,
+        ),
+        (&[(b"m", &[OUT_ID]), (b"n", &[OUT_ID])], false),
+        (
+            &[
+                (b"ask", &[OUT_ID, OUT_PRICE]),
+                (b"tell", &[IN_ID, OUT_ITEM]),
+                (b"quote", &[IN_ID, IN_ITEM, OUT_PRICE]),
+            ],
+            false,
+        ),
+        (
+            &[
+                (b"ask", &[OUT_ID]),
+                (b"tell", &[IN_ID, OUT_ITEM, OUT_PRICE]),
+                (b"quote", &[IN_ID, IN_ITEM, OUT_PRICE]),
+            ],
+            false,
+        ),
     ];
-    for schemas in safe {
+    for (schemas, want) in rows {
         let x = protocol(alloc, schemas)?.ok_or("a protocol is not well formed")?;
-        assert!(rt; single_producer(&x));
-    }
-    Ok(())
-}
-
-#[test]
-fn some_parameter_has_two_producers(rt: HostRuntime) -> Result<(), Fail> {
-    let alloc = rt.alloc();
-    let rivals: [&[Schema]; 4] = [
-        &[(b"m", &[OUT_ID]), (b"n", &[OUT_ID])],
-        &[
-            (b"ask", &[OUT_ID]),
-            (b"tell", &[IN_ID, OUT_ITEM]),
-            (b"guess", &[IN_ID, NIL_ITEM, OUT_ITEM]),
-        ],
-        &[
-            (b"ask", &[OUT_ID, OUT_PRICE]),
-            (b"tell", &[IN_ID, OUT_ITEM]),
-            (b"quote", &[IN_ID, IN_ITEM, OUT_PRICE]),
-        ],
-        &[
-            (b"ask", &[OUT_ID]),
-            (b"tell", &[IN_ID, OUT_ITEM, OUT_PRICE]),
-            (b"quote", &[IN_ID, IN_ITEM, OUT_PRICE]),
-        ],
-    ];
-    for schemas in rivals {
-        let x = protocol(alloc, schemas)?.ok_or("a protocol is not well formed")?;
-        assert!(rt; !single_producer(&x));
+        assert_eq!(rt; single_producer(&x), want);
     }
     Ok(())
 }
