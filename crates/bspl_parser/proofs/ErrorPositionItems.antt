@@ -24,10 +24,9 @@ use Rattle.bspl_parser.proofs.Formals.{Keyless, formal_reads}
 use Rattle.bspl_parser.proofs.Lists.{many-sound}
 use Rattle.bspl_parser.proofs.Items.{after_sender, after_protocol}
 use Rattle.bspl_parser.proofs.PrefixStable.{Alike, alike_first, alike_after}
-use Rattle.bspl_parser.proofs.PrefixStableTokens.{word_stable}
 use Rattle.bspl_parser.proofs.PrefixStableLists.{step, turned}
 use Rattle.bspl_parser.proofs.PrefixStablePhrases.{more_formals, AnyWord, AnyTokens}
-use Rattle.bspl_parser.proofs.PrefixStableReferences.{some_word, some_formal, roles_shorten, roles_keep, roles_keep_failure, role_comes, roles_success, params_at, goes_failure, roles_on}
+use Rattle.bspl_parser.proofs.PrefixStableReferences.{some_word, some_formal, role_comes, roles_success, params_at, goes_failure, roles_on}
 use Rattle.bspl_parser.proofs.LoopReading.{no_turn}
 use Rattle.bspl_parser.proofs.ErrorPosition.{FailsViably, ViableFailure, Spelled-prefix, then_viable, viable_as, either_viable}
 use Rattle.bspl_parser.proofs.ErrorPositionPhrases.{Any, plain_sign, no_sign, begins_prefix, done_viable, word_then, symbol_then, formals_then, more_formals_viable, one_formal}
@@ -61,7 +60,7 @@ unfolding many_within
 roles_never zero ts f e = cc
 roles_never (suc n) ts f e =
     elim (cases_Bool (has_more list_kind.CommaName ts)) [
-      | inl goes ↦ by_step n ts f goes (roles_never n) (step list_kind.CommaName word_at ts) refl (sym (turned list_kind.CommaName word_at word_stable roles_shorten roles_keep roles_keep_failure n ts goes) ∙ e)
+      | inl goes ↦ by_step n ts f goes (roles_never n) (step list_kind.CommaName word_at ts) refl (sym (turned list_kind.CommaName word_at n ts goes) ∙ e)
       | inr ends ↦ (let none = no_turn list_kind.CommaName word_at (suc n) ts ends in cc)
     ]
   where

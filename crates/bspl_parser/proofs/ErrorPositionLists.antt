@@ -34,9 +34,6 @@ module _ {X : Type 0} (kind : ListKind) (one : List Token → ParseResult X) (si
     good : All Good value
     spelled : Spelled (repeated kind signs value) (prefix ++ more) []
 
-  turn_of : (n : ℕ) (ts : List Token) → has_more kind ts ≡ true → many_within kind one (suc n) ts ≡ (step kind one ts >>= λ x. with_prefix (x.0 ∷ []) (many_within kind one n x.1))
-  turn_of = turned kind one stable shortens (keeps_one kind one stable shortens notes) (keeps_fault kind one stable shortens notes)
-
   first_viable_failure : (n : ℕ) (ts : List Token) (f : ErrorPosition) → has_more kind ts ≡ true → (first : ParseResult X) → step kind one ts ≡ first
       → ((mid : List Token) → length mid < length ts → many_within kind one n mid ≡ Err f → ManyBlocked mid f)
       → (first >>= λ x. with_prefix (x.0 ∷ []) (many_within kind one n x.1)) ≡ Err f → ManyBlocked ts f
@@ -54,7 +51,7 @@ module _ {X : Type 0} (kind : ListKind) (one : List Token → ParseResult X) (si
             let long = length-append a.prefix (t ∷ more) in
             let room : m ≡ suc (pred m) = omega arith in
             let goes' = keeps_fault kind one stable shortens notes ts f a.prefix a.left failed a.parts goes t after is more in
-            ap (λ k. many_within kind one k (a.prefix ++ t ∷ more)) room ∙ turn_of (pred m) (a.prefix ++ t ∷ more) goes' ∙ rw (a.again t after is more) refl;
+            ap (λ k. many_within kind one k (a.prefix ++ t ∷ more)) room ∙ turned kind one (pred m) (a.prefix ++ t ∷ more) goes' ∙ rw (a.again t after is more) refl;
         value = b.value ∷ [];
         more = b.more;
         good = All-cons Good b.value [] b.good (All-nil Good);
@@ -87,7 +84,7 @@ module _ {X : Type 0} (kind : ListKind) (one : List Token → ParseResult X) (si
                 let room : m ≡ suc (pred m) = omega arith in
                 let goes' = keeps_one kind one stable shortens notes ts x.1 x.0 a.used read a.parts goes (b.prefix ++ t ∷ more) in
                 let rest_again = b.again t after first more (pred m) (omega arith) in
-                ap (λ k. many_within kind one k ((a.used ++ b.prefix) ++ t ∷ more)) room ∙ ap (many_within kind one (suc (pred m))) list ∙ turn_of (pred m) (a.used ++ (b.prefix ++ t ∷ more)) goes' ∙ rw (again, rest_again) refl;
+                ap (λ k. many_within kind one k ((a.used ++ b.prefix) ++ t ∷ more)) room ∙ ap (many_within kind one (suc (pred m))) list ∙ turned kind one (pred m) (a.used ++ (b.prefix ++ t ∷ more)) goes' ∙ rw (again, rest_again) refl;
             value = x.0 ∷ b.value;
             more = b.more;
             good = All-cons Good x.0 b.value known.1 b.good;
@@ -100,7 +97,7 @@ module _ {X : Type 0} (kind : ListKind) (one : List Token → ParseResult X) (si
   many_viable_failure zero ts f enough e = absurd cc
   many_viable_failure (suc n) ts f enough e =
       elim (cases_Bool (has_more kind ts)) [
-        | inl goes ↦ first_viable_failure n ts f goes (step kind one ts) refl (λ mid shorter read. many_viable_failure n mid f (omega arith) read) (sym (turn_of n ts goes) ∙ e)
+        | inl goes ↦ first_viable_failure n ts f goes (step kind one ts) refl (λ mid shorter read. many_viable_failure n mid f (omega arith) read) (sym (turned kind one n ts goes) ∙ e)
         | inr ends ↦ absurd (let none = no_turn kind one (suc n) ts ends in cc)
       ]
 

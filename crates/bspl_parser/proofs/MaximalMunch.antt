@@ -21,86 +21,41 @@ pub record IsSeparated (bytes : List ℕ) : Type 0 where
   pub is : bytes ≡ first ∷ others
   pub ends : EndsNames first
 
-space_ends : EndsNames 32
-space_ends Start = refl
-space_ends Plain = refl
-space_ends Dash = refl
-space_ends Hash = refl
-space_ends Number = refl
-
-lf_ends : EndsNames 10
-lf_ends Start = refl
-lf_ends Plain = refl
-lf_ends Dash = refl
-lf_ends Hash = refl
-lf_ends Number = refl
-
-comma_ends : EndsNames 44
-comma_ends Start = refl
-comma_ends Plain = refl
-comma_ends Dash = refl
-comma_ends Hash = refl
-comma_ends Number = refl
-
-colon_ends : EndsNames 58
-colon_ends Start = refl
-colon_ends Plain = refl
-colon_ends Dash = refl
-colon_ends Hash = refl
-colon_ends Number = refl
-
-open_bracket_ends : EndsNames 91
-open_bracket_ends Start = refl
-open_bracket_ends Plain = refl
-open_bracket_ends Dash = refl
-open_bracket_ends Hash = refl
-open_bracket_ends Number = refl
-
-close_bracket_ends : EndsNames 93
-close_bracket_ends Start = refl
-close_bracket_ends Plain = refl
-close_bracket_ends Dash = refl
-close_bracket_ends Hash = refl
-close_bracket_ends Number = refl
-
-open_paren_ends : EndsNames 40
-open_paren_ends Start = refl
-open_paren_ends Plain = refl
-open_paren_ends Dash = refl
-open_paren_ends Hash = refl
-open_paren_ends Number = refl
-
-close_paren_ends : EndsNames 41
-close_paren_ends Start = refl
-close_paren_ends Plain = refl
-close_paren_ends Dash = refl
-close_paren_ends Hash = refl
-close_paren_ends Number = refl
+-- a byte with which no state goes on
+separated : (b : ℕ) (rest : List ℕ) → next_state Start b ≡ None → next_state Plain b ≡ None → next_state Dash b ≡ None → next_state Hash b ≡ None → next_state Number b ≡ None → IsSeparated (b ∷ rest)
+separated b rest start plain dash hash number = record { first = b; others = rest; is = refl; ends = by_state }
+  where
+    by_state : EndsNames b
+    by_state Start = start
+    by_state Plain = plain
+    by_state Dash = dash
+    by_state Hash = hash
+    by_state Number = number
 
 -- each of these separates
 pub at_space : (rest : List ℕ) → IsSeparated (32 ∷ rest)
-at_space rest = record { first = 32; others = rest; is = refl; ends = space_ends }
+at_space rest = separated 32 rest refl refl refl refl refl
 
 pub at_lf : (rest : List ℕ) → IsSeparated (10 ∷ rest)
-at_lf rest = record { first = 10; others = rest; is = refl; ends = lf_ends }
+at_lf rest = separated 10 rest refl refl refl refl refl
 
 pub at_comma : (rest : List ℕ) → IsSeparated (44 ∷ rest)
-at_comma rest = record { first = 44; others = rest; is = refl; ends = comma_ends }
+at_comma rest = separated 44 rest refl refl refl refl refl
 
 pub at_colon : (rest : List ℕ) → IsSeparated (58 ∷ rest)
-at_colon rest = record { first = 58; others = rest; is = refl; ends = colon_ends }
+at_colon rest = separated 58 rest refl refl refl refl refl
 
 pub at_open_bracket : (rest : List ℕ) → IsSeparated (91 ∷ rest)
-at_open_bracket rest = record { first = 91; others = rest; is = refl; ends = open_bracket_ends }
+at_open_bracket rest = separated 91 rest refl refl refl refl refl
 
 pub at_close_bracket : (rest : List ℕ) → IsSeparated (93 ∷ rest)
-at_close_bracket rest = record { first = 93; others = rest; is = refl; ends = close_bracket_ends }
+at_close_bracket rest = separated 93 rest refl refl refl refl refl
 
 pub at_open_paren : (rest : List ℕ) → IsSeparated (40 ∷ rest)
-at_open_paren rest = record { first = 40; others = rest; is = refl; ends = open_paren_ends }
+at_open_paren rest = separated 40 rest refl refl refl refl refl
 
 pub at_close_paren : (rest : List ℕ) → IsSeparated (41 ∷ rest)
-at_close_paren rest = record { first = 41; others = rest; is = refl; ends = close_paren_ends }
+at_close_paren rest = separated 41 rest refl refl refl refl refl
 
 -- what is accepted nowhere is not accepted behind one more byte
 led_by : (text : List ℕ) (b : ℕ) (more : List ℕ) → ((s : State) → accepts s (text ++ b ∷ more) ≡ false) → (o : Option State) → option_map_or (λ next. accepts next (text ++ b ∷ more)) o false ≡ false

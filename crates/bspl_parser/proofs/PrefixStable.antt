@@ -51,7 +51,6 @@ pub record StableFailure {X : Type 0} (one : List Token → ParseResult X) (ts :
 
 pub record PrefixStable {X : Type 0} (one : List Token → ParseResult X) : Type 0 where
   pub success : (ts rest : List Token) (x : X) → one ts ≡ Ok (x, rest) → StableSuccess one ts rest x
-  pub failure : (ts : List Token) (f : ErrorPosition) → one ts ≡ Err f → StableFailure one ts f
 
 -- nothing is read
 pub nothing_stable : {X : Type 0} (x : X) → PrefixStable {X = X} (λ ts. Ok (x, ts))
@@ -59,7 +58,6 @@ nothing_stable {X} x =
     record {
       success = λ ts rest y e. (let same = ok_is (x, ts) (y, rest) e in
           record { used = []; parts = ap (λ p. p.1) same; again = λ other alike. ap (λ p. Ok (p.0, other)) same });
-      failure = λ ts f e. absurd cc;
     }
 
 module _ {X Y : Type 0} (one : List Token → ParseResult X) (next : X → List Token → ParseResult Y) (stable : PrefixStable one) (others : (x : X) → PrefixStable (next x)) where
@@ -77,37 +75,11 @@ module _ {X Y : Type 0} (one : List Token → ParseResult X) (next : X → List 
             rw first (b.again other alike);
       }
 
-  then_failure : (ts : List Token) (f : ErrorPosition) (first : ParseResult X) → one ts ≡ first → (first >>= λ p. next p.0 p.1) ≡ Err f → StableFailure (λ ts. one ts >>= λ p. next p.0 p.1) ts f
-  then_failure ts f (Err g) read e =
-      let same : g ≡ f = cc in
-      let a = stable.failure ts f (read ∙ ap (λ (h : ErrorPosition). Err h) same) in
-      record {
-        prefix = a.prefix;
-        left = a.left;
-        parts = a.parts;
-        fault = a.fault;
-        again = λ t after is more. rw (a.again t after is more) refl;
-      }
-  then_failure ts f (Ok p) read e =
-      let a = stable.success ts p.1 p.0 read in
-      let b = (others p.0).failure p.1 f e in
-      record {
-        prefix = a.used ++ b.prefix;
-        left = b.left;
-        parts = a.parts ∙ ap (λ m. a.used ++ m) b.parts ∙ sym (append_assoc a.used b.prefix b.left);
-        fault = b.fault;
-        again = λ t after is more.
-            let mid : Alike p.1 (b.prefix ++ t ∷ more) = subst (λ m. Alike m (b.prefix ++ t ∷ more)) (sym (b.parts ∙ ap (λ l. b.prefix ++ l) is)) (alike_after b.prefix (t ∷ after) (t ∷ more) (alike_first t after more)) in
-            let first : one ((a.used ++ b.prefix) ++ t ∷ more) ≡ Ok (p.0, b.prefix ++ t ∷ more) = ap one (append_assoc a.used b.prefix (t ∷ more)) ∙ a.again (b.prefix ++ t ∷ more) mid in
-            rw first (b.again t after is more);
-      }
-
   -- one reading and then another
   pub then_stable : PrefixStable (λ ts. one ts >>= λ p. next p.0 p.1)
   then_stable =
       record {
         success = λ ts rest y e. then_success ts rest y (one ts) refl e;
-        failure = λ ts f e. then_failure ts f (one ts) refl e;
       }
 
 module _ {X : Type 0} (test : List Token → Bool) (notes : (a b : List Token) → Alike a b → test a ≡ test b) (one other : List Token → ParseResult X) (stable : PrefixStable one) (stable' : PrefixStable other) where
@@ -116,7 +88,6 @@ module _ {X : Type 0} (test : List Token → Bool) (notes : (a b : List Token) �
   either_stable =
       record {
         success = λ ts rest x e. success_by ts rest x (test ts) refl e;
-        failure = λ ts f e. failure_by ts f (test ts) refl e;
       }
     where
       at : (used rest left : List Token) → Alike rest left → test (used ++ left) ≡ test (used ++ rest)
@@ -129,11 +100,3 @@ module _ {X : Type 0} (test : List Token → Bool) (notes : (a b : List Token) �
       success_by ts rest x false goes e =
           let a = stable'.success ts rest x e in
           record { used = a.used; parts = a.parts; again = λ left alike. rw (at a.used rest left alike ∙ ap test (sym a.parts) ∙ goes) (a.again left alike) }
-
-      failure_by : (ts : List Token) (f : ErrorPosition) (goes : Bool) → test ts ≡ goes → cond goes (one ts) (other ts) ≡ Err f → StableFailure (λ ts. cond (test ts) (one ts) (other ts)) ts f
-      failure_by ts f true goes e =
-          let a = stable.failure ts f e in
-          record { prefix = a.prefix; left = a.left; parts = a.parts; fault = a.fault; again = λ t after is more. rw (at a.prefix (t ∷ after) (t ∷ more) (alike_first t after more) ∙ ap test (sym (a.parts ∙ ap (λ l. a.prefix ++ l) is)) ∙ goes) (a.again t after is more) }
-      failure_by ts f false goes e =
-          let a = stable'.failure ts f e in
-          record { prefix = a.prefix; left = a.left; parts = a.parts; fault = a.fault; again = λ t after is more. rw (at a.prefix (t ∷ after) (t ∷ more) (alike_first t after more) ∙ ap test (sym (a.parts ∙ ap (λ l. a.prefix ++ l) is)) ∙ goes) (a.again t after is more) }

@@ -1,7 +1,6 @@
 -- ParseResult phrases one after another is stable.
 use Rattle.std.proofs.Common.{◌≡◌, ℕ, zero, suc, pred, ◌<◌, ◌≤◌, Bool, true, false, not, cond, inl, inr, List, [], ◌∷◌, ◌++◌, length, Result, Ok, Err, refl, sym, ap, subst, ◌∙◌, append_assoc, arith}
 use Rattle.std.proofs.lemmas.Bool.{cases_Bool}
-use Rattle.std.proofs.lemmas.List.{length-append}
 use Rattle.bspl_parser.specs.declared.parse_error.ErrorPosition.{ErrorPosition}
 use Rattle.bspl_parser.specs.declared.list_kind.ListKind.{ListKind}
 use Rattle.bspl_parser.specs.declared.list_kind.ListKind.TheVariants as list_kind
@@ -11,7 +10,7 @@ use Rattle.bspl_parser.specs.inner.ParseResult.{ParseResult, ◌>>=◌}
 use Rattle.bspl_parser.specs.inner.TokenParsers.{symbol_at}
 use Rattle.bspl_parser.specs.inner.GrammarParsers.{has_more, has_comma, separator_at, with_prefix, many_within, many_at}
 use Rattle.bspl_parser.proofs.Spelled.{ok_is}
-use Rattle.bspl_parser.proofs.PrefixStable.{PrefixStable, StableSuccess, Alike, alike_first, alike_after, then_stable, position_of}
+use Rattle.bspl_parser.proofs.PrefixStable.{PrefixStable, StableSuccess, Alike, alike_first, alike_after, then_stable}
 use Rattle.bspl_parser.proofs.PrefixStableTokens.{symbol_stable}
 use Rattle.bspl_parser.proofs.LoopReading.{no_turn, has_more-nil}
 
@@ -21,8 +20,6 @@ stable_same one other same stable =
     record {
       success = λ ts rest x e. (let a = stable.success ts rest x (same ts ∙ e) in
           record { used = a.used; parts = a.parts; again = λ left alike. sym (same (a.used ++ left)) ∙ a.again left alike });
-      failure = λ ts f e. (let a = stable.failure ts f (same ts ∙ e) in
-          record { prefix = a.prefix; left = a.left; parts = a.parts; fault = a.fault; again = λ t after is more. sym (same (a.prefix ++ t ∷ more)) ∙ a.again t after is more });
     }
 
 -- what stands before a phrase, and the phrase
@@ -40,10 +37,18 @@ step_by one stable false = stable
 pub step_stable : {X : Type 0} (kind : ListKind) (one : List Token → ParseResult X) → PrefixStable one → PrefixStable (step kind one)
 step_stable kind one stable = step_by one stable (has_comma kind)
 
+-- a further item is read by a step, and then the others
+pub turned : {X : Type 0} (kind : ListKind) (one : List Token → ParseResult X) (n : ℕ) (ts : List Token) → has_more kind ts ≡ true → many_within kind one (suc n) ts ≡ (step kind one ts >>= λ x. with_prefix (x.0 ∷ []) (many_within kind one n x.1))
+unfolding many_within
+turned {X} kind one n ts goes = rw goes (regroup (separator_at kind ts))
+  where
+    regroup : (first : Result (List Token) ErrorPosition) → (first >>= λ after. one after >>= λ x. with_prefix (x.0 ∷ []) (many_within kind one n x.1)) ≡ ((first >>= λ after. one after) >>= λ x. with_prefix (x.0 ∷ []) (many_within kind one n x.1))
+    regroup (Ok after) = refl
+    regroup (Err f) = refl
+
 module _ {X : Type 0} (kind : ListKind) (one : List Token → ParseResult X) (stable : PrefixStable one)
     (shortens : (ts rest : List Token) (x : X) → step kind one ts ≡ Ok (x, rest) → length rest < length ts)
-    (keeps : (ts rest : List Token) (x : X) (used : List Token) → step kind one ts ≡ Ok (x, rest) → ts ≡ used ++ rest → has_more kind ts ≡ true → (other : List Token) → has_more kind (used ++ other) ≡ true)
-    (keeps_failure : (ts : List Token) (f : ErrorPosition) (prefix left : List Token) → step kind one ts ≡ Err f → ts ≡ prefix ++ left → has_more kind ts ≡ true → (t : Token) (after : List Token) → left ≡ t ∷ after → (more : List Token) → has_more kind (prefix ++ t ∷ more) ≡ true) where
+    (keeps : (ts rest : List Token) (x : X) (used : List Token) → step kind one ts ≡ Ok (x, rest) → ts ≡ used ++ rest → has_more kind ts ≡ true → (other : List Token) → has_more kind (used ++ other) ≡ true) where
   -- the phrases that were read are read again, with any room that is enough
   pub record ManySuccess (ts rest : List Token) (xs : List X) : Type 0 where
     pub used : List Token
@@ -59,14 +64,6 @@ module _ {X : Type 0} (kind : ListKind) (one : List Token → ParseResult X) (st
         parts = left;
         again = λ other alike goes m enough. no_turn kind one m other (sym goes ∙ ap (has_more kind) (sym left) ∙ ends) ∙ ap (λ p. Ok (p.0, other)) same;
       }
-
-  pub turned : (n : ℕ) (ts : List Token) → has_more kind ts ≡ true → many_within kind one (suc n) ts ≡ (step kind one ts >>= λ x. with_prefix (x.0 ∷ []) (many_within kind one n x.1))
-  unfolding many_within
-  turned n ts goes = rw goes (regroup (separator_at kind ts))
-    where
-      regroup : (first : Result (List Token) ErrorPosition) → (first >>= λ after. one after >>= λ x. with_prefix (x.0 ∷ []) (many_within kind one n x.1)) ≡ ((first >>= λ after. one after) >>= λ x. with_prefix (x.0 ∷ []) (many_within kind one n x.1))
-      regroup (Ok after) = refl
-      regroup (Err f) = refl
 
   -- one phrase and then the others
   more_success : (n : ℕ) (ts rest : List Token) (xs : List X) → has_more kind ts ≡ true → (first : ParseResult X) → step kind one ts ≡ first
@@ -99,7 +96,7 @@ module _ {X : Type 0} (kind : ListKind) (one : List Token → ParseResult X) (st
                 let room : m ≡ suc (pred m) = omega arith in
                 let goes' = keeps ts x.1 x.0 a.used read a.parts goes (b.used ++ other) in
                 let rest_again = b.again other alike still (pred m) (omega arith) in
-                ap (λ k. many_within kind one k ((a.used ++ b.used) ++ other)) room ∙ ap (many_within kind one (suc (pred m))) list ∙ turned (pred m) (a.used ++ (b.used ++ other)) goes' ∙ rw (again, rest_again) (ap (λ p. Ok (p.0, other)) same);
+                ap (λ k. many_within kind one k ((a.used ++ b.used) ++ other)) room ∙ ap (many_within kind one (suc (pred m))) list ∙ turned kind one (pred m) (a.used ++ (b.used ++ other)) goes' ∙ rw (again, rest_again) (ap (λ p. Ok (p.0, other)) same);
           }
 
   pub many_success : (n : ℕ) (ts rest : List Token) (xs : List X) → length ts ≤ n → many_within kind one n ts ≡ Ok (xs, rest) → ManySuccess ts rest xs
@@ -108,69 +105,8 @@ module _ {X : Type 0} (kind : ListKind) (one : List Token → ParseResult X) (st
   many_success zero (t ∷ ts) rest xs enough e = absurd (omega arith)
   many_success (suc n) ts rest xs enough e =
       elim (cases_Bool (has_more kind ts)) [
-        | inl goes ↦ more_success n ts rest xs goes (step kind one ts) refl (λ mid ys shorter read. many_success n mid rest ys (omega arith) read) (sym (turned n ts goes) ∙ e)
+        | inl goes ↦ more_success n ts rest xs goes (step kind one ts) refl (λ mid ys shorter read. many_success n mid rest ys (omega arith) read) (sym (turned kind one n ts goes) ∙ e)
         | inr ends ↦ ended ts rest xs ends (sym (no_turn kind one (suc n) ts ends) ∙ e)
-      ]
-
-  -- a fault among the phrases stays so, with any room that is enough
-  pub record ManyStuck (ts : List Token) (f : ErrorPosition) : Type 0 where
-    pub prefix : List Token
-    pub left : List Token
-    pub parts : ts ≡ prefix ++ left
-    pub fault : f ≡ position_of left
-    pub again : (t : Token) (after : List Token) → left ≡ t ∷ after → (more : List Token) (m : ℕ) → length (prefix ++ t ∷ more) ≤ m → many_within kind one m (prefix ++ t ∷ more) ≡ Err f
-
-  more_failure : (n : ℕ) (ts : List Token) (f : ErrorPosition) → has_more kind ts ≡ true → (first : ParseResult X) → step kind one ts ≡ first
-      → ((mid : List Token) → length mid < length ts → many_within kind one n mid ≡ Err f → ManyStuck mid f)
-      → (first >>= λ x. with_prefix (x.0 ∷ []) (many_within kind one n x.1)) ≡ Err f → ManyStuck ts f
-  more_failure n ts f goes (Err g) read others e =
-      let same : g ≡ f = cc in
-      let a = (step_stable kind one stable).failure ts f (read ∙ ap (λ (h : ErrorPosition). Err h) same) in
-      record {
-        prefix = a.prefix;
-        left = a.left;
-        parts = a.parts;
-        fault = a.fault;
-        again = λ t after is more m enough.
-            let long = length-append a.prefix (t ∷ more) in
-            let room : m ≡ suc (pred m) = omega arith in
-            let goes' = keeps_failure ts f a.prefix a.left (read ∙ ap (λ (h : ErrorPosition). Err h) same) a.parts goes t after is more in
-            ap (λ k. many_within kind one k (a.prefix ++ t ∷ more)) room ∙ turned (pred m) (a.prefix ++ t ∷ more) goes' ∙ rw (a.again t after is more) refl;
-      }
-  more_failure n ts f goes (Ok x) read others e = following (many_within kind one n x.1) refl e
-    where
-      a : StableSuccess (step kind one) ts x.1 x.0
-      a = (step_stable kind one stable).success ts x.1 x.0 read
-
-      following : (others_read : ParseResult (List X)) → many_within kind one n x.1 ≡ others_read → with_prefix (x.0 ∷ []) others_read ≡ Err f → ManyStuck ts f
-      following (Ok ys) is made = absurd cc
-      following (Err g) is made =
-          let same : g ≡ f = cc in
-          let b = others x.1 (shortens ts x.1 x.0 read) (is ∙ ap (λ (h : ErrorPosition). Err h) same) in
-          record {
-            prefix = a.used ++ b.prefix;
-            left = b.left;
-            parts = a.parts ∙ ap (λ m. a.used ++ m) b.parts ∙ sym (append_assoc a.used b.prefix b.left);
-            fault = b.fault;
-            again = λ t after first more m enough.
-                let list : (a.used ++ b.prefix) ++ t ∷ more ≡ a.used ++ (b.prefix ++ t ∷ more) = append_assoc a.used b.prefix (t ∷ more) in
-                let mid : Alike x.1 (b.prefix ++ t ∷ more) = subst (λ m. Alike m (b.prefix ++ t ∷ more)) (sym (b.parts ∙ ap (λ l. b.prefix ++ l) first)) (alike_after b.prefix (t ∷ after) (t ∷ more) (alike_first t after more)) in
-                let again : step kind one (a.used ++ (b.prefix ++ t ∷ more)) ≡ Ok (x.0, b.prefix ++ t ∷ more) = a.again (b.prefix ++ t ∷ more) mid in
-                let short = shortens (a.used ++ (b.prefix ++ t ∷ more)) (b.prefix ++ t ∷ more) x.0 again in
-                let len = ap length list in
-                let room : m ≡ suc (pred m) = omega arith in
-                let goes' = keeps ts x.1 x.0 a.used read a.parts goes (b.prefix ++ t ∷ more) in
-                let rest_again = b.again t after first more (pred m) (omega arith) in
-                ap (λ k. many_within kind one k ((a.used ++ b.prefix) ++ t ∷ more)) room ∙ ap (many_within kind one (suc (pred m))) list ∙ turned (pred m) (a.used ++ (b.prefix ++ t ∷ more)) goes' ∙ rw (again, rest_again) refl;
-          }
-
-  pub many_failure : (n : ℕ) (ts : List Token) (f : ErrorPosition) → length ts ≤ n → many_within kind one n ts ≡ Err f → ManyStuck ts f
-  unfolding many_within
-  many_failure zero ts f enough e = absurd cc
-  many_failure (suc n) ts f enough e =
-      elim (cases_Bool (has_more kind ts)) [
-        | inl goes ↦ more_failure n ts f goes (step kind one ts) refl (λ mid shorter read. many_failure n mid f (omega arith) read) (sym (turned n ts goes) ∙ e)
-        | inr ends ↦ absurd (let none = no_turn kind one (suc n) ts ends in cc)
       ]
 
   -- where the first token alone tells whether reading goes on, it is stable
@@ -179,8 +115,6 @@ module _ {X : Type 0} (kind : ListKind) (one : List Token → ParseResult X) (st
       record {
         success = λ ts rest xs e. (let a = many_success (length ts) ts rest xs (omega arith) e in
             record { used = a.used; parts = a.parts; again = λ other alike. a.again other alike (notes rest other alike) (length (a.used ++ other)) (omega arith) });
-        failure = λ ts f e. (let a = many_failure (length ts) ts f (omega arith) e in
-            record { prefix = a.prefix; left = a.left; parts = a.parts; fault = a.fault; again = λ t after is more. a.again t after is more (length (a.prefix ++ t ∷ more)) (omega arith) });
       }
 
 -- what is taken from the front is some token
@@ -203,7 +137,7 @@ module _ {X : Type 0} (kind : ListKind) (one : List Token → ParseResult X) (st
 
   -- reading phrases by the first token is stable
   pub phrases_stable : PrefixStable (many_at kind one)
-  phrases_stable = many_stable kind one stable shortens keeps_one keeps_fault notes
+  phrases_stable = many_stable kind one stable shortens keeps_one notes
 
 -- the first token tells of a comma, a name and the end
 pub comma_notes : (a b : List Token) → Alike a b → has_more list_kind.Comma a ≡ has_more list_kind.Comma b

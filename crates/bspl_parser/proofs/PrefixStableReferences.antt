@@ -28,9 +28,9 @@ use Rattle.bspl_parser.proofs.SymbolLemmas.{same_symbol-true}
 use Rattle.bspl_parser.proofs.Lists.{separator_sound, many-sound, many-complete}
 use Rattle.bspl_parser.proofs.Listed.{formals_repeat}
 use Rattle.bspl_parser.proofs.Items.{roles_repeat}
-use Rattle.bspl_parser.proofs.PrefixStable.{PrefixStable, StableSuccess, StableFailure, Alike, alike_first, alike_after, then_stable, nothing_stable}
+use Rattle.bspl_parser.proofs.PrefixStable.{PrefixStable, StableSuccess, StableFailure, Alike, alike_after, then_stable, nothing_stable}
 use Rattle.bspl_parser.proofs.PrefixStableTokens.{word_stable, symbol_stable}
-use Rattle.bspl_parser.proofs.PrefixStableLists.{step, ManySuccess, many_success, many_failure}
+use Rattle.bspl_parser.proofs.PrefixStableLists.{step, ManySuccess, many_success}
 use Rattle.bspl_parser.proofs.PrefixStablePhrases.{step_shortens, more_formals, AnyWord, AnyTokens}
 
 -- two tokens tell whether a role comes
@@ -65,14 +65,11 @@ roles_keep ts rest w used read parts goes other =
     let same : used ≡ Fixed Comma comma.3.0 ∷ Name w ∷ [] = append_cancel_right used (Fixed Comma comma.3.0 ∷ Name w ∷ []) rest (sym parts ∙ prefix) in
     ap (λ u. has_more list_kind.CommaName (u ++ other)) same)
 
-pub roles_keep_failure : (ts : List Token) (f : ErrorPosition) (prefix left : List Token) → step list_kind.CommaName word_at ts ≡ Err f → ts ≡ prefix ++ left → has_more list_kind.CommaName ts ≡ true → (t : Token) (after : List Token) → left ≡ t ∷ after → (more : List Token) → has_more list_kind.CommaName (prefix ++ t ∷ more) ≡ true
-roles_keep_failure ts f prefix left read parts goes t after is more = absurd (role_comes ts f goes read)
-
 abbrev pub RolesSuccess : List Token → List Token → List Word → Type 0
-RolesSuccess ts rest ws = ManySuccess list_kind.CommaName word_at word_stable roles_shorten roles_keep roles_keep_failure ts rest ws
+RolesSuccess ts rest ws = ManySuccess list_kind.CommaName word_at word_stable roles_shorten roles_keep ts rest ws
 
 pub roles_success : (ts rest : List Token) (ws : List Word) → many_at list_kind.CommaName word_at ts ≡ Ok (ws, rest) → RolesSuccess ts rest ws
-roles_success ts rest ws e = many_success list_kind.CommaName word_at word_stable roles_shorten roles_keep roles_keep_failure (length ts) ts rest ws (omega arith) e
+roles_success ts rest ws e = many_success list_kind.CommaName word_at word_stable roles_shorten roles_keep (length ts) ts rest ws (omega arith) e
 
 -- the parameters of a reference, and its end
 abbrev pub params_at : {X : Type 0} → (List Formal → X) → List Token → ParseResult X
@@ -177,38 +174,10 @@ module _ {X : Type 0} (first : Word) (make : List Word → List Formal → X) wh
             ap (roles_on first make) list ∙ rw roles (b.again other alike);
       }
 
-  roles_on_failure : (ts : List Token) (f : ErrorPosition) (roles : ParseResult (List Word)) → many_at list_kind.CommaName word_at ts ≡ roles → (with_prefix (first ∷ []) roles >>= λ roles. params_at (make roles.0) roles.1) ≡ Err f → StableFailure (roles_on first make) ts f
-  roles_on_failure ts f (Err g) read e =
-      let same : g ≡ f = cc in
-      let a = many_failure list_kind.CommaName word_at word_stable roles_shorten roles_keep roles_keep_failure (length ts) ts f (omega arith) (read ∙ ap (λ (h : ErrorPosition). Err h) same) in
-      record {
-        prefix = a.prefix;
-        left = a.left;
-        parts = a.parts;
-        fault = a.fault;
-        again = λ t after is more. (let again : many_at list_kind.CommaName word_at (a.prefix ++ t ∷ more) ≡ Err f = a.again t after is more (length (a.prefix ++ t ∷ more)) (omega arith) in rw again refl);
-      }
-  roles_on_failure ts f (Ok ws) read e =
-      let a = roles_success ts ws.1 ws.0 read in
-      let b = (params_stable (make (first ∷ ws.0))).failure ws.1 f e in
-      record {
-        prefix = a.used ++ b.prefix;
-        left = b.left;
-        parts = a.parts ∙ ap (λ m. a.used ++ m) b.parts ∙ sym (append_assoc a.used b.prefix b.left);
-        fault = b.fault;
-        again = λ t after is more.
-            let list : (a.used ++ b.prefix) ++ t ∷ more ≡ a.used ++ (b.prefix ++ t ∷ more) = append_assoc a.used b.prefix (t ∷ more) in
-            let mid : Alike ws.1 (b.prefix ++ t ∷ more) = subst (λ m. Alike m (b.prefix ++ t ∷ more)) (sym (b.parts ∙ ap (λ l. b.prefix ++ l) is)) (alike_after b.prefix (t ∷ after) (t ∷ more) (alike_first t after more)) in
-            let goes = goes_failure (make (first ∷ ws.0)) ws.1 f b t after is more in
-            let roles : many_at list_kind.CommaName word_at (a.used ++ (b.prefix ++ t ∷ more)) ≡ Ok (ws.0, b.prefix ++ t ∷ more) = a.again (b.prefix ++ t ∷ more) mid goes (length (a.used ++ (b.prefix ++ t ∷ more))) (omega arith) in
-            ap (roles_on first make) list ∙ rw roles (b.again t after is more);
-      }
-
   pub roles_on_stable : PrefixStable (roles_on first make)
   roles_on_stable =
       record {
         success = λ ts rest x e. roles_on_success ts rest x (many_at list_kind.CommaName word_at ts) refl e;
-        failure = λ ts f e. roles_on_failure ts f (many_at list_kind.CommaName word_at ts) refl e;
       }
 
 pub reference_stable : (protocol : Word) → PrefixStable (reference_at protocol)

@@ -40,30 +40,9 @@ module _ {X : Type 0} (one : List Token → ParseResult X) (takes : TakesOne one
         again = λ other alike. takes.some t other ∙ rw is (ap (λ p. Ok (p.0, other)) same);
       }
 
-  failure_of : (t : Token) (ts : List Token) (f : ErrorPosition) (given : Result X ErrorPosition) → takes.give t ≡ given → with_rest given ts ≡ Err f → StableFailure one (t ∷ ts) f
-  failure_of t ts f (Ok y) is e = absurd cc
-  failure_of t ts f (Err g) is e =
-      let same : g ≡ f = cc in
-      record {
-        prefix = [];
-        left = t ∷ ts;
-        parts = refl;
-        fault = takes.blames t f (is ∙ ap (λ (h : ErrorPosition). Err h) same);
-        again = λ u after same_first more.
-            let first : t ≡ u = cc in
-            subst (λ u. one (u ∷ more) ≡ Err f) first (takes.some t more ∙ rw is (ap (λ (h : ErrorPosition). Err h) same));
-      }
-
   success_at : (ts rest : List Token) (x : X) → one ts ≡ Ok (x, rest) → StableSuccess one ts rest x
   success_at [] rest x e = absurd (let none = takes.none in cc)
   success_at (t ∷ ts) rest x e = success_of t ts rest x (takes.give t) refl (sym (takes.some t ts) ∙ e)
-
-  failure_at : (ts : List Token) (f : ErrorPosition) → one ts ≡ Err f → StableFailure one ts f
-  failure_at [] f e =
-      let none = takes.none in
-      let is : End ≡ f = cc in
-      record { prefix = []; left = []; parts = refl; fault = sym is; again = λ t after same more. absurd cc }
-  failure_at (t ∷ ts) f e = failure_of t ts f (takes.give t) refl (sym (takes.some t ts) ∙ e)
 
   -- it stops at the first token
   stops_first_of : (t : Token) (ts : List Token) (f : ErrorPosition) (given : Result X ErrorPosition) → takes.give t ≡ given → with_rest given ts ≡ Err f → (s : StableFailure one (t ∷ ts) f) × (s.prefix ≡ [])
@@ -86,7 +65,7 @@ module _ {X : Type 0} (one : List Token → ParseResult X) (takes : TakesOne one
 
   -- it is stable
   pub takes_stable : PrefixStable one
-  takes_stable = record { success = success_at; failure = failure_at }
+  takes_stable = record { success = success_at }
 
 -- a word
 give_word : Token → Result Word ErrorPosition

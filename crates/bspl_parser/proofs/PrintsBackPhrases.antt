@@ -15,7 +15,6 @@ use Rattle.bspl_parser.proofs.MaximalMunch.{IsSeparated, at_space, at_colon, at_
 use Rattle.bspl_parser.proofs.PrintsBack.{PrintsBack, PrintsBack-as, PrintsBack-before, PrintsBack-then, Anything, gap_prints_back}
 use Rattle.bspl_parser.proofs.PrintsBackLists.{commas_separated, commas_prints_back, list_prints_back}
 use Rattle.bspl_parser.proofs.PrintsBackTokens.{name_prints_back, word_prints_back, mark_prints_back, adorn_prints_back, space_prints_back, colon_prints_back, arrow_prints_back}
-use Rattle.bspl_parser.proofs.Texts.{openbracket_mark, closebracket_mark, openparen_mark, closeparen_mark}
 
 -- the word `key`, or nothing
 key_prints_back : (key : Option ℕ) → PrintsBack IsSeparated (printed_key key) signs_of_key (λ k. key_without_offset k ≡ key_without_offset key)
@@ -56,11 +55,11 @@ pub message_prints_back : (m : Schema) → PrintsBack Anything (printed_message 
 message_prints_back m =
     let sent = PrintsBack-then (λ rest must. at_space _) (name_prints_back m.sender) arrow_prints_back in
     let received = PrintsBack-then (λ rest must. at_colon _) (PrintsBack-then (λ rest must. tt) sent (name_prints_back m.receiver)) colon_prints_back in
-    let named = PrintsBack-then (λ rest must. at_open_bracket rest) (PrintsBack-then (λ rest must. tt) received (name_prints_back m.name)) (mark_prints_back OpenBracket openbracket_mark) in
+    let named = PrintsBack-then (λ rest must. at_open_bracket rest) (PrintsBack-then (λ rest must. tt) received (name_prints_back m.name)) (mark_prints_back OpenBracket refl) in
     PrintsBack-as signs_of_message (λ n. message_without_offsets n ≡ message_without_offsets m)
     (λ (v : (((((((Word × ℕ) × Word) × ℕ) × Word) × ℕ) × List Formal) × ℕ)). record { sender = v.0.0.0.0.0.0.0; receiver = v.0.0.0.0.0.1; name = v.0.0.0.1; params = v.0.1 }) (λ v. refl)
     (λ v like. message_same _ _ _ _ _ _ _ _ like.0.0.0.0.0.0.0 like.0.0.0.0.0.1 like.0.0.0.1 like.0.1)
-    (PrintsBack-then (λ rest must. at_close_bracket rest) (PrintsBack-then (λ rest must. tt) named (formals_prints_back m.params)) (mark_prints_back CloseBracket closebracket_mark))
+    (PrintsBack-then (λ rest must. at_close_bracket rest) (PrintsBack-then (λ rest must. tt) named (formals_prints_back m.params)) (mark_prints_back CloseBracket refl))
 
 -- references of equal parts are one
 reference_same : (a b : Word) (vs ws : List Word) (ps qs : List Formal) → a ≡ b → vs ≡ ws → ps ≡ qs → ◌≡◌ {A = Reference} (record { protocol = a; roles = vs; params = ps }) (record { protocol = b; roles = ws; params = qs })
@@ -69,11 +68,11 @@ reference_same a b vs ws ps qs protocols roles params = rw (protocols, roles, pa
 -- a reference
 pub reference_prints_back : (r : Reference) → PrintsBack Anything (printed_reference r) signs_of_reference (λ s. reference_without_offsets s ≡ reference_without_offsets r)
 reference_prints_back r =
-    let opened = PrintsBack-then (λ rest must. at_open_paren rest) (name_prints_back r.protocol) (mark_prints_back OpenParen openparen_mark) in
+    let opened = PrintsBack-then (λ rest must. at_open_paren rest) (name_prints_back r.protocol) (mark_prints_back OpenParen refl) in
     let roles = PrintsBack-then (λ rest must. tt) opened (words_prints_back r.roles) in
     let params = PrintsBack-then (commas_separated printed_formal signs_of_formal formal_without_offsets r.params) roles (commas_prints_back printed_formal signs_of_formal formal_without_offsets formal_prints_back r.params) in
     PrintsBack-as signs_of_reference (λ s. reference_without_offsets s ≡ reference_without_offsets r)
     (λ (v : (((Word × ℕ) × List Word) × List Formal) × ℕ). record { protocol = v.0.0.0.0; roles = v.0.0.1; params = v.0.1 })
     (λ v. ap (λ signs. Named v.0.0.0.0 ∷ Plain OpenParen ∷ signs) (append_assoc (listed signs_of_word v.0.0.1) (after_commas signs_of_formal v.0.1) (Plain CloseParen ∷ [])))
     (λ v like. reference_same _ _ _ _ _ _ like.0.0.0.0 like.0.0.1 like.0.1)
-    (PrintsBack-then (λ rest must. at_close_paren rest) params (mark_prints_back CloseParen closeparen_mark))
+    (PrintsBack-then (λ rest must. at_close_paren rest) params (mark_prints_back CloseParen refl))

@@ -1,5 +1,5 @@
 -- Names, reserved words, marks and blanks are scanned as themselves.
-use Rattle.std.proofs.Common.{◌≡◌, ℕ, true, [], ◌∷◌, ◌++◌, inl, refl, codes}
+use Rattle.std.proofs.Common.{◌≡◌, ℕ, true, false, [], ◌∷◌, ◌++◌, inl, refl, codes}
 use Rattle.bspl_parser.specs.declared.document.Adorn.{Adorn}
 use Rattle.bspl_parser.specs.declared.document.Adorn.TheVariants as adorn
 use Rattle.bspl_parser.specs.declared.name_length.State.TheVariants.{Start}
@@ -16,7 +16,7 @@ use Rattle.bspl_parser.proofs.MaximalMunch.{IsSeparated, at_space, word_is_longe
 use Rattle.bspl_parser.proofs.PrintsBack.{PrintsBack, PrintsBack-as, PrintsBack-then, Anything, AnyOf, none, gap_prints_back, token_prints_back}
 use Rattle.bspl_parser.proofs.NameLemmas.{name_is_accepted}
 use Rattle.bspl_parser.proofs.NameLengthLemmas.{accepts}
-use Rattle.bspl_parser.proofs.Texts.{IsMarkText, short_arrow_mark, openbrace_mark, closebrace_mark, comma_mark, colon_mark}
+use Rattle.bspl_parser.proofs.Texts.{mark_of}
 
 -- a name
 pub name_prints_back : (w : Word) → PrintsBack IsSeparated w.text signs_of_word (λ v. word_without_offset v ≡ word_without_offset w)
@@ -29,8 +29,8 @@ pub word_prints_back : (s : Symbol) (sign : ℕ → Sign) → accepts Start (spe
 word_prints_back s sign word matches = token_prints_back IsSeparated (spelling s) (λ o. Fixed s o) sign (λ o. inl refl) (λ o. refl) matches (word_is_longest (spelling s) word)
 
 -- a mark
-pub mark_prints_back : (s : Symbol) → IsMarkText (spelling s) → PrintsBack Anything (spelling s) (λ (o : ℕ). Plain s ∷ []) (AnyOf ℕ)
-mark_prints_back s mark = token_prints_back Anything (spelling s) (λ o. Fixed s o) (λ o. Plain s) (λ o. inl refl) (λ o. refl) (λ o. (o, refl)) (λ rest may. mark_is_longest (spelling s) mark rest)
+pub mark_prints_back : (s : Symbol) → accepts Start (spelling s) ≡ false → PrintsBack Anything (spelling s) (λ (o : ℕ). Plain s ∷ []) (AnyOf ℕ)
+mark_prints_back s no_word = token_prints_back Anything (spelling s) (λ o. Fixed s o) (λ o. Plain s) (λ o. inl refl) (λ o. refl) (λ o. (o, refl)) (λ rest may. mark_is_longest (spelling s) (mark_of s no_word) rest)
 
 -- an adornment
 adorn_word : (a : Adorn) → accepts Start (spelling (symbol_of a)) ≡ true
@@ -59,20 +59,20 @@ spaced_prints_back s sign word matches = PrintsBack-as (λ (o : ℕ). sign o ∷
 
 -- marks among blanks
 pub comma_prints_back : PrintsBack Anything (codes ", ") (λ (o : ℕ). Plain Comma ∷ []) (AnyOf ℕ)
-comma_prints_back = PrintsBack-as (λ (o : ℕ). Plain Comma ∷ []) (AnyOf ℕ) (λ (v : ℕ × Unit {0}). v.0) (λ v. refl) (λ v like. tt) (PrintsBack-then (λ rest must. tt) (mark_prints_back Comma comma_mark) space_prints_back)
+comma_prints_back = PrintsBack-as (λ (o : ℕ). Plain Comma ∷ []) (AnyOf ℕ) (λ (v : ℕ × Unit {0}). v.0) (λ v. refl) (λ v like. tt) (PrintsBack-then (λ rest must. tt) (mark_prints_back Comma refl) space_prints_back)
 
 pub colon_prints_back : PrintsBack Anything (codes ": ") (λ (o : ℕ). Plain Colon ∷ []) (AnyOf ℕ)
-colon_prints_back = PrintsBack-as (λ (o : ℕ). Plain Colon ∷ []) (AnyOf ℕ) (λ (v : ℕ × Unit {0}). v.0) (λ v. refl) (λ v like. tt) (PrintsBack-then (λ rest must. tt) (mark_prints_back Colon colon_mark) space_prints_back)
+colon_prints_back = PrintsBack-as (λ (o : ℕ). Plain Colon ∷ []) (AnyOf ℕ) (λ (v : ℕ × Unit {0}). v.0) (λ v. refl) (λ v like. tt) (PrintsBack-then (λ rest must. tt) (mark_prints_back Colon refl) space_prints_back)
 
 pub arrow_prints_back : PrintsBack Anything (codes " -> ") (λ (o : ℕ). Plain Arrow ∷ []) (AnyOf ℕ)
 arrow_prints_back =
     PrintsBack-as (λ (o : ℕ). Plain Arrow ∷ []) (AnyOf ℕ) (λ (v : (Unit {0} × ℕ) × Unit {0}). v.0.1) (λ v. refl) (λ v like. tt)
-    (PrintsBack-then (λ rest must. tt) (PrintsBack-then (λ rest must. tt) space_prints_back (mark_prints_back Arrow short_arrow_mark)) space_prints_back)
+    (PrintsBack-then (λ rest must. tt) (PrintsBack-then (λ rest must. tt) space_prints_back (mark_prints_back Arrow refl)) space_prints_back)
 
 pub open_prints_back : PrintsBack Anything (codes " {\n") (λ (o : ℕ). Plain OpenBrace ∷ []) (AnyOf ℕ)
 open_prints_back =
     PrintsBack-as (λ (o : ℕ). Plain OpenBrace ∷ []) (AnyOf ℕ) (λ (v : (Unit {0} × ℕ) × Unit {0}). v.0.1) (λ v. refl) (λ v like. tt)
-    (PrintsBack-then (λ rest must. tt) (PrintsBack-then (λ rest must. tt) space_prints_back (mark_prints_back OpenBrace openbrace_mark)) lf_prints_back)
+    (PrintsBack-then (λ rest must. tt) (PrintsBack-then (λ rest must. tt) space_prints_back (mark_prints_back OpenBrace refl)) lf_prints_back)
 
 pub close_prints_back : PrintsBack Anything (codes "}\n") (λ (o : ℕ). Plain CloseBrace ∷ []) (AnyOf ℕ)
-close_prints_back = PrintsBack-as (λ (o : ℕ). Plain CloseBrace ∷ []) (AnyOf ℕ) (λ (v : ℕ × Unit {0}). v.0) (λ v. refl) (λ v like. tt) (PrintsBack-then (λ rest must. tt) (mark_prints_back CloseBrace closebrace_mark) lf_prints_back)
+close_prints_back = PrintsBack-as (λ (o : ℕ). Plain CloseBrace ∷ []) (AnyOf ℕ) (λ (v : ℕ × Unit {0}). v.0) (λ v. refl) (λ v like. tt) (PrintsBack-then (λ rest must. tt) (mark_prints_back CloseBrace refl) lf_prints_back)

@@ -1,8 +1,8 @@
 -- The texts of tokens: words, and marks.
-use Rattle.std.proofs.Common.{◌≡◌, ℕ, zero, suc, true, false, eqb, List, [], ◌∷◌, ◌++◌, length, take, Option, Some, None, ◌⊎◌, inl, inr, refl, sym, ap, subst, ◌∙◌}
+use Rattle.std.proofs.Common.{◌≡◌, ℕ, zero, suc, Bool, true, false, not, ◌&&◌, eqb, List, [], ◌∷◌, ◌++◌, length, take, Option, Some, None, ◌⊎◌, inl, inr, refl, sym, ap, subst, ◌∙◌}
 use Rattle.std.specs.List.{find}
 use Rattle.std.specs.Str.{bytes_eq}
-use Rattle.std.proofs.lemmas.Bool.{cases_Bool, eqb-true}
+use Rattle.std.proofs.lemmas.Bool.{cases_Bool, eqb-true, and_parts}
 use Rattle.bspl_types.specs.Name.{begins_name, is_name}
 use Rattle.bspl_parser.specs.declared.name_length.State.TheVariants.{Start}
 use Rattle.bspl_parser.specs.declared.symbol.Symbol.{Symbol}
@@ -25,95 +25,43 @@ pub record IsSolid (text : List ℕ) : Type 0 where
   pub no_blank : is_blank_byte first ≡ false
   pub no_slash : eqb first 47 ≡ false
 
--- the text of a mark: the mark is found at the front of what begins with it, which begins no name
+-- the text of a mark: what begins with it is found to begin with the mark, and begins with no name
 pub record IsMarkText (text : List ℕ) : Type 0 where
   pub symbol : Symbol
   pub again : (rest : List ℕ) → mark_at (text ++ rest) ≡ Some (symbol, length text)
   pub no_name : (rest : List ℕ) → (n : ℕ) → accepts Start (take n (text ++ rest)) ≡ false
   pub solid : IsSolid text
 
-short_arrow_mark_none : (rest : List ℕ) (n : ℕ) → accepts Start (take n (spelling Arrow ++ rest)) ≡ false
-short_arrow_mark_none rest zero = refl
-short_arrow_mark_none rest (suc n) = refl
+-- it begins with a byte that begins no name, no blank and no comment
+abbrev begins_mark : List ℕ → Bool
+begins_mark [] = false
+begins_mark (b ∷ bs) = (not (begins_name b) && not (is_blank_byte b)) && not (eqb b 47)
 
-pub short_arrow_mark : IsMarkText (spelling Arrow)
-unfolding mark_at
-short_arrow_mark = record { symbol = Arrow; again = λ rest. refl; no_name = short_arrow_mark_none; solid = record { first = 45; others = 62 ∷ []; is = refl; no_blank = refl; no_slash = refl } }
+-- no name begins with a byte that begins no name
+no_name_begins : (b : ℕ) (bs : List ℕ) → begins_name b ≡ false → (n : ℕ) → accepts Start (take n (b ∷ bs)) ≡ false
+no_name_begins b bs none zero = refl
+no_name_begins b bs none (suc n) = rw none refl
 
-openbrace_mark_none : (rest : List ℕ) (n : ℕ) → accepts Start (take n (spelling OpenBrace ++ rest)) ≡ false
-openbrace_mark_none rest zero = refl
-openbrace_mark_none rest (suc n) = refl
+not_true : (b : Bool) → not b ≡ true → b ≡ false
+not_true true is = absurd cc
+not_true false is = refl
 
-pub openbrace_mark : IsMarkText (spelling OpenBrace)
-unfolding mark_at
-openbrace_mark = record { symbol = OpenBrace; again = λ rest. refl; no_name = openbrace_mark_none; solid = record { first = 123; others = []; is = refl; no_blank = refl; no_slash = refl } }
-
-closebrace_mark_none : (rest : List ℕ) (n : ℕ) → accepts Start (take n (spelling CloseBrace ++ rest)) ≡ false
-closebrace_mark_none rest zero = refl
-closebrace_mark_none rest (suc n) = refl
-
-pub closebrace_mark : IsMarkText (spelling CloseBrace)
-unfolding mark_at
-closebrace_mark = record { symbol = CloseBrace; again = λ rest. refl; no_name = closebrace_mark_none; solid = record { first = 125; others = []; is = refl; no_blank = refl; no_slash = refl } }
-
-openbracket_mark_none : (rest : List ℕ) (n : ℕ) → accepts Start (take n (spelling OpenBracket ++ rest)) ≡ false
-openbracket_mark_none rest zero = refl
-openbracket_mark_none rest (suc n) = refl
-
-pub openbracket_mark : IsMarkText (spelling OpenBracket)
-unfolding mark_at
-openbracket_mark = record { symbol = OpenBracket; again = λ rest. refl; no_name = openbracket_mark_none; solid = record { first = 91; others = []; is = refl; no_blank = refl; no_slash = refl } }
-
-closebracket_mark_none : (rest : List ℕ) (n : ℕ) → accepts Start (take n (spelling CloseBracket ++ rest)) ≡ false
-closebracket_mark_none rest zero = refl
-closebracket_mark_none rest (suc n) = refl
-
-pub closebracket_mark : IsMarkText (spelling CloseBracket)
-unfolding mark_at
-closebracket_mark = record { symbol = CloseBracket; again = λ rest. refl; no_name = closebracket_mark_none; solid = record { first = 93; others = []; is = refl; no_blank = refl; no_slash = refl } }
-
-openparen_mark_none : (rest : List ℕ) (n : ℕ) → accepts Start (take n (spelling OpenParen ++ rest)) ≡ false
-openparen_mark_none rest zero = refl
-openparen_mark_none rest (suc n) = refl
-
-pub openparen_mark : IsMarkText (spelling OpenParen)
-unfolding mark_at
-openparen_mark = record { symbol = OpenParen; again = λ rest. refl; no_name = openparen_mark_none; solid = record { first = 40; others = []; is = refl; no_blank = refl; no_slash = refl } }
-
-closeparen_mark_none : (rest : List ℕ) (n : ℕ) → accepts Start (take n (spelling CloseParen ++ rest)) ≡ false
-closeparen_mark_none rest zero = refl
-closeparen_mark_none rest (suc n) = refl
-
-pub closeparen_mark : IsMarkText (spelling CloseParen)
-unfolding mark_at
-closeparen_mark = record { symbol = CloseParen; again = λ rest. refl; no_name = closeparen_mark_none; solid = record { first = 41; others = []; is = refl; no_blank = refl; no_slash = refl } }
-
-comma_mark_none : (rest : List ℕ) (n : ℕ) → accepts Start (take n (spelling Comma ++ rest)) ≡ false
-comma_mark_none rest zero = refl
-comma_mark_none rest (suc n) = refl
-
-pub comma_mark : IsMarkText (spelling Comma)
-unfolding mark_at
-comma_mark = record { symbol = Comma; again = λ rest. refl; no_name = comma_mark_none; solid = record { first = 44; others = []; is = refl; no_blank = refl; no_slash = refl } }
-
-colon_mark_none : (rest : List ℕ) (n : ℕ) → accepts Start (take n (spelling Colon ++ rest)) ≡ false
-colon_mark_none rest zero = refl
-colon_mark_none rest (suc n) = refl
-
-pub colon_mark : IsMarkText (spelling Colon)
-unfolding mark_at
-colon_mark = record { symbol = Colon; again = λ rest. refl; no_name = colon_mark_none; solid = record { first = 58; others = []; is = refl; no_blank = refl; no_slash = refl } }
-
-arrow_mark_none : (rest : List ℕ) (n : ℕ) → accepts Start (take n (long_arrow ++ rest)) ≡ false
-arrow_mark_none rest zero = refl
-arrow_mark_none rest (suc n) = refl
-
-arrow_mark : IsMarkText long_arrow
-unfolding mark_at
-arrow_mark = record { symbol = Arrow; again = λ rest. refl; no_name = arrow_mark_none; solid = record { first = 226; others = 134 ∷ 166 ∷ []; is = refl; no_blank = refl; no_slash = refl } }
+-- a text that is found again as a mark, and begins as a mark does
+mark : (text : List ℕ) (symbol : Symbol) → ((rest : List ℕ) → mark_at (text ++ rest) ≡ Some (symbol, length text)) → begins_mark text ≡ true → IsMarkText text
+mark [] symbol again begins = absurd cc
+mark (b ∷ bs) symbol again begins =
+    let parts = and_parts (not (begins_name b) && not (is_blank_byte b)) (not (eqb b 47)) begins in
+    let firsts = and_parts (not (begins_name b)) (not (is_blank_byte b)) parts.0 in
+    record {
+      symbol = symbol;
+      again = again;
+      no_name = λ rest. no_name_begins b (bs ++ rest) (not_true (begins_name b) firsts.0);
+      solid = record { first = b; others = bs; is = refl; no_blank = not_true (is_blank_byte b) firsts.1; no_slash = not_true (eqb b 47) parts.1 };
+    }
 
 -- each symbol is a word or a mark
 kinds : (s : Symbol) → (accepts Start (spelling s) ≡ true) ⊎ IsMarkText (spelling s)
+unfolding mark_at
 kinds Roles = inl refl
 kinds Role = inl refl
 kinds Parameters = inl refl
@@ -125,25 +73,38 @@ kinds Nil = inl refl
 kinds Any = inl refl
 kinds Opt = inl refl
 kinds Key = inl refl
-kinds Arrow = inr short_arrow_mark
-kinds OpenBrace = inr openbrace_mark
-kinds CloseBrace = inr closebrace_mark
-kinds OpenBracket = inr openbracket_mark
-kinds CloseBracket = inr closebracket_mark
-kinds OpenParen = inr openparen_mark
-kinds CloseParen = inr closeparen_mark
-kinds Comma = inr comma_mark
-kinds Colon = inr colon_mark
+kinds Arrow = inr (mark (spelling Arrow) Arrow (λ rest. refl) refl)
+kinds OpenBrace = inr (mark (spelling OpenBrace) OpenBrace (λ rest. refl) refl)
+kinds CloseBrace = inr (mark (spelling CloseBrace) CloseBrace (λ rest. refl) refl)
+kinds OpenBracket = inr (mark (spelling OpenBracket) OpenBracket (λ rest. refl) refl)
+kinds CloseBracket = inr (mark (spelling CloseBracket) CloseBracket (λ rest. refl) refl)
+kinds OpenParen = inr (mark (spelling OpenParen) OpenParen (λ rest. refl) refl)
+kinds CloseParen = inr (mark (spelling CloseParen) CloseParen (λ rest. refl) refl)
+kinds Comma = inr (mark (spelling Comma) Comma (λ rest. refl) refl)
+kinds Colon = inr (mark (spelling Colon) Colon (λ rest. refl) refl)
 
--- so is each token's text
+-- a symbol that is no word is a mark
+pub mark_of : (s : Symbol) → accepts Start (spelling s) ≡ false → IsMarkText (spelling s)
+mark_of s no_word =
+    elim (kinds s) [
+      | inl word ↦ absurd cc
+      | inr is_mark ↦ is_mark
+    ]
+
+-- the other arrow is a mark
+long_arrow_mark : IsMarkText long_arrow
+unfolding mark_at
+long_arrow_mark = mark long_arrow Arrow (λ rest. refl) refl
+
+-- each token's text is a name, a word or a mark
 pub texts : (text : List ℕ) (t : Token) → SpellsToken text t → (accepts Start text ≡ true) ⊎ IsMarkText text
 texts text (Name w) spells = inl (name_is_accepted text (subst (λ x. is_name x ≡ true) spells w.named))
 texts text (Fixed s o) (inl spells) =
     elim (kinds s) [
       | inl word ↦ inl (rw spells word)
-      | inr mark ↦ inr (subst IsMarkText (sym spells) mark)
+      | inr is_mark ↦ inr (subst IsMarkText (sym spells) is_mark)
     ]
-texts text (Fixed s o) (inr spells) = inr (subst IsMarkText (sym spells.1) arrow_mark)
+texts text (Fixed s o) (inr spells) = inr (subst IsMarkText (sym spells.1) long_arrow_mark)
 
 -- the symbol of a text
 abbrev known : List ℕ → Option Symbol
@@ -220,7 +181,7 @@ pub texts_solid : (text : List ℕ) (t : Token) → SpellsToken text t → IsSol
 texts_solid text t spells =
     elim (texts text t spells) [
       | inl word ↦ word_solid text word
-      | inr mark ↦ mark.solid
+      | inr is_mark ↦ is_mark.solid
     ]
 
 -- what begins with a solid text has no piece of a gap in front

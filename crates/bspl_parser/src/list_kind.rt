@@ -2,7 +2,7 @@ ghost use Rattle.std.specs.Prelude.{◌≡◌};
 ghost use Rattle.bspl_parser.specs.inner.GrammarParsers.{has_comma};
 
 /// How a list goes on: what has to come next for a further item to be read.
-#[derive(Clone, Copy, Debug)]
+#[derive(Clone, Copy)]
 pub enum ListKind {
     /// A comma, which is taken first.
     Comma,

@@ -4,7 +4,7 @@ ghost use Rattle.bspl_parser.specs.inner.NameLength.{is_final, name_len};
 ghost use Rattle.bspl_types.specs.Name.{begins_name};
 
 /// How a name, or a reserved word, may go on after the bytes that were read.
-#[derive(Clone, Copy, Debug)]
+#[derive(Clone, Copy)]
 enum State {
     /// A plain name is to begin.
     Start,

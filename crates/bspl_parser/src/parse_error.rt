@@ -5,7 +5,7 @@ ghost use Rattle.bspl_parser.specs.declared.parse_error.ParseError.TheVariants.{
 use bspl_types::NoMemory;
 
 /// Where a text stops being the beginning of a valid one.
-#[derive(Clone, Copy, Debug)]
+#[derive(Clone, Copy)]
 pub enum ErrorPosition {
     /// At a byte or a token that no valid text can have there: its offset.
     At(u64),
@@ -14,7 +14,7 @@ pub enum ErrorPosition {
 }
 
 /// Why reading stopped.
-#[derive(Clone, Copy, Debug)]
+#[derive(Clone, Copy)]
 pub enum ParseError {
     /// Memory ran out.
     NoMemory,

@@ -18,7 +18,7 @@ use bspl_types::{NoMemory, Seq};
 use std::alloc::Global;
 
 /// What a token is, but for its text and its offset.
-#[derive(Clone, Copy, Debug)]
+#[derive(Clone, Copy)]
 pub enum Kind {
     /// A name.
     Name,

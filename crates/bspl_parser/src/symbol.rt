@@ -3,7 +3,7 @@ ghost use Rattle.bspl_parser.specs.Symbol.{spelling};
 ghost use Rattle.bspl_parser.specs.inner.SymbolTable.{same_symbol};
 
 /// A reserved word or a mark.
-#[derive(Clone, Copy, Debug, PartialEq, Eq)]
+#[derive(Clone, Copy, PartialEq, Eq)]
 pub enum Symbol {
     Roles,
     Role,

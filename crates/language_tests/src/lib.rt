@@ -4,4 +4,8 @@
 #[cfg(test)]
 mod bspl_io_tests;
 #[cfg(test)]
+mod bspl_parser_refusal_tests;
+#[cfg(test)]
+mod bspl_parser_tests;
+#[cfg(test)]
 mod enactment_model_tests;
