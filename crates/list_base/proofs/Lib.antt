@@ -6,6 +6,7 @@ pub mod Members
 pub mod Membership
 pub mod OwnIndex
 pub mod Partners
+pub mod Pigeonhole
 pub mod Settled
 pub mod Tables
 pub mod Zipped
