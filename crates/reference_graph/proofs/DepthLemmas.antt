@@ -6,8 +6,8 @@ use Rattle.std.proofs.lemmas.List.Elements.{All-head, All-tail}
 use Rattle.std.proofs.lemmas.Option.{slice_get_within}
 use Rattle.reference_graph.specs.Graph.{successors}
 use Rattle.reference_graph.specs.Order.{IsTopological}
-use Rattle.reference_graph.specs.Counting.{paths, greatest, depth_within}
-use Rattle.reference_graph.proofs.SettlingLemmas.{settled_below}
+use Rattle.reference_graph.specs.PathCounts.{node_paths, greatest, depth_within}
+use Rattle.list_base.proofs.Settled.{settled_below}
 
 -- the greatest of two lists
 pub greatest-append : (xs ys : List ℕ) → greatest (xs ++ ys) ≡ max (greatest xs) (greatest ys)
@@ -31,29 +31,29 @@ longer b p [] = omega arith
 longer b p (q ∷ ps) = omega (arith, longer b q ps)
 
 -- those from a node that go on to another
-onward : (g : List (List ℕ)) (n b : ℕ) → greatest (map length (map (λ path. b ∷ path) (paths g n b))) ≡ depth_within n g b + 1
-unfolding depth_within paths
+onward : (g : List (List ℕ)) (n b : ℕ) → greatest (map length (map (λ path. b ∷ path) (node_paths g n b))) ≡ depth_within n g b + 1
+unfolding depth_within node_paths
 onward g zero b = longer b [] []
-onward g (suc n) b = longer b [] (flat_map (λ c. map (λ path. c ∷ path) (paths g n c)) (successors g b))
+onward g (suc n) b = longer b [] (flat_map (λ c. map (λ path. c ∷ path) (node_paths g n c)) (successors g b))
 
 -- the paths by their first nodes
-branches : (g : List (List ℕ)) (n : ℕ) (bs : List ℕ) → greatest (map length (flat_map (λ b. map (λ path. b ∷ path) (paths g n b)) bs)) ≡ greatest (map (λ b. depth_within n g b + 1) bs)
+branches : (g : List (List ℕ)) (n : ℕ) (bs : List ℕ) → greatest (map length (flat_map (λ b. map (λ path. b ∷ path) (node_paths g n b)) bs)) ≡ greatest (map (λ b. depth_within n g b + 1) bs)
 branches g n [] = refl
 branches g n (b ∷ bs) =
-    let here = map (λ path. b ∷ path) (paths g n b) in
-    let there = flat_map (λ c. map (λ path. c ∷ path) (paths g n c)) bs in
+    let here = map (λ path. b ∷ path) (node_paths g n b) in
+    let there = flat_map (λ c. map (λ path. c ∷ path) (node_paths g n c)) bs in
     ap greatest (map-append length here there) ∙ greatest-append (map length here) (map length there)
     ∙ ap (λ x. max x (greatest (map length there))) (onward g n b)
     ∙ ap (λ x. max (depth_within n g b + 1) x) (branches g n bs)
 
 -- without a step there is no depth
 pub depth_within-zero : (g : List (List ℕ)) (a : ℕ) → depth_within 0 g a ≡ 0
-unfolding depth_within paths
+unfolding depth_within node_paths
 depth_within-zero g a = refl
 
 -- one step more than from the nodes that it refers to
 pub depth_within-suc : (g : List (List ℕ)) (n a : ℕ) → depth_within (suc n) g a ≡ greatest (map (λ b. depth_within n g b + 1) (successors g a))
-unfolding depth_within paths
+unfolding depth_within node_paths
 depth_within-suc g n a = omega (arith, branches g n (successors g a))
 
 -- a node that refers to none has no depth
@@ -72,7 +72,7 @@ depth_in_order g order topological zero k a short at = absurd (omega (arith, sli
 depth_in_order g order topological (suc n) k a short at =
     depth_within-suc g n a
     ∙ stepped g n (suc n) (successors g a)
-    (settled_below g order topological (λ n. depth_within n g)
+    (settled_below (successors g) order topological.after (λ n. depth_within n g)
     (λ n m a leaf. depth_of_leaf g n a leaf ∙ sym (depth_of_leaf g m a leaf))
     (λ n m a same. depth_within-suc g n a ∙ stepped g n m (successors g a) same ∙ sym (depth_within-suc g m a))
     n (suc n) k a at (omega (arith, slice_get_within order k a at)) (omega (arith, slice_get_within order k a at)))

@@ -1,13 +1,12 @@
-pub mod Membership
 pub mod PathLemmas
 pub mod OrderLemmas
-pub mod ClosedLemmas
+pub mod CycleLemmas
 pub mod LawLemmas
 pub mod SearchLemmas
 pub mod MeasureLemmas
-pub mod TurnLemmas
-pub mod SettlingLemmas
+pub mod ProgressLemmas
 pub mod WeightLemmas
 pub mod DepthLemmas
 pub mod CountLemmas
 pub mod LongestLemmas
+pub mod ResultLemmas

@@ -8,30 +8,30 @@ use Rattle.std.proofs.lemmas.List.Quantifiers.{all_pairs_push}
 use Rattle.std.proofs.lemmas.Option.{slice_get_within, get_or_from_slice_get, slice_get-get_or}
 use Rattle.reference_graph.specs.declared.marks.Mark.{Mark}
 use Rattle.reference_graph.specs.declared.marks.Mark.TheVariants.{New, OnPath, Done}
-use Rattle.reference_graph.specs.declared.step.Step.{Step}
+use Rattle.reference_graph.specs.declared.edge.Edge.{Edge}
 use Rattle.reference_graph.specs.Graph.{successors}
-use Rattle.reference_graph.specs.Path.{end_of}
+use Rattle.reference_graph.specs.Path.{last_node}
 use Rattle.reference_graph.specs.Order.{IsTopological}
-use Rattle.reference_graph.specs.Search.{HasMark, IsExplored}
+use Rattle.reference_graph.specs.inner.Search.{HasMark, IsExplored}
 
--- a step from the end of an explored path, at a place before which all is done
-pub IsExplored-push : (g : List (List ℕ)) (done : List ℕ) (a : ℕ) (path : List Step) (s : Step) → IsExplored g done a path → All (Contains done) (take s.place (successors g (end_of a path))) → IsExplored g done a (path ++ s ∷ [])
+-- a step from the end of an explored path, at a index before which all is done
+pub IsExplored-push : (g : List (List ℕ)) (done : List ℕ) (a : ℕ) (path : List Edge) (s : Edge) → IsExplored g done a path → All (Contains done) (take s.index (successors g (last_node a path))) → IsExplored g done a (path ++ s ∷ [])
 IsExplored-push g done a [] s explored before = (before, tt)
 IsExplored-push g done a (t ∷ path) s explored before = (explored.0, IsExplored-push g done t.node path s explored.1 before)
 
 -- an explored path without its last step, and what is done before that step
-pub IsExplored-front : (g : List (List ℕ)) (done : List ℕ) (a : ℕ) (path : List Step) (s : Step) → IsExplored g done a (path ++ s ∷ []) → IsExplored g done a path × All (Contains done) (take s.place (successors g (end_of a path)))
-IsExplored-front g done a [] s explored = (tt, explored.0)
-IsExplored-front g done a (t ∷ path) s explored = let rest = IsExplored-front g done t.node path s explored.1 in ((explored.0, rest.0), rest.1)
+pub IsExplored-prefix : (g : List (List ℕ)) (done : List ℕ) (a : ℕ) (path : List Edge) (s : Edge) → IsExplored g done a (path ++ s ∷ []) → IsExplored g done a path × All (Contains done) (take s.index (successors g (last_node a path)))
+IsExplored-prefix g done a [] s explored = (tt, explored.0)
+IsExplored-prefix g done a (t ∷ path) s explored = let rest = IsExplored-prefix g done t.node path s explored.1 in ((explored.0, rest.0), rest.1)
 
 -- members stay when one more follows
 pub all_members_more : (done : List ℕ) (x : ℕ) (xs : List ℕ) → All (Contains done) xs → All (Contains (done ++ x ∷ [])) xs
 all_members_more done x xs all = All-weaker (Contains done) (Contains (done ++ x ∷ [])) (λ y member. Contains-append_left done (x ∷ []) y member) xs all
 
 -- an explored path stays so when one more node is done
-pub IsExplored-more : (g : List (List ℕ)) (done : List ℕ) (x a : ℕ) (path : List Step) → IsExplored g done a path → IsExplored g (done ++ x ∷ []) a path
+pub IsExplored-more : (g : List (List ℕ)) (done : List ℕ) (x a : ℕ) (path : List Edge) → IsExplored g done a path → IsExplored g (done ++ x ∷ []) a path
 IsExplored-more g done x a [] explored = tt
-IsExplored-more g done x a (s ∷ path) explored = (all_members_more done x (take s.place (successors g a)) explored.0, IsExplored-more g done x s.node path explored.1)
+IsExplored-more g done x a (s ∷ path) explored = (all_members_more done x (take s.index (successors g a)) explored.0, IsExplored-more g done x s.node path explored.1)
 
 -- an item that stands nowhere in a list goes to its end
 pub once_push : (xs : List ℕ) (x : ℕ) → AllPairs ◌≢◌ xs → ¬ Contains xs x → AllPairs ◌≢◌ (xs ++ x ∷ [])

@@ -7,12 +7,12 @@ use Rattle.std.proofs.lemmas.Option.{slice_get_within}
 use Rattle.std.proofs.lemmas.List.Sums.{sum_by-cons, sum_by-append}
 use Rattle.reference_graph.specs.Graph.{successors}
 use Rattle.reference_graph.specs.Order.{IsTopological}
-use Rattle.reference_graph.specs.Counting.{paths, last_of, weight_below}
-use Rattle.reference_graph.proofs.SettlingLemmas.{settled_below}
+use Rattle.reference_graph.specs.PathCounts.{node_paths, end_of_nodes, weight_below}
+use Rattle.list_base.proofs.Settled.{settled_below}
 
 -- the weight of a path
 abbrev weighed : List ℕ → ℕ → List ℕ → ℕ
-weighed weights a path = get_or weights (last_of a path) 0
+weighed weights a path = get_or weights (end_of_nodes a path) 0
 
 -- sums over numbers that are equal are equal
 pub sum_by-same : (f h : ℕ → ℕ) (bs : List ℕ) → All (λ b. f b ≡ h b) bs → sum_by f bs ≡ sum_by h bs
@@ -28,28 +28,28 @@ onward weights a b [] = refl
 onward weights a b (p ∷ ps) = ap (λ (xs : List ℕ). weighed weights b p ∷ xs) (onward weights a b ps)
 
 -- the paths by their first nodes
-branches : (g : List (List ℕ)) (weights : List ℕ) (n a : ℕ) (bs : List ℕ) → sum (map (weighed weights a) (flat_map (λ b. map (λ path. b ∷ path) (paths g n b)) bs)) ≡ sum_by (weight_below n g weights) bs
+branches : (g : List (List ℕ)) (weights : List ℕ) (n a : ℕ) (bs : List ℕ) → sum (map (weighed weights a) (flat_map (λ b. map (λ path. b ∷ path) (node_paths g n b)) bs)) ≡ sum_by (weight_below n g weights) bs
 unfolding weight_below
 branches g weights n a [] = refl
 branches g weights n a (b ∷ bs) =
-    let here = map (λ path. b ∷ path) (paths g n b) in
-    let there = flat_map (λ c. map (λ path. c ∷ path) (paths g n c)) bs in
+    let here = map (λ path. b ∷ path) (node_paths g n b) in
+    let there = flat_map (λ c. map (λ path. c ∷ path) (node_paths g n c)) bs in
     let parts = map-append (weighed weights a) here there in
     let apart = sum_by-append (λ x. x) (map (weighed weights a) here) (map (weighed weights a) there) in
-    ap sum parts ∙ apart ∙ ap (λ n. n + sum (map (weighed weights a) there)) (ap sum (onward weights a b (paths g n b)))
-    ∙ ap (λ m. sum (map (weighed weights b) (paths g n b)) + m) (branches g weights n a bs)
+    ap sum parts ∙ apart ∙ ap (λ n. n + sum (map (weighed weights a) there)) (ap sum (onward weights a b (node_paths g n b)))
+    ∙ ap (λ m. sum (map (weighed weights b) (node_paths g n b)) + m) (branches g weights n a bs)
     ∙ sym (sum_by-cons (weight_below n g weights) b bs)
 
 -- without a step there is one path
 pub weight_below-zero : (g : List (List ℕ)) (weights : List ℕ) (a : ℕ) → weight_below 0 g weights a ≡ get_or weights a 0
-unfolding weight_below paths
+unfolding weight_below node_paths
 weight_below-zero g weights a = omega arith
 
 -- the path without a step, and those that go on to each node
 pub weight_below-suc : (g : List (List ℕ)) (weights : List ℕ) (n a : ℕ) → weight_below (suc n) g weights a ≡ get_or weights a 0 + sum_by (weight_below n g weights) (successors g a)
-unfolding weight_below paths
+unfolding weight_below node_paths
 weight_below-suc g weights n a =
-    sum_by-cons (λ x. x) (get_or weights a 0) (map (weighed weights a) (flat_map (λ b. map (λ path. b ∷ path) (paths g n b)) (successors g a)))
+    sum_by-cons (λ x. x) (get_or weights a 0) (map (weighed weights a) (flat_map (λ b. map (λ path. b ∷ path) (node_paths g n b)) (successors g a)))
     ∙ ap (λ m. get_or weights a 0 + m) (branches g weights n a (successors g a))
 
 -- a node that refers to none has its own weight
@@ -72,7 +72,7 @@ weight_in_order g weights order topological zero k a short at = absurd (omega (a
 weight_in_order g weights order topological (suc n) k a short at =
     weight_below-suc g weights n a
     ∙ ap (λ x. get_or weights a 0 + x) (sum_by-same (weight_below n g weights) (weight_below (suc n) g weights) (successors g a)
-    (settled_below g order topological (λ n. weight_below n g weights)
+    (settled_below (successors g) order topological.after (λ n. weight_below n g weights)
     (λ n m a leaf. weight_of_leaf g weights n a leaf ∙ sym (weight_of_leaf g weights m a leaf))
     (weight_of_branch g weights) n (suc n) k a at (omega (arith, slice_get_within order k a at)) (omega (arith, slice_get_within order k a at))))
 

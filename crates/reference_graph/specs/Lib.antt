@@ -1,7 +1,10 @@
+-- The definitions that the contracts cite, in reading order.
 pub mod Graph
 pub mod Path
-pub mod Closed
+pub mod Cycle
 pub mod Order
-pub mod Outcome
-pub mod Counting
-pub mod Search
+pub mod WalkResult
+pub mod PathCounts
+pub mod Laws
+-- what private functions alone cite
+pub mod inner

@@ -61,6 +61,7 @@ fn are_nodes(lists: &[NumberList], count: usize) -> bool
     lists.iter().all(|list| are_below(list.as_slice(), count))
 }
 
+/// Whether each of the numbers is below the count.
 fn are_below(numbers: &[u32], count: usize) -> bool
     ensures { IsTrue result ↔ All (λ b. b < count) numbers.now }
 {

@@ -1,30 +1,49 @@
-ghost use Rattle.std.specs.Prelude.{◌≡◌, ℕ, ◌<◌, List, length, Contains};
-ghost use Rattle.reference_graph.specs.declared.step.Step.{Step};
-ghost use Rattle.reference_graph.specs.Path.{IsPath};
-ghost use Rattle.reference_graph.specs.Closed.{IsFirstClosed};
-ghost use Rattle.reference_graph.specs.Counting.{IsLongest, depth_within};
-ghost use Rattle.reference_graph.specs.Order.{IsOrder, IsTopological};
+ghost use Rattle.reference_graph.specs.Laws.{AcyclicGraphsHaveOrders, CyclesAreOne};
+ghost use Rattle.reference_graph.specs.Laws.{DepthsAreLongest, OrdersAreShort, OrdersHaveNoCycle};
+ghost use Rattle.reference_graph.specs.Laws.{OrdersHaveTheReached, PathsAreShort, WalksHaveResults};
+ghost use Rattle.reference_graph.specs.Laws.{WeightsAddUp};
 
-/// Where there is an order, no path from the start meets a node again.
+/// A law: if there is an order, no path from the start is a cycle.
 pub fn orders_have_no_cycle()
-    ensures { (g : List (List ℕ)) (start node : ℕ) (order : List ℕ) →
-        IsOrder g start order → IsFirstClosed g start node → ⊥ }
+    ensures { OrdersHaveNoCycle }
 {}
 
-/// One node is the first met again.
+/// A law: in each graph a walk from each node has a result.
+pub fn walks_have_results()
+    ensures { WalksHaveResults }
+{}
+
+/// A law: if no path from the start is a cycle, there is an order.
+pub fn acyclic_graphs_have_orders()
+    ensures { AcyclicGraphsHaveOrders }
+{}
+
+/// A law: the first cycle ends at one node.
 pub fn cycles_are_one()
-    ensures { (g : List (List ℕ)) (start a b : ℕ) →
-        IsFirstClosed g start a → IsFirstClosed g start b → a ≡ b }
+    ensures { CyclesAreOne }
 {}
 
-/// Where there is an order, each path has fewer steps than there are nodes.
+/// A law: if there is an order, each path has fewer edges than there are nodes.
 pub fn paths_are_short()
-    ensures { (g : List (List ℕ)) (start : ℕ) (order : List ℕ) (path : List Step) →
-        IsOrder g start order → IsPath g start path → length path < length g }
+    ensures { PathsAreShort }
 {}
 
-/// Over an order, the depth of a node is the length of the longest path from it.
+/// A law: an order has no more nodes than the graph.
+pub fn orders_are_short()
+    ensures { OrdersAreShort }
+{}
+
+/// A law: an order has all nodes that are reached.
+pub fn orders_have_the_reached()
+    ensures { OrdersHaveTheReached }
+{}
+
+/// A law: the weight of a node is its own, and those of the nodes that it refers to.
+pub fn weights_add_up()
+    ensures { WeightsAddUp }
+{}
+
+/// A law: over an order, the depth of a node is the length of the longest path from it.
 pub fn depths_are_longest()
-    ensures { (g : List (List ℕ)) (order : List ℕ) (a : ℕ) →
-        IsTopological g order → Contains order a → IsLongest g a (depth_within (length g) g a) }
+    ensures { DepthsAreLongest }
 {}

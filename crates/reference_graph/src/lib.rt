@@ -1,20 +1,22 @@
 //! Graphs of references: their cycles, how deep they are, and how many paths they have.
 #![tactic(auto)]
 
-mod counting;
+mod edge;
 mod graph;
 mod laws;
 mod marks;
-mod outcome;
+mod path_counts;
 mod search;
-mod step;
-#[cfg(test)]
-mod tests;
-mod walking;
+mod traversal;
+mod walk_result;
 
-pub use counting::{depths, weights_below};
+pub use edge::Edge;
 pub use graph::{Graph, is_graph};
-pub use laws::{cycles_are_one, depths_are_longest, orders_have_no_cycle, paths_are_short};
-pub use outcome::Walk;
-pub use step::Step;
-pub use walking::walk;
+pub use laws::{
+    acyclic_graphs_have_orders, cycles_are_one, depths_are_longest, orders_are_short,
+    orders_have_no_cycle, orders_have_the_reached, paths_are_short, walks_have_results,
+    weights_add_up,
+};
+pub use path_counts::{depths, weights_below};
+pub use traversal::walk;
+pub use walk_result::WalkResult;

@@ -4,14 +4,14 @@ use list_base::NoMemory;
 use std::alloc::Global;
 use std::marker::Model;
 
-/// Where a node stands in a search.
+/// How far a search has come with a node.
 #[derive(Clone, Copy, Debug)]
 pub enum Mark {
-    /// It was not met yet.
+    /// No reference to it was followed yet.
     New,
     /// It is on the path.
     OnPath,
-    /// All that it leads to was gone through.
+    /// All that it leads to is finished.
     Done,
 }
 
@@ -31,7 +31,7 @@ impl Model for Marks {
 }
 
 impl Marks {
-    /// Marks for as many nodes, none of which was met.
+    /// Marks for this number of nodes, all of them new.
     pub fn new(alloc: Global, count: usize) -> Result<Marks, NoMemory>
         ensures { IfOk result (λ marks. marks ≡ replicate count Mark.New) }
     {
@@ -40,6 +40,7 @@ impl Marks {
         })
     }
 
+    /// The mark of the node.
     pub fn of(&self, node: u32) -> Mark
         requires { node < length self.now }
         ensures { slice_get self.now node ≡ Some result }
@@ -47,7 +48,8 @@ impl Marks {
         self.marks[node as usize]
     }
 
-    pub fn put(&mut self, node: u32, mark: Mark)
+    /// Gives the node this mark.
+    pub fn set(&mut self, node: u32, mark: Mark)
         requires { node < length self.old }
         ensures { self.new ≡ slice_set self.old node mark }
     {

@@ -1,40 +1,44 @@
 ghost use Rattle.std.specs.Prelude.{◌≡◌, ◌<◌, [], ◌∷◌, ◌++◌, length, slice_set, IfOk, OnOk};
-ghost use Rattle.reference_graph.specs.Path.{end_of};
-ghost use Rattle.reference_graph.specs.Search.{IsSearching, IsTurn};
+ghost use Rattle.reference_graph.specs.Path.{last_node};
+ghost use Rattle.reference_graph.specs.inner.Search.{IsSearching, IsProgress};
 
+use super::edge::Edge;
 use super::graph::Graph;
 use super::marks::{Mark, Marks};
-use super::step::Step;
 use list_base::{NoMemory, NumberList, Seq};
 use std::alloc::Global;
 
-/// A search in depth: the path that is open, the place of the next reference of its last node, and
-/// the nodes that are done, in the order of being done.
+/// A depth-first search: the path that it is on, the index of the next reference of its last node,
+/// and the finished nodes, in the order in which they were finished.
 #[derive(Drop)]
 pub struct Search {
     pub start: u32,
-    pub path: Seq<Step>,
+    pub path: Seq<Edge>,
     pub next: usize,
     pub marks: Marks,
     pub done: NumberList,
 }
 
-/// What a turn of a search comes to.
+/// What one step of a search comes to.
 #[derive(Clone, Copy, Debug)]
-pub enum Turn {
-    On,
+pub enum Progress {
+    /// The search goes on.
+    Continues,
+    /// The start is finished.
     Ends,
-    Meets(u32),
+    /// The next reference closes a cycle at this node.
+    FindsCycle(u32),
 }
 
 impl Search {
+    /// The search that begins at the start.
     pub fn new(alloc: Global, graph: &Graph, start: u32) -> Result<Search, NoMemory>
         requires { start < length graph.now }
         ensures searching { IfOk result (IsSearching graph.now) }
         ensures start { IfOk result (λ search. search.start ≡ start) }
     {
         let mut marks = Marks::new(alloc, graph.len())?;
-        marks.put(start, Mark::OnPath);
+        marks.set(start, Mark::OnPath);
         Ok(Search {
             start,
             path: Seq::new(alloc),
@@ -44,61 +48,61 @@ impl Search {
         })
     }
 
-    /// Looks at the next reference of the last node on the path. A node whose references are all
-    /// done is done itself.
-    pub fn turn(&mut self, graph: &Graph) -> Result<Turn, NoMemory>
+    /// Looks at the next reference of the last node on the path. A node is finished once all its
+    /// references are.
+    pub fn advance(&mut self, graph: &Graph) -> Result<Progress, NoMemory>
         requires { IsSearching graph.now self.old }
-        ensures { IfOk result (IsTurn graph.now self.old self.new) }
+        ensures { IfOk result (IsProgress graph.now self.old self.new) }
     {
-        let here = self.here();
-        let references = graph.references(here);
+        let node = self.last();
+        let references = graph.references(node);
         if self.next < references.len() {
-            let node = references[self.next];
-            return match self.marks.of(node) {
-                Mark::New => self.follow(node),
-                Mark::OnPath => Ok(Turn::Meets(node)),
+            let next = references[self.next];
+            return match self.marks.of(next) {
+                Mark::New => self.follow(next),
+                Mark::OnPath => Ok(Progress::FindsCycle(next)),
                 Mark::Done => {
                     self.next += 1;
-                    Ok(Turn::On)
+                    Ok(Progress::Continues)
                 }
             };
         }
-        self.done.push(here)?;
+        self.done.push(node)?;
         match self.path.pop() {
-            None => Ok(Turn::Ends),
-            Some(step) => {
-                self.marks.put(here, Mark::Done);
-                self.next = step.place;
-                Ok(Turn::On)
+            None => Ok(Progress::Ends),
+            Some(edge) => {
+                self.marks.set(node, Mark::Done);
+                self.next = edge.index;
+                Ok(Progress::Continues)
             }
         }
     }
 
     /// Goes on to the node, by the reference that is next.
-    fn follow(&mut self, node: u32) -> Result<Turn, NoMemory>
+    fn follow(&mut self, node: u32) -> Result<Progress, NoMemory>
         requires { node < length self.old.marks }
-        ensures on { IfOk result (λ turn. turn ≡ Turn.On) }
+        ensures on { IfOk result (λ progress. progress ≡ Progress.Continues) }
         ensures node { OnOk result (self.new ≡ record self.old {
-          path = self.old.path ++ (record { place = self.old.next; node = node }) ∷ [];
+          path = self.old.path ++ (record { index = self.old.next; node = node }) ∷ [];
           next = 0;
           marks = slice_set self.old.marks node Mark.OnPath;
         }) }
     {
-        self.path.push(Step {
-            place: self.next,
+        self.path.push(Edge {
+            index: self.next,
             node,
         })?;
         self.next = 0;
-        self.marks.put(node, Mark::OnPath);
-        Ok(Turn::On)
+        self.marks.set(node, Mark::OnPath);
+        Ok(Progress::Continues)
     }
 
     /// The last node on the path.
-    fn here(&self) -> u32
-        ensures { result ≡ end_of self.now.start self.now.path }
+    fn last(&self) -> u32
+        ensures { result ≡ last_node self.now.start self.now.path }
     {
         match self.path.as_slice().last() {
-            Some(step) => step.node,
+            Some(edge) => edge.node,
             None => self.start,
         }
     }
