@@ -6,5 +6,7 @@ pub mod PositionLemmas
 pub mod EnactmentLemmas
 pub mod SourceLemmas
 pub mod ProducerLemmas
+pub mod ExampleShapes
+pub mod ExampleRuns
 pub mod ExampleLemmas
 pub mod LocalExact

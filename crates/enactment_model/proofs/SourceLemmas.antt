@@ -75,7 +75,7 @@ sourced_after x before (event ∷ run) sourced legal =
 legal_sourced : (x : Expanded) (run : List Event) → IsLegal x run → IsSourced x run
 legal_sourced x run legal = sourced_after x [] run (λ event among. absurd (omega arith)) legal
 
--- no parameter stands twice in a message
+-- no parameter comes twice in a message
 carried_once : (x : Expanded) → IsAdmitted x → (m : ℕ) → NoRepeat (message_of x m).carried
 carried_once x admitted m =
     ⊎_elim

@@ -1,4 +1,4 @@
--- Which events tell a value of a parameter.
+-- Which events bind a parameter: each has a message that adorns it `in` or `out`.
 use Rattle.std.specs.Prelude.{◌≡◌, ℕ, List}
 use Rattle.std.specs.List.{Contains}
 use Rattle.bspl_types.specs.declared.event.Event.{Event}

@@ -35,7 +35,7 @@ pub record HasPublicValue (x : Expanded) (p : ℕ) : Type 0 where
   pub public : p < x.public
   pub adorned : IsSomeAnd (slice_get x.params p) (λ info. IsTrue (is_public_value info.adornment))
 
--- if a legal run is quiet at a key, even one without events, it binds what is public there
+-- at each key at which a legal run is quiet, even one without events, what is public is bound
 pub record LiveProtocol (x : Expanded) : Type 0 where
   pub bound : (run : List Event) (key : List Value) → IsLegalRun x run → Quiet x run key →
       (p : ℕ) → HasPublicValue x p → Bound x run key p

@@ -14,7 +14,7 @@ pub fn single_producer(x: &Expanded) -> bool
     share_nothing(x.messages.as_slice())
 }
 
-/// Compares each message with those after it.
+/// Whether no message adorns `out` what a later one adorns `out`.
 fn share_nothing(messages: &[Message]) -> bool
     ensures { IsTrue result ↔ AllPairs (λ m n. ¬ SharesOut m n) messages.now }
 {
@@ -26,12 +26,14 @@ fn share_nothing(messages: &[Message]) -> bool
     true
 }
 
+/// Whether one of the others adorns `out` what the message adorns `out`.
 fn shares_with_any(message: &Message, others: &[Message]) -> bool
     ensures { IsTrue result ↔ Any (SharesOut message.now) others.now }
 {
     others.iter().any(|other| shares_out(message, other))
 }
 
+/// Whether both messages adorn some parameter `out`.
 fn shares_out(message: &Message, other: &Message) -> bool
     ensures { IsTrue result ↔ SharesOut message.now other.now }
 {
@@ -39,6 +41,7 @@ fn shares_out(message: &Message, other: &Message) -> bool
     carried.iter().any(|c| c.adornment == Adornment::Out && produces(other, c.param))
 }
 
+/// Whether the message adorns the parameter `out`.
 fn produces(message: &Message, param: u32) -> bool
     ensures { IsTrue result ↔ Produces message.now param }
 {

@@ -4,6 +4,6 @@ use Rattle.bspl_types.specs.declared.protocol.Message.{Message}
 use Rattle.enactment_model.specs.Producers.{SharesOut}
 use Rattle.enactment_model.proofs.producers.share_nothing.Given as goal
 
--- no message before the place shares an `out` parameter with a later one
+-- no message before the index shares an `out` parameter with a later one
 abbrev pub invariant-loop-i : goal.invariant-loop-i
 invariant-loop-i l = (j k : ℕ) (d : Message) → j < l.i → j < k → k < length l.messages → ¬ SharesOut (get_or l.messages j d) (get_or l.messages k d)
