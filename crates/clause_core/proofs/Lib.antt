@@ -3,3 +3,4 @@ pub mod ClauseLemmas
 pub mod ResolventLemmas
 pub mod MergeLemmas
 pub mod DistinctLemmas
+pub mod AscendingLemmas

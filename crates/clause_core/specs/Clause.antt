@@ -35,3 +35,12 @@ Entails c d r = (v : ℕ → Bool) → Satisfies v c → Satisfies v d → Satis
 abbrev pub ClausesAreSets : Type 0
 ClausesAreSets =
     (c d : List Lit) → IsAscending c → IsAscending d → HasExactly c d → c ≡ d
+
+-- the clause has the literals of the list, and they ascend
+pub record IsClauseOf (lits clause : List Lit) : Type 0 where
+  pub ascending : IsAscending clause
+  pub exactly : HasExactly clause lits
+
+-- each list of literals has a clause
+abbrev pub ListsHaveClauses : Type 0
+ListsHaveClauses = (lits : List Lit) → (clause : List Lit) × IsClauseOf lits clause

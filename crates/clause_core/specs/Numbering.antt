@@ -1,7 +1,6 @@
 -- Which clause has a number, from 1 on. A removed clause leaves its number without one.
-use Rattle.std.specs.Prelude.{◌≡◌, ℕ, ◌-◌, ◌==◌, Bool, List, Option, Some, None, slice_get, if◌then◌else◌}
+use Rattle.std.specs.Prelude.{◌≡◌, ℕ, ◌-◌, ◌==◌, List, Option, Some, None, slice_get, if◌then◌else◌}
 use Rattle.clause_core.specs.declared.literal.Lit.{Lit}
-use Rattle.clause_core.specs.Propagation.{Falsifies}
 
 -- the clause of each number, if there is one
 abbrev pub Numbering : Type 0
@@ -14,10 +13,3 @@ numbered clauses number = if number == 0 then None else slice_get clauses (numbe
 -- the clause has the number
 pub record HasNumber (numbering : Numbering) (number : ℕ) (clause : List Lit) : Type 0 where
   pub there : numbering number ≡ Some clause
-
--- the clause of the number is false
-pub record IsFalsified
-    (numbering : Numbering) (values : ℕ → Option Bool) (number : ℕ) : Type 0 where
-  pub clause : List Lit
-  pub has_number : HasNumber numbering number clause
-  pub falsified : Falsifies values clause

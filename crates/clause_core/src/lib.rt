@@ -15,6 +15,6 @@ mod tests;
 pub use assignment::Assignment;
 pub use clause::{Clause, ClauseList};
 pub use formula::Formula;
-pub use laws::{equal_members, resolvents_agree, resolvents_follow};
+pub use laws::{equal_members, lists_have_clauses, resolvents_agree, resolvents_follow};
 pub use literal::Lit;
 pub use resolution::{ResolveRefusal, resolve};
