@@ -2,7 +2,7 @@
 use Rattle.std.specs.Prelude.{ℕ, ◌+◌, Bool, List, [], ◌∷◌, ◌++◌, codes}
 use Rattle.clause_core.specs.declared.literal.Lit.{Lit}
 use Rattle.refutation_log.specs.LogText.{numeral, pivot_text}
-use Rattle.sat_solver.specs.declared.effort.Effort.{Effort}
+use Rattle.sat_solver.specs.declared.search_stats.SearchStats.{SearchStats}
 use Rattle.dimacs.specs.declared.verdict.Verdict.{Verdict}
 use Rattle.dimacs.specs.declared.verdict.Verdict.TheVariants.{Satisfiable, Unsatisfiable, Unknown}
 
@@ -21,7 +21,7 @@ abbrev pub count_text : List ℕ → ℕ → List ℕ
 count_text name count = name ++ numeral count
 
 -- the comment line that says how much was done
-abbrev pub effort_line : Effort → List ℕ
+abbrev pub effort_line : SearchStats → List ℕ
 effort_line effort =
     count_text (codes "c conflicts ") effort.conflicts ++
     count_text (codes " decisions ") effort.decisions ++
@@ -29,7 +29,7 @@ effort_line effort =
     codes "\n"
 
 -- how much was done for a verdict
-abbrev pub effort_of : Verdict → Effort
+abbrev pub effort_of : Verdict → SearchStats
 effort_of (Satisfiable assignment effort) = effort
 effort_of (Unsatisfiable effort) = effort
 effort_of (Unknown effort) = effort

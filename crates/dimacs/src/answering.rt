@@ -5,7 +5,7 @@ use super::verdict::Verdict;
 use clause_core::{Assignment, Lit};
 use list_base::{Bytes, NoMemory};
 use refutation_log::{push_number, push_pivot};
-use sat_solver::Effort;
+use sat_solver::SearchStats;
 use std::alloc::Global;
 
 /// The lines of a verdict.
@@ -36,7 +36,7 @@ fn push_assignment(text: &mut Bytes, assignment: &Assignment) -> Result<(), NoMe
     text.append(b"v 0\n")
 }
 
-fn push_effort(text: &mut Bytes, effort: Effort) -> Result<(), NoMemory>
+fn push_effort(text: &mut Bytes, effort: SearchStats) -> Result<(), NoMemory>
     ensures { OnOk result (text.new ≡ text.old ++ effort_line effort) }
 {
     push_count(text, b"c conflicts ", effort.conflicts)?;

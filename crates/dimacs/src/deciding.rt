@@ -8,7 +8,7 @@ use super::verdict::Verdict;
 use clause_core::Formula;
 use log_checker::{Reject, check_log};
 use refutation_log::Log;
-use sat_solver::{Effort, Outcome, solve_counted};
+use sat_solver::{SearchStats, Outcome, solve_counted};
 use std::alloc::Global;
 
 /// Decides the formula of a text with at most `budget` conflicts.
@@ -20,7 +20,7 @@ pub fn decide(alloc: Global, budget: u32, text: &[u8]) -> Result<Verdict, Refusa
     if formula.clauses.len() as u64 + u64::from(budget) >= 1 << 32 {
         return Err(Refusal::TooMany);
     }
-    let mut effort = Effort::none();
+    let mut effort = SearchStats::none();
     match solve_counted(alloc, &formula, budget, &mut effort)? {
         Outcome::Sat(assignment) => Ok(Verdict::Satisfiable { assignment, effort }),
         Outcome::Unsat(log) => refuted(alloc, &formula, &log, effort),
@@ -29,7 +29,7 @@ pub fn decide(alloc: Global, budget: u32, text: &[u8]) -> Result<Verdict, Refusa
 }
 
 /// The verdict that a log of the solver gives once it is checked.
-fn refuted(alloc: Global, formula: &Formula, log: &Log, effort: Effort) -> Result<Verdict, Refusal>
+fn refuted(alloc: Global, formula: &Formula, log: &Log, effort: SearchStats) -> Result<Verdict, Refusal>
     requires { length formula.now.clauses + length log.now.steps < 2 ^ 32 }
     ensures { (text : List ℕ) → IsFormulaOf text formula.now → IfOk result (IsRight text) }
 {

@@ -1,6 +1,6 @@
 use super::status::Status;
 use clause_core::Assignment;
-use sat_solver::Effort;
+use sat_solver::SearchStats;
 
 /// What is known of a formula, and how much was done for it.
 #[derive(Drop)]
@@ -8,15 +8,15 @@ pub enum Verdict {
     /// This assignment satisfies it.
     Satisfiable {
         assignment: Assignment,
-        effort: Effort,
+        effort: SearchStats,
     },
     /// No assignment satisfies it, as a checked log shows.
     Unsatisfiable {
-        effort: Effort,
+        effort: SearchStats,
     },
     /// The allowed conflicts were not enough.
     Unknown {
-        effort: Effort,
+        effort: SearchStats,
     },
 }
 
@@ -25,7 +25,7 @@ impl Verdict {
     ghost use Rattle.dimacs.specs.Answer.{effort_of};
     ghost use Rattle.dimacs.specs.Call.{status_of};
 
-    pub fn effort(&self) -> Effort
+    pub fn effort(&self) -> SearchStats
         ensures { result ≡ effort_of self.now }
     {
         match self {

@@ -1,17 +1,16 @@
 -- What a false clause has of the current level, and that what is learned is lacked.
-use Rattle.std.proofs.Common.{◌≡◌, ◌≢◌, ℕ, ◌-◌, ◌<◌, Bool, true, false, Some, None, option_map, List, [], inl, inr, get_or, sym, ap, ◌∙◌, subst, arith, Contains}
+use Rattle.std.proofs.Common.{◌≡◌, ◌≢◌, ℕ, ◌-◌, ◌<◌, Bool, true, false, Option, Some, None, option_map, List, [], inl, inr, get_or, sym, ap, ◌∙◌, subst, arith, Contains}
 use Rattle.std.proofs.lemmas.List.Elements.{All-contains, Contains-get_or}
 use Rattle.clause_core.specs.declared.literal.Lit.{Lit}
 use Rattle.clause_core.specs.Propagation.{MakesFalse, Falsifies, LeavesOnly, IsPropagated, IsLacked}
 use Rattle.refutation_log.specs.declared.refutation.Chain.{Chain}
 use Rattle.sat_trail.specs.declared.entry.Entry.{Entry}
-use Rattle.sat_trail.specs.Entry.{values_of}
+use Rattle.sat_trail.specs.Entry.{values_of, up_to}
 use Rattle.std.proofs.lemmas.Option.{get_or_from_slice_get, slice_get_within}
-use Rattle.sat_trail.specs.Growth.{HasNumber}
-use Rattle.sat_trail.specs.State.{State}
-use Rattle.sat_trail.specs.Trail.{IsTrail, up_to}
-use Rattle.sat_trail.proofs.FactLemmas.{IsQuietBelow-trail}
-use Rattle.sat_solver.specs.Analysis.{IsCurrent, HasTwoCurrent, IsLearned}
+use Rattle.clause_core.specs.Numbering.{Numbering, numbered, HasNumber}
+use Rattle.sat_trail.specs.State.{State, numbering_of}
+use Rattle.sat_trail.specs.Trail.{IsTrail}
+use Rattle.sat_solver.specs.inner.Analysis.{IsCurrent, HasTwoCurrent, IsLearned}
 use Rattle.sat_solver.proofs.LowerLemmas.{fails-low, no_value-low, IsSet-false}
 use Rattle.sat_solver.proofs.CurrentLemmas.{Single, cases_two}
 
@@ -39,31 +38,34 @@ LeavesOnly-below t clause u trail above falsified among current others = record 
 }
 
 -- a false clause of the trail has two literals of the current level
-pub HasTwoCurrent-false : (t : State) (number : ℕ) (clause : List Lit) → IsTrail t → 0 < t.level → HasNumber t.clauses number clause → Falsifies (values_of t.entries) clause → HasTwoCurrent t clause
-HasTwoCurrent-false t number clause trail above numbered falsified = elim (cases_two t clause) [
+pub HasTwoCurrent-false : (t : State) (number : ℕ) (clause : List Lit) → IsTrail t → 0 < t.level → HasNumber (numbering_of t) number clause → Falsifies (values_of t.entries) clause → HasTwoCurrent t clause
+HasTwoCurrent-false t number clause trail above has falsified = elim (cases_two t clause) [
   | inr two ↦ two
   | inl single ↦ absurd (clash single.0 single.1)
 ]
   where
-    quiet : IsPropagated (values_of (up_to (t.level - 1) t.entries)) t.clauses
-    quiet = IsQuietBelow-trail t trail (t.level - 1) (omega arith)
-
-    among : Contains t.clauses clause
-    among = subst (Contains t.clauses) (get_or_from_slice_get t.clauses (number - 1) clause [] numbered.at_place)
-        (Contains-get_or t.clauses (number - 1) [] (slice_get_within t.clauses (number - 1) clause numbered.at_place))
+    propagated : IsPropagated (values_of (up_to (t.level - 1) t.entries)) (numbering_of t)
+    propagated = trail.below (t.level - 1) (omega arith)
 
     clash : (found : Bool) → Single t clause found → ⊥
-    clash false none = All-contains (λ c. ¬ Falsifies (values_of (up_to (t.level - 1) t.entries)) c) t.clauses clause quiet.no_false among
+    clash false none = propagated.no_false number clause has
         (λ k d within. fails-below t (get_or clause k d) trail above (falsified k d within) (none k d within))
-    clash true single = All-contains (λ c. (l : Lit) → ¬ LeavesOnly (values_of (up_to (t.level - 1) t.entries)) c l) t.clauses clause quiet.no_unit among single.0
+    clash true single = propagated.no_unit number clause single.0 has
         (LeavesOnly-below t clause single.0 trail above falsified single.1 single.2 single.3)
 
--- what is learned is lacked by the clauses of the trail
-pub IsLacked-learned : (t : State) (chain : Chain) (clause : List Lit) → IsTrail t → 0 < t.level → IsLearned t chain clause → IsLacked t.clauses clause
-IsLacked-learned t chain clause trail above learned = record {
+-- a numbering with the same clauses leaves unit propagation nothing to do
+IsPropagated-agree : (values : ℕ → Option Bool) (m n : Numbering) → ((k : ℕ) → m k ≡ n k) → IsPropagated values m → IsPropagated values n
+IsPropagated-agree values m n agree propagated = record {
+  no_false = λ k c has. propagated.no_false k c (record { there = agree k ∙ has.there });
+  no_unit = λ k c l has. propagated.no_unit k c l (record { there = agree k ∙ has.there });
+}
+
+-- what is learned is lacked by the clauses that the trail numbers
+pub IsLacked-learned : (t : State) (clauses : List (List Lit)) (chain : Chain) (clause : List Lit) → ((k : ℕ) → numbering_of t k ≡ numbered clauses k) → IsTrail t → 0 < t.level → IsLearned t chain clause → IsLacked clauses clause
+IsLacked-learned t clauses chain clause agree trail above learned = record {
   literal = learned.current.literal;
   values = values_of (up_to (t.level - 1) t.entries);
   leaves = LeavesOnly-below t clause learned.current.literal trail above learned.falsified learned.current.among learned.current.current
       (λ l among differs current. learned.only_one (record { one = l; other = learned.current.literal; differ = differs; one_among = among; other_among = learned.current.among; one_current = current; other_current = learned.current.current }));
-  quiet = IsQuietBelow-trail t trail (t.level - 1) (omega arith);
+  propagated = IsPropagated-agree (values_of (up_to (t.level - 1) t.entries)) (numbering_of t) (numbered clauses) agree (trail.below (t.level - 1) (omega arith));
 }

@@ -5,15 +5,15 @@ use Rattle.std.specs.List.{count_by}
 use Rattle.std.proofs.lemmas.Bool.{cases_eq, cases_Bool, eqb-true, eq-eqb}
 use Rattle.std.proofs.lemmas.List.Sums.{sum_by-cons}
 use Rattle.list_base.proofs.Members.{here, there, nowhere, cons_cases}
-use Rattle.sat_solver.specs.Gathering.{is_current}
+use Rattle.sat_solver.specs.inner.Gathering.{is_current}
 use Rattle.std.proofs.lemmas.List.{take_more, take_all}
 use Rattle.std.proofs.lemmas.List.Elements.{All-contains, All-push, Contains-append_left, Contains-push, Contains-push_cases, Contains-get_or}
 use Rattle.clause_core.specs.declared.literal.Lit.{Lit}
 use Rattle.sat_trail.specs.Entry.{level_of}
 use Rattle.sat_trail.specs.State.{State}
-use Rattle.sat_trail.proofs.LiteralLemmas.{cases_literal}
-use Rattle.sat_trail.proofs.SettledLemmas.{Contains-take}
-use Rattle.sat_solver.specs.Analysis.{IsCurrent, HasTwoCurrent}
+use Rattle.sat_solver.proofs.LiteralLemmas.{cases_literal}
+use Rattle.sat_solver.proofs.LiteralLemmas.{Contains-take}
+use Rattle.sat_solver.specs.inner.Analysis.{IsCurrent, HasTwoCurrent}
 
 -- at most one of the literals is of the current level, and whether one is
 abbrev pub Single : State → List Lit → Bool → Type 0
@@ -68,7 +68,7 @@ Single-again t lits l single same = (
   ],
 )
 
--- one place more
+-- one position more
 counted-more : (t : State) (clause : List Lit) (i : ℕ) → i < length clause → (found : Bool) → Single t (take i clause) found → ((found : Bool) × Single t (take (i + 1) clause) found) ⊎ HasTwoCurrent t clause
 counted-more t clause i within found single = elim (cases_current t (get_or clause i blank)) [
   | inr other ↦ inl (found, subst (λ ls. Single t ls found) (sym (take_more clause i blank within)) (Single-other t (take i clause) (get_or clause i blank) found single other))
@@ -93,7 +93,7 @@ counted-more t clause i within found single = elim (cases_current t (get_or clau
       })
     ]
 
--- the literals at the first places have at most one of the current level, or two
+-- the literals at the first positions have at most one of the current level, or two
 counted : (t : State) (clause : List Lit) (i : ℕ) → i ≤ length clause → ((found : Bool) × Single t (take i clause) found) ⊎ HasTwoCurrent t clause
 counted t clause zero within = inl (false, λ k d near. absurd (omega arith))
 counted t clause (suc i) within = elim (counted t clause i (omega arith)) [

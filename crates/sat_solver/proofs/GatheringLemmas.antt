@@ -11,10 +11,10 @@ use Rattle.list_base.proofs.Members.{there, nowhere, cons_cases, end_same}
 use Rattle.sat_trail.specs.Entry.{values_of}
 use Rattle.sat_trail.specs.State.{State}
 use Rattle.sat_trail.specs.Trail.{IsTrail}
-use Rattle.sat_trail.proofs.LiteralLemmas.{cases_member}
-use Rattle.sat_solver.specs.LiteralSet.{LiteralSet, IsLiteralSet, TakesOut}
+use Rattle.sat_solver.proofs.LiteralLemmas.{cases_member}
+use Rattle.sat_solver.specs.inner.LiteralSet.{LiteralSet, IsLiteralSet, TakesOut}
 use Rattle.sat_solver.specs.declared.false_lits.FalseLits.{FalseLits}
-use Rattle.sat_solver.specs.Gathering.{is_current, AreFalse, Inserts, InsertsAll, ResolvesSet}
+use Rattle.sat_solver.specs.inner.Gathering.{is_current, AreFalse, Inserts, InsertsAll, ResolvesSet}
 use Rattle.sat_solver.proofs.LowerLemmas.{IsSet-false}
 
 -- the variable of a false literal exists

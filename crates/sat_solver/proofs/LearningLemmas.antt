@@ -6,10 +6,10 @@ use Rattle.clause_core.specs.Clause.{VariablesExist}
 use Rattle.clause_core.specs.Propagation.{MakesFalse}
 use Rattle.refutation_log.specs.declared.refutation.Chain.{Chain}
 use Rattle.sat_trail.specs.declared.entry.Entry.{Entry}
-use Rattle.sat_trail.specs.Entry.{entry_of, values_of, level_of}
+use Rattle.sat_trail.specs.Entry.{entry_of, values_of, level_of, up_to}
 use Rattle.sat_trail.specs.State.{State}
-use Rattle.sat_trail.specs.Trail.{IsTrail, HasTwoOpen, up_to}
-use Rattle.sat_solver.specs.Analysis.{IsLearned, IsLowerLevel}
+use Rattle.sat_trail.specs.Trail.{IsTrail, HasTwoOpen}
+use Rattle.sat_solver.specs.inner.Analysis.{IsLearned, IsLowerLevel}
 use Rattle.sat_solver.proofs.LowerLemmas.{IsSplit-trail, entry_of-low, entry_of-high, IsSet, IsSet-false}
 
 -- the variables of a learned clause exist

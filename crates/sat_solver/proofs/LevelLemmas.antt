@@ -5,7 +5,7 @@ use Rattle.std.proofs.lemmas.List.Elements.{All-push, All-weaker, Contains-appen
 use Rattle.clause_core.specs.declared.literal.Lit.{Lit}
 use Rattle.sat_trail.specs.Entry.{level_of}
 use Rattle.sat_trail.specs.State.{State}
-use Rattle.sat_solver.specs.Analysis.{IsLowerLevel}
+use Rattle.sat_solver.specs.inner.Analysis.{IsLowerLevel}
 
 -- what is said of the level in a `Some`
 at-some : (o : Option ℕ) (current result n : ℕ) → IfSome o (λ m. m < current → m ≤ result) → o ≡ Some n → n < current → n ≤ result

@@ -1,14 +1,16 @@
-pub mod LevelLemmas
-pub mod LowerLemmas
-pub mod FindsLemmas
-pub mod StoredSetLemmas
-pub mod GatheringLemmas
-pub mod AscendingLemmas
-pub mod PlaceLemmas
-pub mod StepLemmas
-pub mod CurrentLemmas
-pub mod ConflictLemmas
-pub mod UipLemmas
-pub mod ModelLemmas
-pub mod LearningLemmas
-pub mod SolvingLemmas
+mod CellLemmas
+mod ConflictLemmas
+mod CurrentLemmas
+mod EntryLemmas
+mod GatheringLemmas
+mod LearningLemmas
+mod LevelLemmas
+mod LiteralLemmas
+mod LowerLemmas
+mod ModelLemmas
+mod NumberLemmas
+mod PositionLemmas
+mod SolvingLemmas
+mod StepLemmas
+mod StoredSetLemmas
+mod UipLemmas

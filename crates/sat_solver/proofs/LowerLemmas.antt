@@ -1,20 +1,15 @@
 -- What the entries up to a level say of a literal.
-use Rattle.std.proofs.Common.{◌≡◌, ℕ, ◌<◌, ◌≤◌, true, not, Option, Some, None, option_map, List, [], ◌∷◌, ◌++◌, inl, inr, sym, ap, refl, ◌∙◌, subst, append-nil, arith, All}
-use Rattle.std.proofs.lemmas.Bool.{cases_lt, leb-true}
-use Rattle.std.proofs.lemmas.List.Elements.{All-contains, All-cons, All-weaker, filter_passes}
+use Rattle.std.proofs.Common.{◌≡◌, ℕ, suc, ◌<◌, ◌≤◌, true, not, Option, Some, None, option_map, List, [], ◌∷◌, ◌++◌, inl, inr, sym, ap, refl, ◌∙◌, subst, arith, All, AllPairs}
+use Rattle.std.proofs.lemmas.Bool.{cases_lt, leb-true, le-leb, lt-leb}
+use Rattle.std.proofs.lemmas.List.Elements.{All-contains, All-cons, All-head, All-tail, filter_passes}
 use Rattle.std.specs.Prelude.{nat_le}
 use Rattle.clause_core.specs.declared.literal.Lit.{Lit}
 use Rattle.clause_core.specs.Propagation.{MakesFalse}
 use Rattle.sat_trail.specs.declared.entry.Entry.{Entry}
-use Rattle.sat_trail.specs.Entry.{entry_of, values_of, last_level}
-use Rattle.sat_trail.specs.Growth.{Follows}
+use Rattle.sat_trail.specs.Entry.{entry_of, values_of, up_to}
 use Rattle.sat_trail.specs.State.{State}
-use Rattle.sat_trail.specs.Trail.{IsTrail, up_to}
-use Rattle.sat_trail.proofs.EntryLemmas.{entry_of-kept, entry_of-missing, entry_of-member, entry_of-variable}
-use Rattle.sat_trail.proofs.StorageLemmas.{last_level-push}
-use Rattle.sat_trail.proofs.LevelLemmas.{moved, IsTop, IsTop-push, IsTop-grown, IsTop-none, up_to-both, up_to-low}
-use Rattle.sat_trail.proofs.FactLemmas.{levels-above}
-use Rattle.sat_trail.proofs.SeenLemmas.{value-entry}
+use Rattle.sat_trail.specs.Trail.{IsTrail}
+use Rattle.sat_solver.proofs.EntryLemmas.{entry_of-kept, entry_of-missing, entry_of-member, entry_of-variable, value-entry}
 
 -- the entries up to a level stand before those above it
 pub record IsSplit (entries : List Entry) (level : ℕ) : Type 0 where
@@ -22,34 +17,35 @@ pub record IsSplit (entries : List Entry) (level : ℕ) : Type 0 where
   pub whole : up_to level entries ++ dropped ≡ entries
   pub above : All (λ e. level < e.level) dropped
 
--- the same for entries that grow
-split-grown : (clauses : List (List Lit)) (before rest : List Entry) (level : ℕ) → Follows clauses before rest → IsTop before → last_level before ≤ level → IsSplit (before ++ rest) level
-split-grown clauses before [] level follows top low = record {
-  dropped = [];
-  whole = append-nil (up_to level (before ++ [])) ∙ up_to-low level (before ++ [])
-      (subst (All (λ e. e.level ≤ level)) (sym (append-nil before)) (All-weaker (λ e. e.level ≤ last_level before) (λ e. e.level ≤ level) (λ e under. omega (arith, under, low)) before top));
-  above = λ k d within. absurd (omega arith);
-}
-split-grown clauses before (e ∷ rest) level follows top low = elim (cases_lt level e.level) [
+-- entries above the level all go
+up_to-high : (level : ℕ) (entries : List Entry) → All (λ e. level < e.level) entries → up_to level entries ≡ []
+up_to-high level [] high = refl
+up_to-high level (e ∷ rest) high =
+    rw (lt-leb e.level level (All-head (λ d. level < d.level) e rest high)) (up_to-high level rest (All-tail (λ d. level < d.level) e rest high))
+
+-- entries whose levels never fall are split at each level
+split-rising : (level : ℕ) (entries : List Entry) → AllPairs (λ d e. d.level ≤ e.level) entries → IsSplit entries level
+split-rising level [] rising = record { dropped = []; whole = refl; above = λ k d within. absurd (omega arith) }
+split-rising level (e ∷ rest) rising = elim (cases_lt level e.level) [
   | inl over ↦ record {
     dropped = e ∷ rest;
-    whole = ap (λ es. es ++ e ∷ rest) (up_to-both level before (e ∷ rest)
-        (All-weaker (λ d. d.level ≤ last_level before) (λ d. d.level ≤ level) (λ d under. omega (arith, under, low)) before top) (high over));
+    whole = ap (λ es. es ++ e ∷ rest) (up_to-high level (e ∷ rest) (high over));
     above = high over;
   }
   | inr under ↦
-      subst (λ es. IsSplit es level) (moved before e rest)
-      (split-grown clauses (before ++ e ∷ []) rest level follows.1 (IsTop-push clauses before e follows.0 top) (omega (arith, under, last_level-push before e)))
+      let later = split-rising level rest (λ i j d before within. rising (suc i) (suc j) d (omega arith) (omega arith)) in record {
+        dropped = later.dropped;
+        whole = rw (le-leb e.level level under) (ap (λ es. e ∷ es) later.whole);
+        above = later.above;
+      }
 ]
   where
     high : level < e.level → All (λ d. level < d.level) (e ∷ rest)
-    high over = All-cons (λ d. level < d.level) e rest over
-        (All-weaker (λ d. e.level ≤ d.level) (λ d. level < d.level) (λ d above. omega (arith, above, over)) rest
-        (levels-above clauses (before ++ e ∷ []) rest e.level follows.1 (omega (arith, last_level-push before e))))
+    high over = All-cons (λ d. level < d.level) e rest over (λ k d within. omega (arith, over, rising 0 (suc k) d (omega arith) (omega arith)))
 
 -- a trail is split at each level
 pub IsSplit-trail : (t : State) (level : ℕ) → IsTrail t → IsSplit t.entries level
-IsSplit-trail t level trail = split-grown t.clauses [] t.entries level trail.grown IsTop-none (omega arith)
+IsSplit-trail t level trail = split-rising level t.entries trail.levels.rising
 
 -- an entry up to the level is found among those
 pub entry_of-low : (entries : List Entry) (level v : ℕ) (e : Entry) → IsSplit entries level → entry_of entries v ≡ Some e → e.level ≤ level → entry_of (up_to level entries) v ≡ Some e
@@ -98,8 +94,7 @@ IsSet-false t l trail fails =
     record {
       entry = given.0;
       found = given.1;
-      reached = subst (λ n. given.0.level ≤ n) trail.level
-          (All-contains (λ e. e.level ≤ last_level t.entries) t.entries given.0 (IsTop-grown t.clauses [] t.entries trail.grown IsTop-none) (entry_of-member t.entries l.var given.0 given.1));
+      reached = All-contains (λ e. e.level ≤ t.level) t.entries given.0 trail.levels.highest (entry_of-member t.entries l.var given.0 given.1);
       exists = subst (λ v. (0 < v) × (v ≤ t.vars)) (entry_of-variable t.entries l.var given.0 given.1)
           (All-contains (λ e. (0 < e.lit.var) × (e.lit.var ≤ t.vars)) t.entries given.0 trail.exist (entry_of-member t.entries l.var given.0 given.1));
     }

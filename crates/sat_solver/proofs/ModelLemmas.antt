@@ -5,35 +5,35 @@ use Rattle.std.proofs.lemmas.List.{get_or_append_left, get_or_push, length-appen
 use Rattle.std.proofs.lemmas.List.Elements.{All-head, All-tail, All-cons}
 use Rattle.clause_core.specs.declared.literal.Lit.{Lit}
 use Rattle.clause_core.specs.Assignment.{valuation}
-use Rattle.clause_core.specs.Clause.{VariablesExist, Satisfies, SatisfiesAll}
+use Rattle.clause_core.specs.Clause.{VariablesExist, Satisfies}
 use Rattle.clause_core.specs.Literal.{MakesTrue}
 use Rattle.clause_core.specs.Propagation.{MakesFalse, Falsifies, IsPropagated}
 use Rattle.sat_trail.specs.Entry.{values_of}
-use Rattle.sat_trail.specs.State.{State}
+use Rattle.sat_trail.specs.State.{State, numbering_of}
 use Rattle.sat_trail.specs.Trail.{IsTrail}
-use Rattle.sat_trail.proofs.LiteralLemmas.{cases_bool}
-use Rattle.sat_solver.specs.Choice.{AllSet}
+use Rattle.sat_solver.proofs.LiteralLemmas.{cases_bool}
+use Rattle.sat_solver.specs.inner.Choice.{AllSet, SatisfiesNumbered}
 
 -- one more variable has a value
-pub set-more : (f : ℕ → Option Bool) (place : ℕ) → ((v : ℕ) → 0 < v → v ≤ place → IsSome (f v)) → IsSome (f (place + 1)) → (v : ℕ) → 0 < v → v ≤ place + 1 → IsSome (f v)
-set-more f place set next v from_one within = elim (cases_eq v (place + 1)) [
+pub set-more : (f : ℕ → Option Bool) (index : ℕ) → ((v : ℕ) → 0 < v → v ≤ index → IsSome (f v)) → IsSome (f (index + 1)) → (v : ℕ) → 0 < v → v ≤ index + 1 → IsSome (f v)
+set-more f index set next v from_one within = elim (cases_eq v (index + 1)) [
   | inl same ↦ subst (λ w. IsSome (f w)) (sym same) next
   | inr other ↦ set v from_one (omega arith)
 ]
 
 -- the values of the first variables, with false for what is missing
-pub record HasValues (f : ℕ → Option Bool) (values : List Bool) (place : ℕ) : Type 0 where
-  pub many : length values ≡ place
-  pub each : (k : ℕ) → k < place → get_or values k false ≡ unwrap_or (f (k + 1)) false
+pub record HasValues (f : ℕ → Option Bool) (values : List Bool) (index : ℕ) : Type 0 where
+  pub many : length values ≡ index
+  pub each : (k : ℕ) → k < index → get_or values k false ≡ unwrap_or (f (k + 1)) false
 
 -- one more value
-pub HasValues-push : (f : ℕ → Option Bool) (values new : List Bool) (place : ℕ) (b : Bool) → HasValues f values place → b ≡ unwrap_or (f (place + 1)) false → new ≡ values ++ b ∷ [] → HasValues f new (place + 1)
-HasValues-push f values new place b model is grows = rw grows (record {
+pub HasValues-push : (f : ℕ → Option Bool) (values new : List Bool) (index : ℕ) (b : Bool) → HasValues f values index → b ≡ unwrap_or (f (index + 1)) false → new ≡ values ++ b ∷ [] → HasValues f new (index + 1)
+HasValues-push f values new index b model is grows = rw grows (record {
   many = omega (arith, model.many, length-append values (b ∷ []));
-  each = λ k within. elim (cases_lt k place) [
+  each = λ k within. elim (cases_lt k index) [
     | inl before ↦ get_or_append_left values (b ∷ []) false k (omega (arith, before, model.many)) ∙ model.each k before
     | inr last ↦
-        let same : place ≡ k = omega arith in
+        let same : index ≡ k = omega arith in
         get_or_push values b false k (model.many ∙ same) ∙ is ∙ ap (λ n. unwrap_or (f (n + 1)) false) same
   ];
 })
@@ -60,9 +60,9 @@ clause-decided f values vars (l ∷ rest) model set exist =
     ]
 
 -- where no clause is false and all variables have values, the values satisfy
-pub SatisfiesAll-model : (t : State) (values : List Bool) → IsTrail t → HasValues (values_of t.entries) values t.vars → AllSet t → IsPropagated (values_of t.entries) t.clauses → SatisfiesAll (valuation values) t.clauses
-SatisfiesAll-model t values trail model set quiet k d within =
-    elim (clause-decided (values_of t.entries) values t.vars (get_or t.clauses k d) model set (trail.clauses_exist k d within)) [
+pub satisfies-model : (t : State) (values : List Bool) → IsTrail t → HasValues (values_of t.entries) values t.vars → AllSet t → IsPropagated (values_of t.entries) (numbering_of t) → SatisfiesNumbered (valuation values) (numbering_of t)
+satisfies-model t values trail model set propagated n clause has =
+    elim (clause-decided (values_of t.entries) values t.vars clause model set (trail.clauses_exist n clause has)) [
       | inl holds ↦ holds
-      | inr falsified ↦ absurd (quiet.no_false k d within falsified)
+      | inr falsified ↦ absurd (propagated.no_false n clause has falsified)
     ]

@@ -1,5 +1,6 @@
 -- What the solver has learned so far, and what that makes of its answers.
-use Rattle.std.proofs.Common.{◌≡◌, ◌≢◌, ℕ, ◌+◌, ◌-◌, ◌<◌, Bool, false, List, [], ◌∷◌, ◌++◌, inl, inr, length, sym, ap, refl, ◌∙◌, subst, append_assoc, append-nil, arith, All, Contains, length-append}
+use Rattle.std.proofs.Common.{◌≡◌, ◌≢◌, ℕ, ◌+◌, ◌-◌, ◌<◌, Bool, false, List, [], ◌∷◌, ◌++◌, inl, inr, length, get_or, sym, ap, refl, ◌∙◌, subst, append_assoc, append-nil, arith, All, Contains, length-append}
+use Rattle.std.proofs.lemmas.Bool.{cases_eq}
 use Rattle.std.proofs.lemmas.List.{get_or_append_left}
 use Rattle.std.proofs.lemmas.List.Elements.{All-push, Contains-append_left, Contains-append_right, Contains-push, Contains-push_cases, Contains-get_or}
 use Rattle.std.proofs.lemmas.Option.{get_or_from_slice_get, slice_get_within}
@@ -8,74 +9,98 @@ use Rattle.clause_core.specs.declared.formula.Formula.{Formula}
 use Rattle.clause_core.specs.Clause.{Satisfies, SatisfiesAll}
 use Rattle.clause_core.specs.Propagation.{IsLacked}
 use Rattle.refutation_log.specs.declared.refutation.Chain.{Chain}
-use Rattle.refutation_log.specs.Resolution.{Derives, DerivesAll, Folds, IsNew}
-use Rattle.refutation_log.proofs.ResolutionLemmas.{derives_more, new_more}
-use Rattle.sat_trail.specs.State.{State}
-use Rattle.sat_trail.specs.Trail.{IsTrail}
-use Rattle.sat_solver.specs.Analysis.{Refuted, Learns}
-use Rattle.sat_solver.specs.Search.{GoesOn}
-use Rattle.sat_solver.specs.Progress.{HasLearned}
+use Rattle.refutation_log.specs.Resolution.{Derives, DerivesAll, Folds, IsNew, StepsAppend, NewClausesAppend}
+use Rattle.clause_core.specs.Numbering.{numbered, HasNumber}
+use Rattle.sat_trail.specs.State.{State, numbering_of, last_number}
+use Rattle.sat_trail.specs.Trail.{IsTrail, IsStart, Adds}
+use Rattle.sat_solver.specs.inner.Analysis.{Refuted, Learns, at_level}
+use Rattle.sat_solver.specs.inner.Search.{GoesOn}
+use Rattle.sat_solver.specs.inner.Choice.{SatisfiesNumbered}
+use Rattle.sat_solver.proofs.NumberLemmas.{number_made, slice_get-append, number_among, others_keep, added_last, derives-agree}
+use Rattle.sat_solver.specs.inner.Progress.{AreLearned, HasLearned}
 use Rattle.sat_solver.specs.Outcome.{Refutes, Spends}
 use Rattle.sat_solver.proofs.ConflictLemmas.{IsLacked-learned}
 
 -- nothing is learned yet
-pub HasLearned-start : (f : Formula) (t : State) → ¬ Contains f.clauses [] → t ≡ record { vars = f.vars; clauses = f.clauses; entries = []; level = 0; ready = false } → IsTrail t → HasLearned f t []
+pub HasLearned-start : (f : Formula) (t : State) → ¬ Contains f.clauses [] → IsStart f t → IsTrail t → HasLearned f t []
 HasLearned-start f t no_empty start trail = record {
   derived = [];
-  clauses = ap (λ (s : State). s.clauses) start ∙ sym (append-nil f.clauses);
-  derives = refl;
-  linked = λ k d within. absurd (omega arith);
-  new = tt;
-  no_empty = λ among. no_empty (subst (λ cs. Contains cs []) (append-nil f.clauses) among);
-  counted = refl;
-  vars = ap (λ (s : State). s.vars) start;
+  learned = record {
+    derives = refl;
+    linked = λ k d within. absurd (omega arith);
+    new = tt;
+    no_empty = λ among. no_empty (subst (λ cs. Contains cs []) (append-nil f.clauses) among);
+    counted = refl;
+  };
+  numbers = λ n. start.numbers n ∙ ap (λ cs. numbered cs n) (sym (append-nil f.clauses));
+  last = start.last ∙ ap length (sym (append-nil f.clauses));
+  vars = start.vars;
   sound = trail;
 }
 
 -- a search changes no clause
 pub HasLearned-search : (f : Formula) (t new : State) (steps : List Chain) → HasLearned f t steps → GoesOn t new → HasLearned f new steps
-HasLearned-search f t new steps learned goes_on = record {
-  derived = learned.derived;
-  clauses = goes_on.clauses ∙ learned.clauses;
-  derives = learned.derives;
-  linked = learned.linked;
-  new = learned.new;
-  no_empty = learned.no_empty;
-  counted = learned.counted;
-  vars = goes_on.vars ∙ learned.vars;
+HasLearned-search f t new steps known goes_on = record {
+  derived = known.derived;
+  learned = known.learned;
+  numbers = λ n. goes_on.numbers n ∙ known.numbers n;
+  last = goes_on.last ∙ known.last;
+  vars = goes_on.vars ∙ known.vars;
   sound = goes_on.sound;
 }
+
+-- a clause that is added has the next number after those of the list
+numbers-learn : (old : State) (clauses : List (List Lit)) (clause : List Lit) (new : State) (number : ℕ) → ((n : ℕ) → numbering_of old n ≡ numbered clauses n) → last_number old ≡ length clauses → Adds old clause new number → (n : ℕ) → numbering_of new n ≡ numbered (clauses ++ clause ∷ []) n
+numbers-learn old clauses clause new number numbers last adds n = elim (cases_eq n number) [
+  | inl same ↦ rw same (adds.has_number.there ∙ sym (ap (numbered (clauses ++ clause ∷ [])) next ∙ (added_last clauses clause).there))
+  | inr other ↦ adds.others n other ∙ numbers n ∙ sym (others_keep clauses clause n (λ at_end. other (at_end ∙ sym next)))
+]
+  where
+    next : number ≡ length clauses + 1
+    next = adds.next ∙ ap (λ k. k + 1) last
 
 -- a clause that holds a literal is not empty
 holds-some : (clause : List Lit) (l : Lit) → Contains clause l → clause ≢ []
 holds-some clause l among empty = let in_none : Contains {X = Lit} [] l = subst (λ c. Contains c l) empty among in absurd (omega (arith, in_none.1))
 
--- a clause is learned at a conflict
-pub HasLearned-learn : (f : Formula) (t new : State) (steps : List Chain) (chain : Chain) → HasLearned f t steps → 0 < t.level → Learns t new chain → HasLearned f new (steps ++ chain ∷ [])
-HasLearned-learn f t new steps chain known above learns = record {
-  derived = known.derived ++ learns.clause ∷ [];
-  clauses = learns.clauses ∙ ap (λ cs. cs ++ learns.clause ∷ []) known.clauses ∙ append_assoc f.clauses known.derived (learns.clause ∷ []);
-  derives = derives_more f.clauses known.derived steps chain learns.clause known.derives (subst (λ cs. Derives cs chain learns.clause) known.clauses learns.learned.derives);
-  linked = All-push (λ (c : Chain). c.links ≢ []) steps chain known.linked learns.learned.linked;
-  new = new_more f.clauses known.derived learns.clause known.new (record {
-    lacked = λ some. subst (λ cs. IsLacked cs learns.clause) known.clauses (IsLacked-learned t chain learns.clause known.sound above learns.learned);
+-- one clause more is learned
+AreLearned-more : (f : Formula) (steps : List Chain) (derived : List (List Lit)) (chain : Chain) (clause : List Lit) → StepsAppend → NewClausesAppend → AreLearned f steps derived → Derives (numbered (f.clauses ++ derived)) chain clause → chain.links ≢ [] → IsLacked (f.clauses ++ derived) clause → clause ≢ [] → AreLearned f (steps ++ chain ∷ []) (derived ++ clause ∷ [])
+AreLearned-more f steps derived chain clause derives_more new_more known derives linked lacked not_empty = record {
+  derives = derives_more f.clauses derived steps chain clause known.derives derives;
+  linked = All-push (λ (c : Chain). c.links ≢ []) steps chain known.linked linked;
+  new = new_more f.clauses derived clause known.new (record {
+    lacked = λ some. lacked;
     first_empty = λ empty. absurd (not_empty empty);
   });
-  no_empty = λ among. elim (Contains-push_cases (f.clauses ++ known.derived) learns.clause [] (subst (λ cs. Contains cs []) (sym (append_assoc f.clauses known.derived (learns.clause ∷ []))) among)) [
+  no_empty = λ among. elim (Contains-push_cases (f.clauses ++ derived) clause [] (subst (λ cs. Contains cs []) (sym (append_assoc f.clauses derived (clause ∷ []))) among)) [
     | inl before ↦ known.no_empty before
     | inr last ↦ not_empty last
   ];
-  counted = omega (arith, length-append known.derived (learns.clause ∷ []), length-append steps (chain ∷ []), known.counted);
-  vars = learns.vars ∙ known.vars;
+  counted = omega (arith, length-append derived (clause ∷ []), length-append steps (chain ∷ []), known.counted);
+}
+
+-- a clause is learned at a conflict
+pub HasLearned-learn : (f : Formula) (t new : State) (steps : List Chain) (chain : Chain) → StepsAppend → NewClausesAppend → HasLearned f t steps → 0 < t.level → Learns t new chain → HasLearned f new (steps ++ chain ∷ [])
+HasLearned-learn f t new steps chain derives_more new_more known above learns = record {
+  derived = known.derived ++ learns.clause ∷ [];
+  learned = AreLearned-more f steps known.derived chain learns.clause derives_more new_more known.learned
+      (derives-agree (numbering_of t) (numbered (f.clauses ++ known.derived)) chain learns.clause known.numbers learns.learned.derives)
+      learns.learned.linked
+      (IsLacked-learned t (f.clauses ++ known.derived) chain learns.clause known.numbers known.sound above learns.learned)
+      (holds-some learns.clause learns.learned.current.literal learns.learned.current.among);
+  numbers = λ n. numbers-learn (at_level learns.level t) (f.clauses ++ known.derived) learns.clause new learns.number known.numbers known.last learns.adds n
+      ∙ ap (λ cs. numbered cs n) (append_assoc f.clauses known.derived (learns.clause ∷ []));
+  last = learns.adds.last ∙ learns.adds.next ∙ ap (λ k. k + 1) known.last ∙ grown ∙ ap length (append_assoc f.clauses known.derived (learns.clause ∷ []));
+  vars = ap (λ (s : State). s.vars) learns.adds.rest ∙ known.vars;
   sound = learns.sound;
 }
   where
-    not_empty : learns.clause ≢ []
-    not_empty = holds-some learns.clause learns.learned.current.literal learns.learned.current.among
+    grown : length (f.clauses ++ known.derived) + 1 ≡ length ((f.clauses ++ known.derived) ++ learns.clause ∷ [])
+    grown = omega (arith, length-append (f.clauses ++ known.derived) (learns.clause ∷ []))
 
 -- the log so far is new
 pub IsNew-learned : (f : Formula) (t : State) (steps : List Chain) → HasLearned f t steps → IsNew f (record { steps = steps })
-IsNew-learned f t steps known = record { derived = known.derived; derives = known.derives; linked = known.linked; new = known.new }
+IsNew-learned f t steps known = record { derived = known.derived; derives = known.learned.derives; linked = known.learned.linked; new = known.learned.new }
 
 -- the budget is spent
 pub Spends-learned : (f : Formula) (t : State) (steps : List Chain) (budget : ℕ) → HasLearned f t steps → length steps ≡ budget → Spends f budget (record { steps = steps })
@@ -83,8 +108,8 @@ Spends-learned f t steps budget known spent = record {
   new = IsNew-learned f t steps known;
   spent = spent;
   derived = known.derived;
-  derives = known.derives;
-  no_empty = λ among. known.no_empty (Contains-append_right f.clauses known.derived [] among);
+  derives = known.learned.derives;
+  no_empty = λ among. known.learned.no_empty (Contains-append_right f.clauses known.derived [] among);
 }
 
 -- an empty clause of the formula is a refutation without steps
@@ -96,39 +121,40 @@ Refutes-empty f budget among = record {
   none_needed = λ _. refl;
 }
 
--- a chain that derives the empty clause has a link where no clause before it is empty
-linked-refuted : (t : State) (number : ℕ) (chain : Chain) (clause : List Lit) → ¬ Contains t.clauses [] → Refuted t number chain clause → chain.links ≢ []
-linked-refuted t number chain clause no_empty refuted none =
-    let folds : refuted.derives.start ≡ clause = subst (λ ls. Folds t.clauses refuted.derives.start ls clause) none refuted.derives.folds in
-    no_empty (subst (Contains t.clauses) (folds ∙ refuted.empty)
-    (subst (Contains t.clauses) (get_or_from_slice_get t.clauses (chain.first - 1) refuted.derives.start [] refuted.derives.named.there)
-    (Contains-get_or t.clauses (chain.first - 1) [] (slice_get_within t.clauses (chain.first - 1) refuted.derives.start refuted.derives.named.there))))
+-- a chain that derives the empty clause has a link if no clause before it is empty
+linked-refuted : (clauses : List (List Lit)) (chain : Chain) → ¬ Contains clauses [] → Derives (numbered clauses) chain [] → chain.links ≢ []
+linked-refuted clauses chain no_empty derives none =
+    let folds : derives.start ≡ [] = subst (λ ls. Folds (numbered clauses) derives.start ls []) none derives.folds in
+    no_empty (subst (Contains clauses) folds (number_among clauses chain.first derives.start derives.named))
 
 -- a refutation at level 0 ends the log
-pub Refutes-learned : (f : Formula) (t : State) (steps : List Chain) (budget number : ℕ) (chain : Chain) (clause : List Lit) → HasLearned f t steps → length steps < budget → Refuted t number chain clause → Refutes f budget (record { steps = steps ++ chain ∷ [] })
-Refutes-learned f t steps budget number chain clause known short refuted = record {
+pub Refutes-learned : (f : Formula) (t : State) (steps : List Chain) (budget number : ℕ) (chain : Chain) (clause : List Lit) → StepsAppend → NewClausesAppend → HasLearned f t steps → length steps < budget → Refuted t number chain clause → Refutes f budget (record { steps = steps ++ chain ∷ [] })
+Refutes-learned f t steps budget number chain clause derives_more new_more known short refuted = record {
   accepted = record { derived = known.derived ++ [] ∷ []; derives = derives; empty = subst (λ cs. Contains cs []) (append_assoc f.clauses known.derived ([] ∷ [])) (Contains-push (f.clauses ++ known.derived) []) };
   new = record {
     derived = known.derived ++ [] ∷ [];
     derives = derives;
-    linked = All-push (λ (c : Chain). c.links ≢ []) steps chain known.linked (linked-refuted t number chain clause (λ among. known.no_empty (subst (λ cs. Contains cs []) known.clauses among)) refuted);
-    new = new_more f.clauses known.derived [] known.new (record { lacked = λ some. absurd (some refl); first_empty = λ _. known.no_empty });
+    linked = All-push (λ (c : Chain). c.links ≢ []) steps chain known.learned.linked (linked-refuted (f.clauses ++ known.derived) chain known.learned.no_empty last);
+    new = new_more f.clauses known.derived [] known.learned.new (record { lacked = λ some. absurd (some refl); first_empty = λ _. known.learned.no_empty });
   };
   within = omega (arith, short, length-append steps (chain ∷ []));
-  none_needed = λ among. absurd (known.no_empty (Contains-append_left f.clauses known.derived [] among));
+  none_needed = λ among. absurd (known.learned.no_empty (Contains-append_left f.clauses known.derived [] among));
 }
   where
+    last : Derives (numbered (f.clauses ++ known.derived)) chain []
+    last = derives-agree (numbering_of t) (numbered (f.clauses ++ known.derived)) chain [] known.numbers
+        (subst (Derives (numbering_of t) chain) refuted.empty refuted.derives)
+
     derives : DerivesAll f.clauses (steps ++ chain ∷ []) (known.derived ++ [] ∷ [])
-    derives = derives_more f.clauses known.derived steps chain [] known.derives
-        (subst (λ cs. Derives cs chain []) known.clauses (subst (Derives t.clauses chain) refuted.empty refuted.derives))
+    derives = derives_more f.clauses known.derived steps chain [] known.learned.derives last
 
--- what satisfies all clauses of the trail satisfies the formula
-pub SatisfiesAll-formula : (f : Formula) (t : State) (steps : List Chain) (v : ℕ → Bool) → HasLearned f t steps → SatisfiesAll v t.clauses → SatisfiesAll v f.clauses
-SatisfiesAll-formula f t steps v known satisfies k d within =
-    subst (Satisfies v) (get_or_append_left f.clauses known.derived d k within)
-    (subst (λ cs. All (Satisfies v) cs) known.clauses satisfies k d (omega (arith, within, length-append f.clauses known.derived)))
+-- what satisfies the clauses of the trail satisfies the formula
+pub satisfies-formula : (f : Formula) (t : State) (steps : List Chain) (v : ℕ → Bool) → HasLearned f t steps → SatisfiesNumbered v (numbering_of t) → SatisfiesAll v f.clauses
+satisfies-formula f t steps v known satisfies k d within = satisfies (k + 1) (get_or f.clauses k d) (record {
+  there = known.numbers (k + 1) ∙ (number_made (f.clauses ++ known.derived) k (get_or f.clauses k d) (slice_get-append f.clauses known.derived k d within)).there;
+})
 
--- one clause more is counted
-pub counted-learn : (old t new : State) (chain : Chain) (clauses : ℕ) → clauses ≡ length old.clauses → GoesOn old t → Learns t new chain → clauses + 1 ≡ length new.clauses
-counted-learn old t new chain clauses count goes_on learns =
-    omega (arith, count, ap length goes_on.clauses, ap length learns.clauses, length-append t.clauses (learns.clause ∷ []))
+-- there is a number for one clause more
+pub few-learned : (f : Formula) (t : State) (steps : List Chain) (budget : ℕ) → HasLearned f t steps → length steps < budget → length f.clauses + budget < 4294967296 → last_number t + 1 < 4294967296
+few-learned f t steps budget known short few =
+    omega (arith, known.last, length-append f.clauses known.derived, known.learned.counted, short, few)

@@ -4,29 +4,23 @@ use Rattle.std.proofs.lemmas.List.{take-append-drop}
 use Rattle.std.proofs.lemmas.List.Elements.{All-contains, Contains-get_or}
 use Rattle.clause_core.specs.declared.literal.Lit.{Lit}
 use Rattle.clause_core.specs.Literal.{negated}
-use Rattle.clause_core.specs.Clause.{IsAscending}
-use Rattle.clause_core.specs.Propagation.{MakesFalse, Falsifies}
+use Rattle.clause_core.specs.Clause.{IsAscending, HasExactly, ClausesAreSets}
+use Rattle.clause_core.specs.Propagation.{MakesFalse, Falsifies, IsFalsified}
 use Rattle.refutation_log.specs.declared.refutation.Chain.{Chain}
 use Rattle.refutation_log.specs.Resolution.{Folds}
 use Rattle.sat_trail.specs.declared.entry.Entry.{Entry}
-use Rattle.sat_trail.specs.Entry.{entry_of, values_of, last_level}
+use Rattle.sat_trail.specs.Entry.{entry_of, values_of}
 use Rattle.std.proofs.lemmas.Option.{get_or_from_slice_get, slice_get_within, slice_get-get_or, slice_get-map}
-use Rattle.sat_trail.specs.Growth.{Follows, IsDecision, IsForced}
-use Rattle.sat_trail.specs.State.{State}
-use Rattle.sat_trail.specs.Trail.{IsTrail, IsFalsified}
-use Rattle.sat_trail.proofs.EntryLemmas.{entry_of-member, entry_of-kept}
-use Rattle.sat_trail.proofs.LiteralLemmas.{cases_literal}
-use Rattle.sat_trail.proofs.SettledLemmas.{some-none}
-use Rattle.sat_trail.proofs.SeenLemmas.{values_of-front, value-entry}
-use Rattle.sat_trail.proofs.LevelLemmas.{IsTop-grown, IsTop-none, Follows-split}
-use Rattle.sat_trail.proofs.FactLemmas.{HasLevels-trail}
-use Rattle.sat_solver.specs.Analysis.{IsCurrent, HasTwoCurrent, HasCurrent, Resolving, HasReason, IsLearned, Refuted}
-use Rattle.sat_solver.proofs.PlaceLemmas.{IsAt, IsAt-trail, fails-under}
-use Rattle.clause_core.specs.Clause.{HasExactly}
-use Rattle.clause_core.proofs.ClauseLemmas.{equal_clauses}
+use Rattle.sat_trail.specs.Growth.{IsDecision, IsForced}
+use Rattle.sat_trail.specs.State.{State, numbering_of}
+use Rattle.sat_trail.specs.Trail.{IsTrail}
+use Rattle.sat_solver.specs.inner.Analysis.{IsCurrent, HasTwoCurrent, HasCurrent, Resolving, HasReason, IsLearned, Refuted}
+use Rattle.sat_solver.proofs.EntryLemmas.{entry_of-member, entry_of-kept, values_of-prefix, value-entry}
+use Rattle.sat_solver.proofs.LiteralLemmas.{cases_literal, some-none}
+use Rattle.sat_solver.proofs.PositionLemmas.{IsAt, IsAt-trail, fails-under}
 use Rattle.sat_solver.specs.declared.false_lits.FalseLits.{FalseLits}
 use Rattle.sat_solver.specs.declared.analysis.Derivation.{Derivation}
-use Rattle.sat_solver.specs.Gathering.{IsDerivationOf, Gathers, StepsOver}
+use Rattle.sat_solver.specs.inner.Gathering.{IsDerivationOf, Gathers, StepsOver}
 use Rattle.sat_solver.proofs.CurrentLemmas.{two-along, two-counted, counted-two}
 use Rattle.sat_solver.proofs.ConflictLemmas.{HasTwoCurrent-false}
 
@@ -38,159 +32,160 @@ other_than t clause l two = elim (cases_literal two.one l) [
 ]
 
 -- where two are of the current level, one is left after a step
-HasCurrent-step : (t : State) (old new : Chain) (f g : FalseLits) (place : ℕ) → HasTwoCurrent t f.set.lits → StepsOver t old new f g place → place < length t.entries → HasCurrent t g.set.lits
-HasCurrent-step t old new f g place two steps within =
-    let e = get_or t.entries place blank in
+HasCurrent-step : (t : State) (old new : Chain) (f g : FalseLits) (position : ℕ) → HasTwoCurrent t f.set.lits → StepsOver t old new f g position → position < length t.entries → HasCurrent t g.set.lits
+HasCurrent-step t old new f g position two steps within =
+    let e = get_or t.entries position blank in
     let left = other_than t f.set.lits (negated e.lit) two in
-    record { literal = left.0; among = steps.kept left.0 e left.1 (slice_get-get_or t.entries place blank within) left.3; current = left.2 }
+    record { literal = left.0; among = steps.kept left.0 e left.1 (slice_get-get_or t.entries position blank within) left.3; current = left.2 }
   where
     blank : Entry
     blank = record { lit = record { var = 0; positive = false }; level = 0; reason = None }
 
 -- a false clause with a literal comes after an entry
-place-some : (t : State) (clause : List Lit) (place : ℕ) (l : Lit) → Falsifies (values_of (take place t.entries)) clause → Contains clause l → 0 < place
-place-some t clause zero l falsified among =
+position-some : (t : State) (clause : List Lit) (position : ℕ) (l : Lit) → Falsifies (values_of (take position t.entries)) clause → Contains clause l → 0 < position
+position-some t clause zero l falsified among =
     absurd (some-none (values_of [] l.var) (not l.positive) (All-contains (MakesFalse (values_of [])) clause l falsified among) refl)
-place-some t clause (suc place) l falsified among = omega arith
+position-some t clause (suc position) l falsified among = omega arith
 
--- the literal at the last place of a false clause has a reason where another of the current level comes before it
-HasReason-two : (t : State) (clause : List Lit) (place : ℕ) → IsTrail t → HasTwoCurrent t clause → Falsifies (values_of (take (place + 1) t.entries)) clause → (l : Lit) → IsAt t place l → HasReason t clause place
-HasReason-two t clause place trail two falsified l at e read among =
+-- the literal at the last position of a false clause has a reason where another of the current level comes before it
+HasReason-two : (t : State) (clause : List Lit) (position : ℕ) → IsTrail t → HasTwoCurrent t clause → Falsifies (values_of (take (position + 1) t.entries)) clause → (l : Lit) → IsAt t position l → HasReason t clause position
+HasReason-two t clause position trail two falsified l at e read among =
     subst (λ (f : Entry). IsSome f.reason) (sym same) (by-cause at.follows.cause)
   where
     same : e ≡ at.entry
-    same = (let both : Some e ≡ Some at.entry = sym read ∙ at.at_place in cc)
+    same = (let both : Some e ≡ Some at.entry = sym read ∙ at.at_position in cc)
 
     left : (m : Lit) × Contains clause m × IsCurrent t m × (m ≢ negated l)
     left = other_than t clause (negated l) two
 
-    earlier : MakesFalse (values_of (take place t.entries)) left.0
-    earlier = fails-under t place l left.0 at left.3 (All-contains (MakesFalse (values_of (take (place + 1) t.entries))) clause left.0 falsified left.1)
+    earlier : MakesFalse (values_of (take position t.entries)) left.0
+    earlier = fails-under t position l left.0 at left.3 (All-contains (MakesFalse (values_of (take (position + 1) t.entries))) clause left.0 falsified left.1)
 
-    rises : IsDecision t.clauses (take place t.entries) at.entry → ⊥
+    rises : IsDecision (numbering_of t) (take position t.entries) at.entry → ⊥
     rises decision =
-        let given = value-entry (entry_of (take place t.entries) left.0.var) (not left.0.positive) earlier in
+        let given = value-entry (entry_of (take position t.entries) left.0.var) (not left.0.positive) earlier in
         let whole : entry_of t.entries left.0.var ≡ Some given.0 =
-        subst (λ es. entry_of es left.0.var ≡ Some given.0) (take-append-drop place t.entries) (entry_of-kept (take place t.entries) (drop place t.entries) left.0.var given.0 given.1) in
+        subst (λ es. entry_of es left.0.var ≡ Some given.0) (take-append-drop position t.entries) (entry_of-kept (take position t.entries) (drop position t.entries) left.0.var given.0 given.1) in
         let at_level : Some given.0.level ≡ Some t.level = sym (ap (option_map (λ (f : Entry). f.level)) whole) ∙ left.2 in
         let level : given.0.level ≡ t.level = cc in
-        let parts = Follows-split t.clauses [] (take place t.entries) (drop place t.entries) (subst (Follows t.clauses []) (sym (take-append-drop place t.entries)) trail.grown) in
-        let low : given.0.level ≤ last_level (take place t.entries) =
-        All-contains (λ f. f.level ≤ last_level (take place t.entries)) (take place t.entries) given.0 (IsTop-grown t.clauses [] (take place t.entries) parts.0 IsTop-none) (entry_of-member (take place t.entries) left.0.var given.0 given.1) in
+        let low : given.0.level < at.entry.level =
+        All-contains (λ f. f.level < at.entry.level) (take position t.entries) given.0
+        (trail.levels.decisions_rise (take position t.entries) (drop (position + 1) t.entries) at.entry at.whole decision.no_reason)
+        (entry_of-member (take position t.entries) left.0.var given.0 given.1) in
         let high : at.entry.level ≤ t.level =
-        subst (λ n. at.entry.level ≤ n) trail.level (All-contains (λ f. f.level ≤ last_level t.entries) t.entries at.entry (IsTop-grown t.clauses [] t.entries trail.grown IsTop-none) (entry_of-member t.entries l.var at.entry at.found)) in
-        omega (arith, decision.raises, level, low, high)
+        All-contains (λ f. f.level ≤ t.level) t.entries at.entry trail.levels.highest (entry_of-member t.entries l.var at.entry at.found) in
+        omega (arith, level, low, high)
 
-    by-cause : IsDecision t.clauses (take place t.entries) at.entry ⊎ IsForced t.clauses (take place t.entries) at.entry → IsSome at.entry.reason
+    by-cause : IsDecision (numbering_of t) (take position t.entries) at.entry ⊎ IsForced (numbering_of t) (take position t.entries) at.entry → IsSome at.entry.reason
     by-cause cause = elim cause [
       | inr forced ↦ subst IsSome (sym forced.reason) refl
       | inl decision ↦ absurd (rises decision)
     ]
 
 -- at level 0 each entry has a reason
-pub HasReason-0 : (t : State) (clause : List Lit) (place : ℕ) → IsTrail t → t.level ≡ 0 → HasReason t clause place
-HasReason-0 t clause place trail at_0 e read among =
-    All-contains (λ f. f.level ≡ 0 → IsSome f.reason) t.entries e (HasLevels-trail t trail).no_decision inside
-    (let high : e.level ≤ last_level t.entries = All-contains (λ f. f.level ≤ last_level t.entries) t.entries e (IsTop-grown t.clauses [] t.entries trail.grown IsTop-none) inside in omega (arith, high, trail.level, at_0))
+pub HasReason-0 : (t : State) (clause : List Lit) (position : ℕ) → IsTrail t → t.level ≡ 0 → HasReason t clause position
+HasReason-0 t clause position trail at_0 e read among =
+    All-contains (λ f. f.level ≡ 0 → IsSome f.reason) t.entries e trail.levels.no_decision inside
+    (let high : e.level ≤ t.level = All-contains (λ f. f.level ≤ t.level) t.entries e trail.levels.highest inside in omega (arith, high, at_0))
   where
     inside : Contains t.entries e
-    inside = subst (Contains t.entries) (get_or_from_slice_get t.entries place e e read) (Contains-get_or t.entries place e (slice_get_within t.entries place e read))
+    inside = subst (Contains t.entries) (get_or_from_slice_get t.entries position e e read) (Contains-get_or t.entries position e (slice_get_within t.entries position e read))
 
 -- the false clause before the first resolution
-unresolved-clause : (t : State) (number place : ℕ) (chain : Chain) (clause : List Lit) → (first : IsFalsified t number) → chain.links ≡ [] → Resolving t number chain clause place → first.clause ≡ clause
-unresolved-clause t number place chain clause first none resolving =
-    let folds : resolving.derives.start ≡ clause = subst (λ ls. Folds t.clauses resolving.derives.start ls clause) none resolving.derives.folds in
-    let start : first.clause ≡ resolving.derives.start = (let both : Some first.clause ≡ Some resolving.derives.start = sym first.numbered.at_place ∙ subst (λ n. slice_get t.clauses (n - 1) ≡ Some resolving.derives.start) resolving.first resolving.derives.named.there in cc) in
+unresolved-clause : (t : State) (number position : ℕ) (chain : Chain) (clause : List Lit) → (first : IsFalsified (numbering_of t) (values_of t.entries) number) → chain.links ≡ [] → Resolving t number chain clause position → first.clause ≡ clause
+unresolved-clause t number position chain clause first none resolving =
+    let folds : resolving.derives.start ≡ clause = subst (λ ls. Folds (numbering_of t) resolving.derives.start ls clause) none resolving.derives.folds in
+    let start : first.clause ≡ resolving.derives.start = (let both : Some first.clause ≡ Some resolving.derives.start = sym first.has_number.there ∙ subst (λ n. numbering_of t n ≡ Some resolving.derives.start) resolving.first resolving.derives.named.there in cc) in
     start ∙ folds
 
 -- what was resolved down to one literal of the current level is learned
-IsLearned-end : (t : State) (number : ℕ) (chain : Chain) (clause : List Lit) (place : ℕ) → IsTrail t → 0 < t.level → (first : IsFalsified t number) → Resolving t number chain clause place → HasCurrent t clause → ¬ HasTwoCurrent t clause → IsLearned t chain clause
-IsLearned-end t number chain clause place trail above first resolving current only_one = record {
+IsLearned-end : (t : State) (number : ℕ) (chain : Chain) (clause : List Lit) (position : ℕ) → IsTrail t → 0 < t.level → (first : IsFalsified (numbering_of t) (values_of t.entries) number) → Resolving t number chain clause position → HasCurrent t clause → ¬ HasTwoCurrent t clause → IsLearned t chain clause
+IsLearned-end t number chain clause position trail above first resolving current only_one = record {
   derives = resolving.derives;
-  linked = λ none. only_one (subst (HasTwoCurrent t) (unresolved-clause t number place chain clause first none resolving) (HasTwoCurrent-false t number first.clause trail above first.numbered first.falsified));
-  falsified = λ k d within. values_of-front place t.entries (get_or clause k d).var (not (get_or clause k d).positive) (resolving.falsified k d within);
+  linked = λ none. only_one (subst (HasTwoCurrent t) (unresolved-clause t number position chain clause first none resolving) (HasTwoCurrent-false t number first.clause trail above first.has_number first.falsified));
+  falsified = λ k d within. values_of-prefix position t.entries (get_or clause k d).var (not (get_or clause k d).positive) (resolving.falsified k d within);
   current = current;
   only_one = only_one;
 }
 
 -- the clause of the literals is the one that the chain derives
-same-clause : (t : State) (number : ℕ) (chain : Chain) (f : FalseLits) (place : ℕ) (clause : List Lit) (gathers : Gathers t number chain f place) → IsAscending clause → HasExactly clause f.set.lits → gathers.clause ≡ clause
-same-clause t number chain f place clause gathers ascending exactly =
-    equal_clauses gathers.clause clause gathers.ascending ascending
+same-clause : (sets : ClausesAreSets) (t : State) (number : ℕ) (chain : Chain) (f : FalseLits) (position : ℕ) (clause : List Lit) (gathers : Gathers t number chain f position) → IsAscending clause → HasExactly clause f.set.lits → gathers.clause ≡ clause
+same-clause sets t number chain f position clause gathers ascending exactly =
+    sets gathers.clause clause gathers.ascending ascending
     (λ m. (λ among. (exactly m).1 ((gathers.exactly m).0 among), λ among. (gathers.exactly m).1 ((exactly m).0 among)))
 
 -- the clause of literals of which one is of the current level is learned
-pub IsLearned-gathered : (t : State) (number : ℕ) (chain : Chain) (f : FalseLits) (place : ℕ) → IsTrail t → 0 < t.level → IsFalsified t number → Gathers t number chain f place → HasCurrent t f.set.lits → f.current ≤ 1 → (d : Derivation) → IsDerivationOf chain f.set.lits d → IsLearned t d.chain d.clause
-IsLearned-gathered t number chain f place trail above first gathers current few d is_of =
+pub IsLearned-gathered : (sets : ClausesAreSets) (t : State) (number : ℕ) (chain : Chain) (f : FalseLits) (position : ℕ) → IsTrail t → 0 < t.level → IsFalsified (numbering_of t) (values_of t.entries) number → Gathers t number chain f position → HasCurrent t f.set.lits → f.current ≤ 1 → (d : Derivation) → IsDerivationOf chain f.set.lits d → IsLearned t d.chain d.clause
+IsLearned-gathered sets t number chain f position trail above first gathers current few d is_of =
     subst (λ ch. IsLearned t ch d.clause) (sym is_of.same)
-    (subst (λ c. IsLearned t chain c) (same-clause t number chain f place d.clause gathers is_of.ascending is_of.exactly)
-    (IsLearned-end t number chain gathers.clause place trail above first gathers.resolving
+    (subst (λ c. IsLearned t chain c) (same-clause sets t number chain f position d.clause gathers is_of.ascending is_of.exactly)
+    (IsLearned-end t number chain gathers.clause position trail above first gathers.resolving
     (record { literal = current.literal; among = (gathers.exactly current.literal).1 current.among; current = current.current })
     (λ two. omega (arith, few, gathers.are_false.counted, counted-two t f.set.lits (two-along t gathers.clause f.set.lits (λ m among. (gathers.exactly m).0 among) two)))))
 
 -- the false clause before the first resolution has a literal of the current level
-pub HasCurrent-start : (t : State) (number place : ℕ) (chain : Chain) (f : FalseLits) → IsTrail t → 0 < t.level → IsFalsified t number → chain.links ≡ [] → Gathers t number chain f place → HasCurrent t f.set.lits
-HasCurrent-start t number place chain f trail above first none gathers =
-    let two = HasTwoCurrent-false t number first.clause trail above first.numbered first.falsified in
-    let same = unresolved-clause t number place chain gathers.clause first none gathers.resolving in
+pub HasCurrent-start : (t : State) (number position : ℕ) (chain : Chain) (f : FalseLits) → IsTrail t → 0 < t.level → IsFalsified (numbering_of t) (values_of t.entries) number → chain.links ≡ [] → Gathers t number chain f position → HasCurrent t f.set.lits
+HasCurrent-start t number position chain f trail above first none gathers =
+    let two = HasTwoCurrent-false t number first.clause trail above first.has_number first.falsified in
+    let same = unresolved-clause t number position chain gathers.clause first none gathers.resolving in
     record { literal = two.one; among = (gathers.exactly two.one).0 (subst (λ ls. Contains ls two.one) same two.one_among); current = two.one_current }
 
 -- a clause that the first no entries make false is empty
-pub empty-false : (t : State) (clause : List Lit) (place : ℕ) → place ≡ 0 → Falsifies (values_of (take place t.entries)) clause → clause ≡ []
-empty-false t [] place at_start falsified = refl
-empty-false t (l ∷ rest) place at_start falsified =
-    let first : values_of (take place t.entries) l.var ≡ Some (not l.positive) = falsified 0 l (omega arith) in
-    absurd (some-none (values_of (take place t.entries) l.var) (not l.positive) first (ap (λ n. values_of (take n t.entries) l.var) at_start))
+pub empty-false : (t : State) (clause : List Lit) (position : ℕ) → position ≡ 0 → Falsifies (values_of (take position t.entries)) clause → clause ≡ []
+empty-false t [] position at_start falsified = refl
+empty-false t (l ∷ rest) position at_start falsified =
+    let first : values_of (take position t.entries) l.var ≡ Some (not l.positive) = falsified 0 l (omega arith) in
+    absurd (some-none (values_of (take position t.entries) l.var) (not l.positive) first (ap (λ n. values_of (take n t.entries) l.var) at_start))
 
 -- the whole trail of level 0 resolves the false clause down to the empty one
-pub Refuted-end : (t : State) (number place : ℕ) (chain : Chain) (f : FalseLits) → place ≡ 0 → Gathers t number chain f place → (d : Derivation) → IsDerivationOf chain f.set.lits d → Refuted t number d.chain d.clause
-Refuted-end t number place chain f at_start gathers d is_of =
-    subst (λ ch. Refuted t number ch d.clause) (sym is_of.same) (subst (λ c. Refuted t number chain c) (same-clause t number chain f place d.clause gathers is_of.ascending is_of.exactly) (record {
+pub Refuted-end : (sets : ClausesAreSets) (t : State) (number position : ℕ) (chain : Chain) (f : FalseLits) → position ≡ 0 → Gathers t number chain f position → (d : Derivation) → IsDerivationOf chain f.set.lits d → Refuted t number d.chain d.clause
+Refuted-end sets t number position chain f at_start gathers d is_of =
+    subst (λ ch. Refuted t number ch d.clause) (sym is_of.same) (subst (λ c. Refuted t number chain c) (same-clause sets t number chain f position d.clause gathers is_of.ascending is_of.exactly) (record {
       first = gathers.resolving.first;
       derives = gathers.resolving.derives;
-      empty = empty-false t gathers.clause place at_start gathers.resolving.falsified;
+      empty = empty-false t gathers.clause position at_start gathers.resolving.falsified;
     }))
 
 -- two of the literals are of the current level
-two-gathered : (t : State) (number place : ℕ) (chain : Chain) (f : FalseLits) → 1 < f.current → Gathers t number chain f place → HasTwoCurrent t f.set.lits
-two-gathered t number place chain f many gathers =
-    two-counted t f.set.lits gathers.are_false.set.apart (omega (arith, many, gathers.are_false.counted))
+two-gathered : (t : State) (number position : ℕ) (chain : Chain) (f : FalseLits) → 1 < f.current → Gathers t number chain f position → HasTwoCurrent t f.set.lits
+two-gathered t number position chain f many gathers =
+    two-counted t f.set.lits gathers.are_false.set.distinct (omega (arith, many, gathers.are_false.counted))
 
 -- two of the literals of the clause are of the current level
-two-of-clause : (t : State) (number place : ℕ) (chain : Chain) (f : FalseLits) → 1 < f.current → (gathers : Gathers t number chain f place) → HasTwoCurrent t gathers.clause
-two-of-clause t number place chain f many gathers =
-    two-along t f.set.lits gathers.clause (λ m among. (gathers.exactly m).1 among) (two-gathered t number place chain f many gathers)
+two-of-clause : (t : State) (number position : ℕ) (chain : Chain) (f : FalseLits) → 1 < f.current → (gathers : Gathers t number chain f position) → HasTwoCurrent t gathers.clause
+two-of-clause t number position chain f many gathers =
+    two-along t f.set.lits gathers.clause (λ m among. (gathers.exactly m).1 among) (two-gathered t number position chain f many gathers)
 
--- there is an entry before the place
-pub gathered-some : (t : State) (number place : ℕ) (chain : Chain) (f : FalseLits) → 1 < f.current → Gathers t number chain f place → 0 < place
-gathered-some t number place chain f many gathers =
-    let two = two-of-clause t number place chain f many gathers in place-some t gathers.clause place two.one gathers.resolving.falsified two.one_among
+-- there is an entry before the position
+pub gathered-some : (t : State) (number position : ℕ) (chain : Chain) (f : FalseLits) → 1 < f.current → Gathers t number chain f position → 0 < position
+gathered-some t number position chain f many gathers =
+    let two = two-of-clause t number position chain f many gathers in position-some t gathers.clause position two.one gathers.resolving.falsified two.one_among
 
 -- the last entry of a false clause has a reason where two are of the current level
-pub HasReason-last : (t : State) (number place : ℕ) (chain : Chain) (f : FalseLits) → IsTrail t → 1 < f.current → Gathers t number chain f place → HasReason t f.set.lits (place - 1)
-HasReason-last t number place chain f trail many gathers entry read among =
-    HasReason-two t gathers.clause (place - 1) trail (two-of-clause t number place chain f many gathers) (subst (λ n. Falsifies (values_of (take n t.entries)) gathers.clause) same gathers.resolving.falsified) e.lit
-    (IsAt-trail t (place - 1) e.lit trail within (slice_get-map (λ (f : Entry). f.lit) t.entries (place - 1) ∙ ap (option_map (λ (f : Entry). f.lit)) (slice_get-get_or t.entries (place - 1) blank within)))
+pub HasReason-last : (t : State) (number position : ℕ) (chain : Chain) (f : FalseLits) → IsTrail t → 1 < f.current → Gathers t number chain f position → HasReason t f.set.lits (position - 1)
+HasReason-last t number position chain f trail many gathers entry read among =
+    HasReason-two t gathers.clause (position - 1) trail (two-of-clause t number position chain f many gathers) (subst (λ n. Falsifies (values_of (take n t.entries)) gathers.clause) same gathers.resolving.falsified) e.lit
+    (IsAt-trail t (position - 1) e.lit trail within (slice_get-map (λ (f : Entry). f.lit) t.entries (position - 1) ∙ ap (option_map (λ (f : Entry). f.lit)) (slice_get-get_or t.entries (position - 1) blank within)))
     entry read ((gathers.exactly (negated entry.lit)).1 among)
   where
-    some : 0 < place
-    some = gathered-some t number place chain f many gathers
+    some : 0 < position
+    some = gathered-some t number position chain f many gathers
 
-    same : place ≡ place - 1 + 1
+    same : position ≡ position - 1 + 1
     same = omega (arith, some)
 
-    within : place - 1 < length t.entries
+    within : position - 1 < length t.entries
     within = omega (arith, some, gathers.resolving.within)
 
     blank : Entry
     blank = record { lit = record { var = 0; positive = false }; level = 0; reason = None }
 
     e : Entry
-    e = get_or t.entries (place - 1) blank
+    e = get_or t.entries (position - 1) blank
 
--- the same literals at the same place, written in another way
-pub Gathers-at : (t : State) (number place at : ℕ) (chain : Chain) (f : FalseLits) → place ≡ at → Gathers t number chain f place → Gathers t chain.first chain f at
-Gathers-at t number place at chain f same gathers = subst (λ n. Gathers t chain.first chain f n) same (record {
+-- the same literals at the same position, written in another way
+pub Gathers-at : (t : State) (number position at : ℕ) (chain : Chain) (f : FalseLits) → position ≡ at → Gathers t number chain f position → Gathers t chain.first chain f at
+Gathers-at t number position at chain f same gathers = subst (λ n. Gathers t chain.first chain f n) same (record {
   clause = gathers.clause;
   exactly = gathers.exactly;
   ascending = gathers.ascending;
@@ -199,8 +194,8 @@ Gathers-at t number place at chain f same gathers = subst (λ n. Gathers t chain
 })
 
 -- after a step
-pub Gathers-after : (t : State) (number place at : ℕ) (old new : Chain) (f g : FalseLits) → Gathers t number old f place → StepsOver t old new f g at → Gathers t number new g at
-Gathers-after t number place at old new f g gathers steps = record {
+pub Gathers-after : (t : State) (number position at : ℕ) (old new : Chain) (f g : FalseLits) → Gathers t number old f position → StepsOver t old new f g at → Gathers t number new g at
+Gathers-after t number position at old new f g gathers steps = record {
   clause = steps.gathers.clause;
   exactly = steps.gathers.exactly;
   ascending = steps.gathers.ascending;
@@ -209,7 +204,7 @@ Gathers-after t number place at old new f g gathers steps = record {
 }
 
 -- a literal of the current level is left after a step
-pub HasCurrent-after : (t : State) (number place : ℕ) (old new : Chain) (f g : FalseLits) → 1 < f.current → Gathers t number old f place → StepsOver t old new f g (place - 1) → HasCurrent t g.set.lits
-HasCurrent-after t number place old new f g many gathers steps =
-    HasCurrent-step t old new f g (place - 1) (two-gathered t number place old f many gathers) steps
-    (let some : 0 < place = gathered-some t number place old f many gathers in omega (arith, some, gathers.resolving.within))
+pub HasCurrent-after : (t : State) (number position : ℕ) (old new : Chain) (f g : FalseLits) → 1 < f.current → Gathers t number old f position → StepsOver t old new f g (position - 1) → HasCurrent t g.set.lits
+HasCurrent-after t number position old new f g many gathers steps =
+    HasCurrent-step t old new f g (position - 1) (two-gathered t number position old f many gathers) steps
+    (let some : 0 < position = gathered-some t number position old f many gathers in omega (arith, some, gathers.resolving.within))

@@ -1,9 +1,2 @@
 pub mod Outcome
-pub mod Choice
-pub mod Search
-pub mod Progress
-pub mod LiteralSet
-pub mod Analysis
-pub mod Gathering
-pub use Rattle.refutation_log.specs.Resolution
-pub use Rattle.clause_core.specs.Clause
+pub mod inner

@@ -14,7 +14,7 @@ pub record IsModel (f : Formula) (assignment : List Bool) : Type 0 where
   pub whole : length assignment ≡ f.vars
   pub satisfies : SatisfiesAll (valuation assignment) f.clauses
 
--- the log is accepted, new and within the budget; it has no step where the formula has an empty clause
+-- the log is accepted, new and within the budget, and without steps if a clause is empty
 pub record Refutes (f : Formula) (budget : ℕ) (log : Log) : Type 0 where
   pub accepted : Accepts f log
   pub new : IsNew f log

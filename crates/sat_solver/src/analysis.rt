@@ -1,11 +1,14 @@
 ghost use Rattle.std.specs.Prelude.{◌≡◌, ◌+◌, ◌<◌, ◌≤◌, ◌⊎◌, Some, IfSome, [], length, IfOk, OnOk};
 ghost use Rattle.clause_core.specs.Clause.{VariablesExist};
-ghost use Rattle.sat_trail.specs.Trail.{IsTrail, IsFalsified};
-ghost use Rattle.sat_solver.specs.Analysis.{IsLearned, IsLowerLevel, Refuted, HasReason};
-ghost use Rattle.sat_solver.specs.Gathering.{IsDerivationOf, Gathers, StepsOver};
+ghost use Rattle.clause_core.specs.Propagation.{IsFalsified};
+ghost use Rattle.sat_trail.specs.Entry.{values_of};
+ghost use Rattle.sat_trail.specs.State.{numbering_of};
+ghost use Rattle.sat_trail.specs.Trail.{IsTrail};
+ghost use Rattle.sat_solver.specs.inner.Analysis.{IsLearned, IsLowerLevel, Refuted, HasReason};
+ghost use Rattle.sat_solver.specs.inner.Gathering.{IsDerivationOf, Gathers, StepsOver};
 
 use super::false_lits::FalseLits;
-use clause_core::{Clause, Lit};
+use clause_core::{Clause, Lit, equal_members, lists_have_clauses};
 use list_base::{NoMemory, Seq};
 use refutation_log::{Chain, Link};
 use sat_trail::Trail;
@@ -14,7 +17,9 @@ use std::alloc::Global;
 /// A clause and the chain of resolutions that derives it.
 #[derive(Drop)]
 pub struct Derivation {
+    /// The resolutions.
     pub chain: Chain,
+    /// What they derive.
     pub clause: Clause,
 }
 
@@ -27,18 +32,21 @@ pub fn learn(
     lits: &mut FalseLits,
 ) -> Result<Derivation, NoMemory>
     requires sound { IsTrail trail.now }
-    requires falsified { IsFalsified trail.now number }
+    requires falsified { let values = values_of trail.now.entries in
+        IsFalsified (numbering_of trail.now) values number }
     requires above { 0 < trail.now.level }
     requires vars { lits.old.set.vars ≡ trail.now.vars }
     ensures learned { IfOk result (λ d. IsLearned trail.now d.chain d.clause) }
     ensures vars { lits.new.set.vars ≡ trail.now.vars }
 {
     let mut chain = start(alloc, trail, number, lits);
-    let mut place = trail.len();
+    let mut position = trail.len();
     'resolving: while lits.current > 1 {
-        place -= 1;
-        step(trail, lits, &mut chain, place)?;
+        position -= 1;
+        step(trail, lits, &mut chain, position)?;
     }
+    // law: clauses with the same literals are equal
+    equal_members();
     derived(alloc, chain, lits.set.as_slice())
 }
 
@@ -50,17 +58,20 @@ pub fn refute(
     lits: &mut FalseLits,
 ) -> Result<Derivation, NoMemory>
     requires sound { IsTrail trail.now }
-    requires falsified { IsFalsified trail.now number }
+    requires falsified { let values = values_of trail.now.entries in
+        IsFalsified (numbering_of trail.now) values number }
     requires at_0 { trail.now.level ≡ 0 }
     requires vars { lits.old.set.vars ≡ trail.now.vars }
     ensures { IfOk result (λ d. Refuted trail.now number d.chain d.clause) }
 {
     let mut chain = start(alloc, trail, number, lits);
-    let mut place = trail.len();
-    while place > 0 {
-        place -= 1;
-        step(trail, lits, &mut chain, place)?;
+    let mut position = trail.len();
+    while position > 0 {
+        position -= 1;
+        step(trail, lits, &mut chain, position)?;
     }
+    // law: clauses with the same literals are equal
+    equal_members();
     derived(alloc, chain, lits.set.as_slice())
 }
 
@@ -75,7 +86,8 @@ fn derived(alloc: Global, chain: Chain, lits: &[Lit]) -> Result<Derivation, NoMe
 /// The literals of the false clause, before the first resolution.
 fn start(alloc: Global, trail: &Trail, number: u32, lits: &mut FalseLits) -> Chain
     requires sound { IsTrail trail.now }
-    requires falsified { IsFalsified trail.now number }
+    requires falsified { let values = values_of trail.now.entries in
+        IsFalsified (numbering_of trail.now) values number }
     requires vars { lits.old.set.vars ≡ trail.now.vars }
     ensures gathers { Gathers trail.now number result lits.new (length trail.now.entries) }
     ensures none { result.links ≡ [] }
@@ -88,20 +100,28 @@ fn start(alloc: Global, trail: &Trail, number: u32, lits: &mut FalseLits) -> Cha
     }
 }
 
-/// Resolves on the literal at the place, if its negation is among the literals.
-fn step(trail: &Trail, lits: &mut FalseLits, chain: &mut Chain, place: u32) -> Result<(), NoMemory>
+/// Resolves on the literal at the position, if its negation is among the literals.
+fn step(
+    trail: &Trail,
+    lits: &mut FalseLits,
+    chain: &mut Chain,
+    position: u32,
+) -> Result<(), NoMemory>
     requires sound { IsTrail trail.now }
-    requires gathers { Gathers trail.now chain.old.first chain.old lits.old (place + 1) }
-    requires reason { HasReason trail.now lits.old.set.lits place }
-    ensures steps { OnOk result (StepsOver trail.now chain.old chain.new lits.old lits.new place) }
+    requires gathers { Gathers trail.now chain.old.first chain.old lits.old (position + 1) }
+    requires reason { HasReason trail.now lits.old.set.lits position }
+    ensures steps {
+        OnOk result (StepsOver trail.now chain.old chain.new lits.old lits.new position) }
     ensures vars { lits.new.set.vars ≡ trail.now.vars }
 {
-    let lit = trail.at(place);
+    let lit = trail.at(position);
     let pivot = lit.negation();
     if !lits.set.has(pivot) {
         return Ok(());
     }
     if let Some(reason) = trail.reason(lit.var) {
+        // law: each list of literals has a clause
+        lists_have_clauses();
         lits.resolve(trail, pivot, trail.clause(reason).lits());
         chain.links.push(Link {
             pivot,
@@ -125,7 +145,7 @@ pub fn lower_level(trail: &Trail, clause: &[Lit]) -> u32
     lower
 }
 
-/// The level, where it is higher than what was found so far and below the current one.
+/// The level, if it is higher than what was found so far and below the current one.
 fn raised(lower: u32, level: Option<u32>, current: u32) -> u32
     requires { lower < current }
     ensures kept { lower ≤ result }

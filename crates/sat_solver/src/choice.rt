@@ -1,31 +1,38 @@
-ghost use Rattle.std.specs.Prelude.{◌≡◌, ◌<◌, ◌≤◌, ℕ, None, length, IfSome, IfNone, IsSome};
+ghost use Rattle.std.specs.Prelude.{◌≡◌, ◌<◌, ◌≤◌, ℕ, None, IfSome, IfNone, IsSome};
 ghost use Rattle.clause_core.specs.Clause.{VariablesExist};
 ghost use Rattle.sat_trail.specs.Entry.{values_of};
 ghost use Rattle.sat_trail.specs.Trail.{IsTrail};
-ghost use Rattle.sat_solver.specs.Choice.{IsFree, AllSet};
+ghost use Rattle.sat_solver.specs.inner.Choice.{IsFree, AllSet};
 
 use clause_core::Lit;
 use sat_trail::Trail;
 
 /// The literal to decide: the last one that has no value in the newest clause that is not
 /// satisfied, as in BerkMin. The clauses after `mark` are satisfied until the next way back.
-pub fn choose(trail: &Trail, vars: u32, clauses: u32, mark: &mut u32) -> Option<Lit>
+pub fn choose(trail: &Trail, vars: u32, mark: &mut u32) -> Option<Lit>
     requires vars { vars ≡ trail.now.vars }
-    requires clauses { clauses ≡ length trail.now.clauses }
     requires sound { IsTrail trail.now }
     ensures free { IfSome result (IsFree trail.now) }
     ensures all_set { IfNone result (AllSet trail.now) }
 {
-    if *mark > clauses {
-        *mark = clauses;
-    }
     while *mark > 0 {
-        if let Some(lit) = wanted(trail, trail.clause(*mark).lits()) {
+        if let Some(lit) = wanted_in(trail, *mark) {
             return Some(lit);
         }
         *mark -= 1;
     }
     lowest_free(trail, vars)
+}
+
+/// The literal that is wanted in the clause of the number, if a clause has it.
+fn wanted_in(trail: &Trail, number: u32) -> Option<Lit>
+    requires { IsTrail trail.now }
+    ensures { IfSome result (IsFree trail.now) }
+{
+    if !trail.has_clause(number) {
+        return None;
+    }
+    wanted(trail, trail.clause(number).lits())
 }
 
 /// The last literal that has no value, unless a literal is true.
@@ -53,10 +60,10 @@ fn lowest_free(trail: &Trail, vars: u32) -> Option<Lit>
     ensures free { IfSome result (IsFree trail.now) }
     ensures all_set { IfNone result (AllSet trail.now) }
 {
-    for place in 0..vars {
-        if trail.value(place + 1).is_none() {
+    for index in 0..vars {
+        if trail.value(index + 1).is_none() {
             return Some(Lit {
-                var: place + 1,
+                var: index + 1,
                 positive: false,
             });
         }

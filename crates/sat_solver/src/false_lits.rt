@@ -1,11 +1,11 @@
 ghost use Rattle.std.specs.Prelude.{◌≡◌, ◌<◌, ◌≤◌, [], IfOk, Contains};
 ghost use Rattle.clause_core.specs.Literal.{negated};
-ghost use Rattle.clause_core.specs.Propagation.{MakesFalse, Falsifies};
+ghost use Rattle.clause_core.specs.Propagation.{MakesFalse, Falsifies, OthersFalse};
 ghost use Rattle.sat_trail.specs.Entry.{values_of};
-ghost use Rattle.sat_trail.specs.Examination.{OthersFalse};
 ghost use Rattle.sat_trail.specs.Trail.{IsTrail};
-ghost use Rattle.sat_solver.specs.Gathering.{is_current, AreFalse, Inserts, InsertsAll, ResolvesSet};
-ghost use Rattle.sat_solver.specs.LiteralSet.{TakesOut};
+ghost use Rattle.sat_solver.specs.inner.Gathering.{is_current, AreFalse};
+ghost use Rattle.sat_solver.specs.inner.Gathering.{Inserts, InsertsAll, ResolvesSet};
+ghost use Rattle.sat_solver.specs.inner.LiteralSet.{TakesOut};
 
 use super::lit_set::LitSet;
 use clause_core::Lit;
@@ -16,11 +16,14 @@ use std::alloc::Global;
 /// Literals that a trail makes false, with a count of those of the current level.
 #[derive(Drop)]
 pub struct FalseLits {
+    /// The literals.
     pub set: LitSet,
+    /// How many of them were set at the current level.
     pub current: u32,
 }
 
 impl FalseLits {
+    /// No literal yet.
     pub fn new(alloc: Global, vars: u32) -> Result<FalseLits, NoMemory>
         ensures { IfOk result (λ f. f.set ≡ record { vars = vars; lits = [] }) }
     {
@@ -30,6 +33,7 @@ impl FalseLits {
         })
     }
 
+    /// Takes all literals out.
     pub fn clear(&mut self)
         ensures set { self.new.set ≡ record self.old.set { lits = [] } }
         ensures current { self.new.current ≡ 0 }
@@ -38,6 +42,7 @@ impl FalseLits {
         self.current = 0;
     }
 
+    /// Puts a false literal in.
     pub fn insert(&mut self, trail: &Trail, lit: Lit)
         requires sound { IsTrail trail.now }
         requires are_false { AreFalse trail.now self.old }
@@ -63,7 +68,7 @@ impl FalseLits {
         }
     }
 
-    /// Puts the other literals of the clause that forced the negation in place of the literal.
+    /// Puts the other literals of the clause that forced the negation in position of the literal.
     pub fn resolve(&mut self, trail: &Trail, pivot: Lit, reason: &[Lit])
         requires sound { IsTrail trail.now }
         requires are_false { AreFalse trail.now self.old }
@@ -82,6 +87,7 @@ impl FalseLits {
         }
     }
 
+    /// Takes the literal out.
     fn remove(&mut self, trail: &Trail, lit: Lit)
         requires sound { IsTrail trail.now }
         requires are_false { AreFalse trail.now self.old }

@@ -3,17 +3,15 @@
 
 mod analysis;
 mod choice;
-mod effort;
+mod conflict;
 mod false_lits;
-mod learning;
 mod lit_set;
 mod model;
 mod outcome;
 mod search;
-mod solving;
-#[cfg(test)]
-mod tests;
+mod search_stats;
+mod solver;
 
-pub use effort::Effort;
 pub use outcome::Outcome;
-pub use solving::{solve, solve_counted};
+pub use search_stats::SearchStats;
+pub use solver::{solve, solve_counted};

@@ -4,58 +4,53 @@ use Rattle.std.proofs.lemmas.List.Elements.{All-append, All-contains, All-head, 
 use Rattle.std.proofs.lemmas.List.{get_or_append_left}
 use Rattle.clause_core.specs.declared.literal.Lit.{Lit}
 use Rattle.clause_core.specs.Clause.{VariablesExist}
-use Rattle.clause_core.specs.Propagation.{MakesFalse, Falsifies, LeavesOnly, IsPropagated}
+use Rattle.clause_core.specs.Propagation.{MakesFalse, Falsifies, OthersFalse, LeavesOnly, IsPropagated}
 use Rattle.sat_trail.specs.declared.entry.Entry.{Entry}
-use Rattle.sat_trail.specs.Entry.{entry_of, values_of, last_level}
-use Rattle.sat_trail.specs.Growth.{HasNumber, IsDecision, IsForced, MayFollow, Follows}
-use Rattle.sat_trail.specs.State.{State}
-use Rattle.sat_trail.specs.Examination.{IsSettled}
-use Rattle.sat_trail.specs.Storage.{Assigned, Indexed, StartsWith}
-use Rattle.sat_trail.specs.Trail.{IsTrail, IsOpen, HasTwoOpen, up_to}
-use Rattle.sat_trail.specs.Propagation.{IsSeen, IsKept}
+use Rattle.sat_trail.specs.Entry.{entry_of, values_of, last_level, up_to, decided}
+use Rattle.clause_core.specs.Numbering.{Numbering, numbered, HasNumber}
+use Rattle.sat_trail.specs.Growth.{IsDecision, IsForced, MayBeSet}
+use Rattle.sat_trail.specs.inner.Growth.{Grows, IsGrown}
+use Rattle.sat_trail.specs.State.{State, numbering_of}
+use Rattle.sat_trail.specs.inner.Examination.{IsSettled}
+use Rattle.sat_trail.specs.inner.Storage.{Assigned, StoredClauses, StartsWith}
+use Rattle.std.proofs.lemmas.List.{take_all}
+use Rattle.clause_core.specs.declared.formula.Formula.{Formula}
+use Rattle.sat_trail.specs.Trail.{EntriesExist, ClausesExist, IsStart, IsOpen, HasTwoOpen, Adds}
+use Rattle.sat_trail.specs.inner.Propagation.{CanPropagate, IsExamined, IsKept}
 use Rattle.sat_trail.proofs.StorageLemmas.{last_level-push}
+use Rattle.sat_trail.proofs.NumberLemmas.{Widens, Widens-push, number_all, number_at, others_keep, added_last}
 use Rattle.sat_trail.proofs.EntryLemmas.{entry_of-kept, entry_of-member}
 use Rattle.sat_trail.proofs.SettledLemmas.{IsSettled-two, IsSettled-no_false, IsSettled-no_unit}
-use Rattle.sat_trail.proofs.SeenLemmas.{IsSeen-more, IsSeen-quiet, IsSeen-add}
-use Rattle.sat_trail.proofs.GrowthLemmas.{Follows-append}
-use Rattle.sat_trail.proofs.LevelLemmas.{levels-rise, levels-few, IsTop, IsTop-push, IsTop-grown, IsTop-none, moved, up_to-low, up_to-both, Follows-split, decision-above}
-use Rattle.sat_trail.proofs.TrailLemmas.{state_of}
-
--- the entry of a decision
-abbrev pub decided_entry : Lit → ℕ → Entry
-decided_entry l level = record { lit = l; level = level; reason = None }
+use Rattle.sat_trail.proofs.ExaminedLemmas.{IsExamined-more, IsExamined-propagated, IsExamined-add}
+use Rattle.sat_trail.proofs.GrowthLemmas.{Grows-append}
+use Rattle.sat_trail.proofs.LevelLemmas.{levels-rise, levels-few, IsTop, IsTop-push, IsTop-grown, IsTop-none, moved, up_to-low, up_to-both, Grows-split, decision-above}
+use Rattle.sat_trail.specs.inner.Propagation.{state_of}
 
 -- a decision keeps a trail that is ready
-pub IsTrail-decide : (index : Indexed) (set : Assigned) (level : ℕ) (l : Lit) (ready : Bool) → IsTrue ready → IsTrail (state_of index set level ready) → 0 < l.var → l.var ≤ index.vars → values_of set.entries l.var ≡ None → IsTrail (state_of index (record set { entries = set.entries ++ decided_entry l (level + 1) ∷ [] }) (level + 1) false)
-IsTrail-decide index set level l ready is_ready trail from_one exists none = record {
-  grown = Follows-append index.clauses [] set.entries (decided_entry l (level + 1) ∷ []) trail.grown
-      (record { no_value = none; cause = inl (record { no_reason = refl; raises = ap (λ n. n + 1) (sym trail.level); quiet = trail.ready_quiet is_ready }) }, tt);
-  level = last_level-push set.entries (decided_entry l (level + 1));
-  exist = All-push (λ e. (0 < e.lit.var) × (e.lit.var ≤ index.vars)) set.entries (decided_entry l (level + 1)) trail.exist (from_one, exists);
+pub IsGrown-decide : (lists : StoredClauses) (set : Assigned) (level : ℕ) (l : Lit) (ready : Bool) → IsTrue ready → IsGrown (state_of lists set level ready) → 0 < l.var → l.var ≤ lists.vars → values_of set.entries l.var ≡ None → IsGrown (state_of lists (record set { entries = set.entries ++ decided l (level + 1) ∷ [] }) (level + 1) false)
+IsGrown-decide lists set level l ready is_ready trail from_one exists none = record {
+  grown = Grows-append (numbered lists.clauses) [] set.entries (decided l (level + 1) ∷ []) trail.grown
+      (record { no_value = none; cause = inl (record { no_reason = refl; raises = ap (λ n. n + 1) (sym trail.level); propagated = trail.ready_propagated is_ready }) }, tt);
+  level = last_level-push set.entries (decided l (level + 1));
+  exist = All-push (λ e. (0 < e.lit.var) × (e.lit.var ≤ lists.vars)) set.entries (decided l (level + 1)) trail.exist (from_one, exists);
   clauses_exist = trail.clauses_exist;
-  ready_quiet = λ impossible. cc;
+  ready_propagated = λ impossible. cc;
 }
 
 -- the parts of a trail after a decision
-pub IsKept-decide : (index : Indexed) (set new : Assigned) (level head head' looked : ℕ) (l : Lit) (ready : Bool) → IsTrue ready → IsKept index set level head looked ready → 0 < l.var → l.var ≤ index.vars → values_of set.entries l.var ≡ None → new ≡ record set { entries = set.entries ++ decided_entry l (level + 1) ∷ [] } → head' ≡ length set.entries → IsKept index new (level + 1) head' looked false
-IsKept-decide index set new level head head' looked l ready is_ready kept from_one exists none grows at_end = rw grows (record {
+pub IsKept-decide : (lists : StoredClauses) (set new : Assigned) (level head head' examined : ℕ) (l : Lit) (ready : Bool) → IsTrue ready → IsKept lists set level head examined ready → 0 < l.var → l.var ≤ lists.vars → values_of set.entries l.var ≡ None → new ≡ record set { entries = set.entries ++ decided l (level + 1) ∷ [] } → head' ≡ length set.entries → IsKept lists new (level + 1) head' examined false
+IsKept-decide lists set new level head head' examined l ready is_ready kept from_one exists none grows at_end = rw grows (record {
   same = kept.same;
   few = kept.few;
-  trail = IsTrail-decide index set level l ready is_ready kept.trail from_one exists none;
-  seen = subst (λ h. IsSeen index.clauses (set.entries ++ decided_entry l (level + 1) ∷ []) h looked) ((kept.all_seen is_ready).0 ∙ sym at_end)
-      (IsSeen-more index.clauses set.entries (decided_entry l (level + 1) ∷ []) head looked kept.seen);
-  all_seen = λ impossible. cc;
+  trail = IsGrown-decide lists set level l ready is_ready kept.trail from_one exists none;
+  progress = subst (λ h. IsExamined lists.clauses (set.entries ++ decided l (level + 1) ∷ []) h examined) ((kept.complete is_ready).0 ∙ sym at_end)
+      (IsExamined-more lists.clauses set.entries (decided l (level + 1) ∷ []) head examined kept.progress);
+  complete = λ impossible. cc;
 })
 
 -- the next level is still a number of 32 bits
-pub level-fits : (index : Indexed) (set : Assigned) (level : ℕ) (ready : Bool) → IsTrail (state_of index set level ready) → level ≤ length set.entries
-level-fits index set level ready trail = subst (λ n. n ≤ length set.entries) trail.level (levels-few index.clauses [] set.entries trail.grown (omega arith))
-
--- what a list has at a place, a longer list has there
-slice_get-append : (xs ys : List (List Lit)) (k : ℕ) (x : List Lit) → slice_get xs k ≡ Some x → slice_get (xs ++ ys) k ≡ Some x
-slice_get-append [] ys k x given = cc
-slice_get-append (y ∷ xs) ys zero x given = given
-slice_get-append (y ∷ xs) ys (suc k) x given = slice_get-append xs ys k x given
+pub level-fits : (lists : StoredClauses) (set : Assigned) (level : ℕ) (ready : Bool) → IsGrown (state_of lists set level ready) → level ≤ length set.entries
+level-fits lists set level ready trail = subst (λ n. n ≤ length set.entries) trail.level (levels-few (numbered lists.clauses) [] set.entries trail.grown (omega arith))
 
 -- a literal that is open at the last level had no value before the decision of that level
 open-before : (before rest : List Entry) (e : Entry) (level : ℕ) (l : Lit) (o : Option Entry) → entry_of before l.var ≡ o → IsTop before → last_level before < level → IfSome (entry_of (before ++ e ∷ rest) l.var) (λ d. d.level ≡ level) → values_of before l.var ≡ None
@@ -65,11 +60,17 @@ open-before before rest e level l (Some d) is top low is_open =
     let below : d.level ≤ last_level before = All-contains (λ f. f.level ≤ last_level before) before d top (entry_of-member before l.var d is) in
     absurd (omega arith)
 
--- one clause more leaves propagation nothing to do where the clause is settled
-IsPropagated-push : (values : ℕ → Option Bool) (clauses : List (List Lit)) (clause : List Lit) → IsPropagated values clauses → ¬ Falsifies values clause → ((l : Lit) → ¬ LeavesOnly values clause l) → IsPropagated values (clauses ++ clause ∷ [])
-IsPropagated-push values clauses clause quiet no_false no_unit = record {
-  no_false = All-push (λ c. ¬ Falsifies values c) clauses clause quiet.no_false no_false;
-  no_unit = All-push (λ c. (l : Lit) → ¬ LeavesOnly values c l) clauses clause quiet.no_unit no_unit;
+-- one clause more leaves propagation nothing to do if the clause is settled
+IsPropagated-widens : (values : ℕ → Option Bool) (old : Numbering) (clause : List Lit) (new : Numbering) → Widens old clause new → IsPropagated values old → IsSettled values values clause → IsPropagated values new
+IsPropagated-widens values old clause new widens propagated settled = record {
+  no_false = λ n c has. elim (widens.only n c has) [
+    | inl before ↦ propagated.no_false n c before
+    | inr same ↦ subst (λ d. ¬ Falsifies values d) same (IsSettled-no_false values clause settled)
+  ];
+  no_unit = λ n c l has. elim (widens.only n c has) [
+    | inl before ↦ propagated.no_unit n c l before
+    | inr same ↦ subst (λ d. ¬ LeavesOnly values d l) same (IsSettled-no_unit values clause l settled)
+  ];
 }
 
 -- the clause is open at the level, over the entries
@@ -83,49 +84,46 @@ record IsOpenClause (entries : List Entry) (level : ℕ) (clause : List Lit) : T
   other_open : IfSome (entry_of entries other.var) (λ e. e.level ≡ level)
 
 -- before a decision of the last level, or of an earlier one, propagation has nothing to do with the clause
-decision-add : (clauses : List (List Lit)) (clause : List Lit) (before rest : List Entry) (e : Entry) (level : ℕ) → IsTop before → last_level before < level → IsDecision clauses before e → IsOpenClause (before ++ e ∷ rest) level clause → IsDecision (clauses ++ clause ∷ []) before e
-decision-add clauses clause before rest e level top low decision is_open = record {
+decision-add : (old : Numbering) (clause : List Lit) (new : Numbering) (before rest : List Entry) (e : Entry) (level : ℕ) → Widens old clause new → IsTop before → last_level before < level → IsDecision old before e → IsOpenClause (before ++ e ∷ rest) level clause → IsDecision new before e
+decision-add old clause new before rest e level widens top low decision is_open = record {
   no_reason = decision.no_reason;
   raises = decision.raises;
-  quiet = IsPropagated-push (values_of before) clauses clause decision.quiet
-      (IsSettled-no_false (values_of before) clause settled) (λ l. IsSettled-no_unit (values_of before) clause l settled);
+  propagated = IsPropagated-widens (values_of before) old clause new widens decision.propagated
+      (IsSettled-two (values_of before) clause is_open.one is_open.other is_open.differ is_open.one_among is_open.other_among
+      (open-before before rest e level is_open.one (entry_of before is_open.one.var) refl top low is_open.one_open)
+      (open-before before rest e level is_open.other (entry_of before is_open.other.var) refl top low is_open.other_open));
 }
-  where
-    settled : IsSettled (values_of before) (values_of before) clause
-    settled = IsSettled-two (values_of before) clause is_open.one is_open.other is_open.differ is_open.one_among is_open.other_among
-        (open-before before rest e level is_open.one (entry_of before is_open.one.var) refl top low is_open.one_open)
-        (open-before before rest e level is_open.other (entry_of before is_open.other.var) refl top low is_open.other_open)
 
 -- entries follow one another over one clause more that is open
-Follows-add : (clauses : List (List Lit)) (clause : List Lit) (before rest : List Entry) (level : ℕ) → Follows clauses before rest → IsTop before → last_level (before ++ rest) ≡ level → (level ≡ 0) ⊎ IsOpenClause (before ++ rest) level clause → Follows (clauses ++ clause ∷ []) before rest
-Follows-add clauses clause before [] level follows top at_level is_open = tt
-Follows-add clauses clause before (e ∷ rest) level follows top at_level is_open = (
+Grows-add : (old : Numbering) (clause : List Lit) (new : Numbering) (before rest : List Entry) (level : ℕ) → Widens old clause new → Grows old before rest → IsTop before → last_level (before ++ rest) ≡ level → (level ≡ 0) ⊎ IsOpenClause (before ++ rest) level clause → Grows new before rest
+Grows-add old clause new before [] level widens follows top at_level is_open = tt
+Grows-add old clause new before (e ∷ rest) level widens follows top at_level is_open = (
   record { no_value = follows.0.no_value; cause = cause-add follows.0.cause },
-  Follows-add clauses clause (before ++ e ∷ []) rest level follows.1 (IsTop-push clauses before e follows.0 top)
+  Grows-add old clause new (before ++ e ∷ []) rest level widens follows.1 (IsTop-push old before e follows.0 top)
       (ap last_level (moved before e rest) ∙ at_level)
       (subst (λ es. (level ≡ 0) ⊎ IsOpenClause es level clause) (sym (moved before e rest)) is_open),
 )
   where
     reaches : e.level ≤ level
-    reaches = omega (arith, levels-rise clauses (before ++ e ∷ []) rest follows.1, last_level-push before e, ap last_level (moved before e rest), at_level)
+    reaches = omega (arith, levels-rise old (before ++ e ∷ []) rest follows.1, last_level-push before e, ap last_level (moved before e rest), at_level)
 
-    decision-kept : IsDecision clauses before e → IsDecision (clauses ++ clause ∷ []) before e
+    decision-kept : IsDecision old before e → IsDecision new before e
     decision-kept decision = elim is_open [
       | inl low ↦ absurd (omega (arith, reaches, decision.raises, low))
-      | inr held ↦ decision-add clauses clause before rest e level top (omega (arith, reaches, decision.raises)) decision held
+      | inr held ↦ decision-add old clause new before rest e level widens top (omega (arith, reaches, decision.raises)) decision held
     ]
 
-    forced-kept : IsForced clauses before e → IsForced (clauses ++ clause ∷ []) before e
+    forced-kept : IsForced old before e → IsForced new before e
     forced-kept forced = record {
       number = forced.number;
       clause = forced.clause;
       reason = forced.reason;
-      numbered = record { from_one = forced.numbered.from_one; at_place = slice_get-append clauses (clause ∷ []) (forced.number - 1) forced.clause forced.numbered.at_place };
+      has_number = widens.kept forced.number forced.clause forced.has_number;
       leaves = forced.leaves;
       stays = forced.stays;
     }
 
-    cause-add : IsDecision clauses before e ⊎ IsForced clauses before e → IsDecision (clauses ++ clause ∷ []) before e ⊎ IsForced (clauses ++ clause ∷ []) before e
+    cause-add : IsDecision old before e ⊎ IsForced old before e → IsDecision new before e ⊎ IsForced new before e
     cause-add cause = elim cause [
       | inl decision ↦ inl (decision-kept decision)
       | inr forced ↦ inr (forced-kept forced)
@@ -139,94 +137,161 @@ open-clause t clause is_open = elim is_open [
 ]
 
 -- the parts of a trail with one clause more
-pub IsKept-add : (index new : Indexed) (set : Assigned) (level head looked : ℕ) (ready : Bool) (clause : List Lit) → IsKept index set level head looked ready → VariablesExist index.vars clause → length index.clauses + 1 < 4294967296 → (level ≡ 0) ⊎ HasTwoOpen (state_of index set level ready) clause → new ≡ record index { clauses = index.clauses ++ clause ∷ [] } → IsKept new set level head looked false
-IsKept-add index new set level head looked ready clause kept exist few is_open grows = rw grows (record {
+pub IsKept-add : (lists new : StoredClauses) (set : Assigned) (level head examined : ℕ) (ready : Bool) (clause : List Lit) → IsKept lists set level head examined ready → VariablesExist lists.vars clause → length lists.clauses + 1 < 4294967296 → (level ≡ 0) ⊎ HasTwoOpen (state_of lists set level ready) clause → new ≡ record lists { clauses = lists.clauses ++ clause ∷ [] } → IsKept new set level head examined false
+IsKept-add lists new set level head examined ready clause kept exist few is_open grows = rw grows (record {
   same = kept.same;
-  few = omega (arith, few, length-append index.clauses (clause ∷ []));
+  few = omega (arith, few, length-append lists.clauses (clause ∷ []));
   trail = record {
-    grown = Follows-add index.clauses clause [] set.entries level kept.trail.grown IsTop-none kept.trail.level (open-clause (state_of index set level ready) clause is_open);
+    grown = Grows-add (numbered lists.clauses) clause (numbered (lists.clauses ++ clause ∷ [])) [] set.entries level (Widens-push lists.clauses clause) kept.trail.grown IsTop-none kept.trail.level (open-clause (state_of lists set level ready) clause is_open);
     level = kept.trail.level;
     exist = kept.trail.exist;
-    clauses_exist = All-push (VariablesExist index.vars) index.clauses clause kept.trail.clauses_exist exist;
-    ready_quiet = λ impossible. cc;
+    clauses_exist = λ n c has. elim ((Widens-push lists.clauses clause).only n c has) [
+      | inl before ↦ kept.trail.clauses_exist n c before
+      | inr same ↦ subst (VariablesExist lists.vars) same exist
+    ];
+    ready_propagated = λ impossible. cc;
   };
-  seen = IsSeen-add index.clauses clause set.entries head looked kept.seen;
-  all_seen = λ impossible. cc;
+  progress = IsExamined-add lists.clauses clause set.entries head examined kept.progress;
+  complete = λ impossible. cc;
 })
 
--- below the first entry that is taken out stands a whole level, where propagation had nothing to do
-back_to-parts : (index : Indexed) (old kept : List Entry) (first : Entry) (rest : List Entry) (level : ℕ) → Follows index.clauses [] old → old ≡ kept ++ first ∷ rest → last_level kept ≤ level → level < first.level → (Follows index.clauses [] kept) × (last_level kept ≡ level) × IsPropagated (values_of kept) index.clauses
-back_to-parts index old kept first rest level follows whole low high =
-    let parts = Follows-split index.clauses [] kept (first ∷ rest) (subst (Follows index.clauses []) whole follows) in
-    let last = decision-above index.clauses kept first level parts.1.0 low high in
+-- below the first entry that is taken out a level is complete, and propagation had nothing to do
+back_to-parts : (lists : StoredClauses) (old kept : List Entry) (first : Entry) (rest : List Entry) (level : ℕ) → Grows (numbered lists.clauses) [] old → old ≡ kept ++ first ∷ rest → last_level kept ≤ level → level < first.level → (Grows (numbered lists.clauses) [] kept) × (last_level kept ≡ level) × IsPropagated (values_of kept) (numbered lists.clauses)
+back_to-parts lists old kept first rest level follows whole low high =
+    let parts = Grows-split (numbered lists.clauses) [] kept (first ∷ rest) (subst (Grows (numbered lists.clauses) []) whole follows) in
+    let last = decision-above (numbered lists.clauses) kept first level parts.1.0 low high in
     (parts.0, last.0, last.1)
 
 -- the parts of a trail after the way back, by what was taken out
-IsKept-dropped : (index : Indexed) (old new : Assigned) (level level' head looked : ℕ) (ready : Bool) (dropped : List Entry) → IsKept index old level head looked ready → level' < level → new.vars ≡ old.vars → old.entries ≡ new.entries ++ dropped → All (λ e. level' < e.level) dropped → last_level new.entries ≤ level' → IsKept index new level' (length new.entries) (length index.clauses) false
-IsKept-dropped index old new level level' head looked ready [] kept lower vars whole above low =
+IsKept-dropped : (lists : StoredClauses) (old new : Assigned) (level level' head examined : ℕ) (ready : Bool) (dropped : List Entry) → IsKept lists old level head examined ready → level' < level → new.vars ≡ old.vars → old.entries ≡ new.entries ++ dropped → All (λ e. level' < e.level) dropped → last_level new.entries ≤ level' → IsKept lists new level' (length new.entries) (length lists.clauses) false
+IsKept-dropped lists old new level level' head examined ready [] kept lower vars whole above low =
     absurd (omega (arith, ap last_level (whole ∙ append-nil new.entries), kept.trail.level))
-IsKept-dropped index old new level level' head looked ready (first ∷ rest) kept lower vars whole above low = record {
+IsKept-dropped lists old new level level' head examined ready (first ∷ rest) kept lower vars whole above low = record {
   same = kept.same ∙ sym vars;
   few = kept.few;
   trail = record {
     grown = parts.0;
     level = parts.1;
-    exist = λ k d within. subst (λ (e : Entry). (0 < e.lit.var) × (e.lit.var ≤ index.vars)) (get_or_append_left new.entries (first ∷ rest) d k within)
-        (subst (λ es. All (λ e. (0 < e.lit.var) × (e.lit.var ≤ index.vars)) es) whole kept.trail.exist k d (omega (arith, within, length-append new.entries (first ∷ rest))));
+    exist = λ k d within. subst (λ (e : Entry). (0 < e.lit.var) × (e.lit.var ≤ lists.vars)) (get_or_append_left new.entries (first ∷ rest) d k within)
+        (subst (λ es. All (λ e. (0 < e.lit.var) × (e.lit.var ≤ lists.vars)) es) whole kept.trail.exist k d (omega (arith, within, length-append new.entries (first ∷ rest))));
     clauses_exist = kept.trail.clauses_exist;
-    ready_quiet = λ impossible. cc;
+    ready_propagated = λ impossible. cc;
   };
-  seen = IsSeen-quiet index.clauses new.entries parts.2;
-  all_seen = λ impossible. cc;
+  progress = IsExamined-propagated lists.clauses new.entries parts.2;
+  complete = λ impossible. cc;
 }
   where
-    parts : (Follows index.clauses [] new.entries) × (last_level new.entries ≡ level') × IsPropagated (values_of new.entries) index.clauses
-    parts = back_to-parts index old.entries new.entries first rest level' kept.trail.grown whole low (All-head (λ e. level' < e.level) first rest above)
+    parts : (Grows (numbered lists.clauses) [] new.entries) × (last_level new.entries ≡ level') × IsPropagated (values_of new.entries) (numbered lists.clauses)
+    parts = back_to-parts lists old.entries new.entries first rest level' kept.trail.grown whole low (All-head (λ e. level' < e.level) first rest above)
 
 -- the parts of a trail after the way back
-pub IsKept-back : (index : Indexed) (old new : Assigned) (level level' head head' looked looked' : ℕ) (ready : Bool) → IsKept index old level head looked ready → level' < level → StartsWith level' old new → last_level new.entries ≤ level' → head' ≡ length new.entries → looked' ≡ length index.clauses → IsKept index new level' head' looked' false
-IsKept-back index old new level level' head head' looked looked' ready kept lower begins low at_end all =
-    rw (at_end, all) (IsKept-dropped index old new level level' head looked ready begins.dropped kept lower begins.vars begins.whole begins.above low)
+pub IsKept-back : (lists : StoredClauses) (old new : Assigned) (level level' head head' examined examined' : ℕ) (ready : Bool) → IsKept lists old level head examined ready → level' < level → StartsWith level' old new → last_level new.entries ≤ level' → head' ≡ length new.entries → examined' ≡ length lists.clauses → IsKept lists new level' head' examined' false
+IsKept-back lists old new level level' head head' examined examined' ready kept lower begins low at_end all =
+    rw (at_end, all) (IsKept-dropped lists old new level level' head examined ready begins.dropped kept lower begins.vars begins.whole begins.above low)
 
 -- the entries after the way back are those up to the level
-back_to-entries : (index : Indexed) (old new : Assigned) (level' head' looked' : ℕ) → IsKept index new level' head' looked' false → StartsWith level' old new → up_to level' old.entries ≡ new.entries
-back_to-entries index old new level' head' looked' kept begins =
+back_to-entries : (lists : StoredClauses) (old new : Assigned) (level' head' examined' : ℕ) → IsKept lists new level' head' examined' false → StartsWith level' old new → up_to level' old.entries ≡ new.entries
+back_to-entries lists old new level' head' examined' kept begins =
     ap (up_to level') begins.whole ∙ up_to-both level' new.entries begins.dropped
-    (subst (λ n. All (λ e. e.level ≤ n) new.entries) kept.trail.level (IsTop-grown index.clauses [] new.entries kept.trail.grown IsTop-none)) begins.above
+    (subst (λ n. All (λ e. e.level ≤ n) new.entries) kept.trail.level (IsTop-grown (numbered lists.clauses) [] new.entries kept.trail.grown IsTop-none)) begins.above
 
--- nothing stands above the last level
-pub back_to-same : (index : Indexed) (set : Assigned) (level : ℕ) (ready : Bool) → IsTrail (state_of index set level ready) → up_to level set.entries ≡ set.entries
-back_to-same index set level ready trail = up_to-low level set.entries
-    (subst (λ n. All (λ e. e.level ≤ n) set.entries) trail.level (IsTop-grown index.clauses [] set.entries trail.grown IsTop-none))
+-- no entry is above the last level
+pub back_to-same : (lists : StoredClauses) (set : Assigned) (level : ℕ) (ready : Bool) → IsGrown (state_of lists set level ready) → up_to level set.entries ≡ set.entries
+back_to-same lists set level ready trail = up_to-low level set.entries
+    (subst (λ n. All (λ e. e.level ≤ n) set.entries) trail.level (IsTop-grown (numbered lists.clauses) [] set.entries trail.grown IsTop-none))
 
 -- a trail that is no longer ready
-pub IsKept-unready : (index : Indexed) (set : Assigned) (level head looked : ℕ) (ready : Bool) → IsKept index set level head looked ready → IsKept index set level head looked false
-IsKept-unready index set level head looked ready kept = record {
+pub IsKept-unready : (lists : StoredClauses) (set : Assigned) (level head examined : ℕ) (ready : Bool) → IsKept lists set level head examined ready → IsKept lists set level head examined false
+IsKept-unready lists set level head examined ready kept = record {
   same = kept.same;
   few = kept.few;
-  trail = record { grown = kept.trail.grown; level = kept.trail.level; exist = kept.trail.exist; clauses_exist = kept.trail.clauses_exist; ready_quiet = λ impossible. cc };
-  seen = kept.seen;
-  all_seen = λ impossible. cc;
+  trail = record { grown = kept.trail.grown; level = kept.trail.level; exist = kept.trail.exist; clauses_exist = kept.trail.clauses_exist; ready_propagated = λ impossible. cc };
+  progress = kept.progress;
+  complete = λ impossible. cc;
 }
 
 -- a trail without entries
-pub IsKept-start : (index : Indexed) (set : Assigned) → index.vars ≡ set.vars → set.entries ≡ [] → All (VariablesExist index.vars) index.clauses → length index.clauses < 4294967296 → IsKept index set 0 0 0 false
-IsKept-start index set same empty exist few = record {
+pub IsKept-start : (lists : StoredClauses) (set : Assigned) → lists.vars ≡ set.vars → set.entries ≡ [] → All (VariablesExist lists.vars) lists.clauses → length lists.clauses < 4294967296 → IsKept lists set 0 0 0 false
+IsKept-start lists set same empty exist few = record {
   same = same;
   few = few;
   trail = record {
-    grown = subst (Follows index.clauses []) (sym empty) tt;
+    grown = subst (Grows (numbered lists.clauses) []) (sym empty) tt;
     level = ap last_level empty;
-    exist = subst (λ es. All (λ e. (0 < e.lit.var) × (e.lit.var ≤ index.vars)) es) (sym empty) (λ k d within. absurd (omega arith));
-    clauses_exist = exist;
-    ready_quiet = λ impossible. cc;
+    exist = subst (λ es. All (λ e. (0 < e.lit.var) × (e.lit.var ≤ lists.vars)) es) (sym empty) (λ k d within. absurd (omega arith));
+    clauses_exist = λ n c has. number_all (VariablesExist lists.vars) lists.clauses n c exist has;
+    ready_propagated = λ impossible. cc;
   };
-  seen = record { head_within = omega arith; looked_within = omega arith; settled = λ k within. absurd (omega arith) };
-  all_seen = λ impossible. cc;
+  progress = record { head_within = omega arith; examined_within = omega arith; settled = λ k within. absurd (omega arith) };
+  complete = λ impossible. cc;
 }
 
 -- what contracts see after the way back
-pub back_to-state : (index : Indexed) (old new : Assigned) (level level' head' looked' : ℕ) (ready : Bool) → IsKept index new level' head' looked' false → StartsWith level' old new → state_of index new level' false ≡ record (state_of index old level ready) { entries = up_to level' old.entries; level = level'; ready = false }
-back_to-state index old new level level' head' looked' ready kept begins =
-    ap (λ es. let s : State = record { vars = index.vars; clauses = index.clauses; entries = es; level = level'; ready = false } in s)
-    (sym (back_to-entries index old new level' head' looked' kept begins))
+pub back_to-state : (lists : StoredClauses) (old new : Assigned) (level level' head' examined' : ℕ) (ready : Bool) → IsKept lists new level' head' examined' false → StartsWith level' old new → state_of lists new level' false ≡ record (state_of lists old level ready) { entries = up_to level' old.entries; level = level'; ready = false }
+back_to-state lists old new level level' head' examined' ready kept begins =
+    ap (λ es. let s : State = record { vars = lists.vars; clauses = lists.clauses; entries = es; level = level'; ready = false } in s)
+    (sym (back_to-entries lists old new level' head' examined' kept begins))
+
+-- the condition that propagation wants of the clauses
+clauses-exist : (lists : StoredClauses) (set : Assigned) (level : ℕ) (ready : Bool) → ClausesExist (state_of lists set level ready) → All (VariablesExist lists.vars) lists.clauses
+clauses-exist lists set level ready exist k d within = exist (k + 1) (get_or lists.clauses k d) (number_at lists.clauses k d within)
+
+-- the parts of a trail can be propagated
+pub CanPropagate-kept : (lists : StoredClauses) (set : Assigned) (level head examined : ℕ) (ready : Bool) → IsKept lists set level head examined ready → CanPropagate lists set level
+CanPropagate-kept lists set level head examined ready kept = record {
+  same = kept.same;
+  exist = clauses-exist lists set level ready kept.trail.clauses_exist;
+  few = kept.few;
+  reached = kept.trail.level;
+}
+
+-- what contracts see of an addition
+pub Adds-push : (old : State) (clause : List Lit) (new : State) (number : ℕ) → new ≡ record old { clauses = old.clauses ++ clause ∷ []; ready = false } → number ≡ length new.clauses → Adds old clause new number
+Adds-push old clause new number grows counted = rw grows (record {
+  next = next;
+  last = sym whole ∙ sym next;
+  has_number = subst (λ n. HasNumber (numbered (old.clauses ++ clause ∷ [])) n clause) (sym next) (added_last old.clauses clause);
+  others = λ n other. others_keep old.clauses clause n (λ same. other (same ∙ sym next));
+  rest = refl;
+})
+  where
+    whole : length old.clauses + 1 ≡ length (old.clauses ++ clause ∷ [])
+    whole = omega (arith, length-append old.clauses (clause ∷ []))
+
+    next : number ≡ length old.clauses + 1
+    next = counted ∙ ap (λ (s : State). length s.clauses) grows ∙ sym whole
+
+-- the parts of a new trail
+pub record IsNew (f : Formula) (lists : StoredClauses) (set : Assigned) : Type 0 where
+  pub vars : lists.vars ≡ f.vars
+  pub clauses : lists.clauses ≡ f.clauses
+  pub start : set ≡ record { vars = f.vars; entries = [] }
+
+-- all clauses were added
+pub IsNew-all : (f : Formula) (inside lists : StoredClauses) (set : Assigned) (items : List (List Lit)) (i : ℕ) → inside ≡ lists → items ≡ f.clauses → (lists.vars ≡ f.vars) × (lists.clauses ≡ take i f.clauses) → length items ≤ i → set ≡ record { vars = f.vars; entries = [] } → IsNew f inside set
+IsNew-all f inside lists set items i same all so_far past start = rw same (record {
+  vars = so_far.0;
+  clauses = so_far.1 ∙ take_all i f.clauses (omega (arith, past, ap length all));
+  start = start;
+})
+
+-- a new trail is one
+pub IsKept-new : (f : Formula) (lists : StoredClauses) (set : Assigned) → IsNew f lists set → length f.clauses < 4294967296 → IsKept lists set 0 0 0 false
+IsKept-new f lists set new few = IsKept-start lists set (new.vars ∙ sym (ap (λ (s : Assigned). s.vars) new.start)) (ap (λ (s : Assigned). s.entries) new.start)
+    (rw (new.vars, new.clauses) f.variables_exist) (omega (arith, ap length new.clauses, few))
+
+-- what contracts see of a new trail
+pub IsStart-new : (f : Formula) (lists : StoredClauses) (set : Assigned) → IsNew f lists set → IsStart f (state_of lists set 0 false)
+IsStart-new f lists set new = record {
+  vars = new.vars;
+  numbers = λ n. ap (λ cs. numbered cs n) new.clauses;
+  last = ap length new.clauses;
+  empty = ap (λ (s : Assigned). s.entries) new.start;
+  level = refl;
+  unready = refl;
+}
+
+-- the next clause of the formula has its variables
+pub exist-next : (f : Formula) (lists : StoredClauses) (clause item : List Lit) (items : List (List Lit)) (i : ℕ) → lists.vars ≡ f.vars → items ≡ f.clauses → clause ≡ item → item ≡ get_or items i item → i < length items → VariablesExist lists.vars clause
+exist-next f lists clause item items i vars all copied read within =
+    rw (vars, copied, read) (subst (λ cs. VariablesExist f.vars (get_or cs i item)) (sym all) (f.variables_exist i item (omega (arith, within, ap length all))))

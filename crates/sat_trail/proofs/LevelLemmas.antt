@@ -6,14 +6,15 @@ use Rattle.std.specs.Prelude.{filter, nat_le}
 use Rattle.clause_core.specs.declared.literal.Lit.{Lit}
 use Rattle.clause_core.specs.Propagation.{IsPropagated}
 use Rattle.sat_trail.specs.declared.entry.Entry.{Entry}
-use Rattle.sat_trail.specs.Entry.{entry_of, values_of, last_level}
-use Rattle.sat_trail.specs.Growth.{IsDecision, IsForced, MayFollow, Follows}
-use Rattle.sat_trail.specs.Trail.{up_to}
+use Rattle.sat_trail.specs.Entry.{entry_of, values_of, last_level, up_to}
+use Rattle.clause_core.specs.Numbering.{Numbering, numbered, HasNumber}
+use Rattle.sat_trail.specs.Growth.{IsDecision, IsForced, MayBeSet}
+use Rattle.sat_trail.specs.inner.Growth.{Grows, IsGrown}
 use Rattle.sat_trail.proofs.StorageLemmas.{last_level-push}
 
 -- an entry is of the level before it or of the next one
-pub level-step : (clauses : List (List Lit)) (before : List Entry) (e : Entry) → MayFollow clauses before e → (last_level before ≤ e.level) × (e.level ≤ last_level before + 1)
-level-step clauses before e follows = elim follows.cause [
+pub level-step : (numbering : Numbering) (before : List Entry) (e : Entry) → MayBeSet numbering before e → (last_level before ≤ e.level) × (e.level ≤ last_level before + 1)
+level-step numbering before e follows = elim follows.cause [
   | inl decision ↦ (omega (arith, decision.raises), omega (arith, decision.raises))
   | inr forced ↦ (omega (arith, forced.stays), omega (arith, forced.stays))
 ]
@@ -23,36 +24,36 @@ pub moved : (before : List Entry) (e : Entry) (rest : List Entry) → (before ++
 moved before e rest = append_assoc before (e ∷ []) rest
 
 -- levels never fall
-pub levels-rise : (clauses : List (List Lit)) (before rest : List Entry) → Follows clauses before rest → last_level before ≤ last_level (before ++ rest)
-levels-rise clauses before [] follows = rw (append-nil before) (omega arith)
-levels-rise clauses before (e ∷ rest) follows =
-    let later : last_level (before ++ e ∷ []) ≤ last_level ((before ++ e ∷ []) ++ rest) = levels-rise clauses (before ++ e ∷ []) rest follows.1 in
-    let step : last_level before ≤ e.level = (level-step clauses before e follows.0).0 in
+pub levels-rise : (numbering : Numbering) (before rest : List Entry) → Grows numbering before rest → last_level before ≤ last_level (before ++ rest)
+levels-rise numbering before [] follows = rw (append-nil before) (omega arith)
+levels-rise numbering before (e ∷ rest) follows =
+    let later : last_level (before ++ e ∷ []) ≤ last_level ((before ++ e ∷ []) ++ rest) = levels-rise numbering (before ++ e ∷ []) rest follows.1 in
+    let step : last_level before ≤ e.level = (level-step numbering before e follows.0).0 in
     omega (arith, later, step, last_level-push before e, ap last_level (moved before e rest))
 
 -- there are no more levels than entries
-pub levels-few : (clauses : List (List Lit)) (before rest : List Entry) → Follows clauses before rest → last_level before ≤ length before → last_level (before ++ rest) ≤ length (before ++ rest)
-levels-few clauses before [] follows few = rw (append-nil before) few
-levels-few clauses before (e ∷ rest) follows few =
-    let next : last_level (before ++ e ∷ []) ≤ length (before ++ e ∷ []) = omega (arith, few, (level-step clauses before e follows.0).1, last_level-push before e, length-append before (e ∷ [])) in
-    subst (λ es. last_level es ≤ length es) (moved before e rest) (levels-few clauses (before ++ e ∷ []) rest follows.1 next)
+pub levels-few : (numbering : Numbering) (before rest : List Entry) → Grows numbering before rest → last_level before ≤ length before → last_level (before ++ rest) ≤ length (before ++ rest)
+levels-few numbering before [] follows few = rw (append-nil before) few
+levels-few numbering before (e ∷ rest) follows few =
+    let next : last_level (before ++ e ∷ []) ≤ length (before ++ e ∷ []) = omega (arith, few, (level-step numbering before e follows.0).1, last_level-push before e, length-append before (e ∷ [])) in
+    subst (λ es. last_level es ≤ length es) (moved before e rest) (levels-few numbering (before ++ e ∷ []) rest follows.1 next)
 
 -- no entry is above the last level
 abbrev pub IsTop : List Entry → Type 0
 IsTop entries = All (λ e. e.level ≤ last_level entries) entries
 
 -- one more entry leaves none above the last level
-pub IsTop-push : (clauses : List (List Lit)) (before : List Entry) (e : Entry) → MayFollow clauses before e → IsTop before → IsTop (before ++ e ∷ [])
-IsTop-push clauses before e follows top = rw (last_level-push before e)
+pub IsTop-push : (numbering : Numbering) (before : List Entry) (e : Entry) → MayBeSet numbering before e → IsTop before → IsTop (before ++ e ∷ [])
+IsTop-push numbering before e follows top = rw (last_level-push before e)
     (All-push (λ d. d.level ≤ e.level) before e
-    (All-weaker (λ d. d.level ≤ last_level before) (λ d. d.level ≤ e.level) (λ d low. omega (arith, low, (level-step clauses before e follows).0)) before top)
+    (All-weaker (λ d. d.level ≤ last_level before) (λ d. d.level ≤ e.level) (λ d low. omega (arith, low, (level-step numbering before e follows).0)) before top)
     (omega arith))
 
 -- the last level is the highest
-pub IsTop-grown : (clauses : List (List Lit)) (before rest : List Entry) → Follows clauses before rest → IsTop before → IsTop (before ++ rest)
-IsTop-grown clauses before [] follows top = subst IsTop (sym (append-nil before)) top
-IsTop-grown clauses before (e ∷ rest) follows top =
-    subst IsTop (moved before e rest) (IsTop-grown clauses (before ++ e ∷ []) rest follows.1 (IsTop-push clauses before e follows.0 top))
+pub IsTop-grown : (numbering : Numbering) (before rest : List Entry) → Grows numbering before rest → IsTop before → IsTop (before ++ rest)
+IsTop-grown numbering before [] follows top = subst IsTop (sym (append-nil before)) top
+IsTop-grown numbering before (e ∷ rest) follows top =
+    subst IsTop (moved before e rest) (IsTop-grown numbering (before ++ e ∷ []) rest follows.1 (IsTop-push numbering before e follows.0 top))
 
 -- no entry is above the last level of nothing
 pub IsTop-none : IsTop []
@@ -77,15 +78,15 @@ up_to-both level kept dropped low high =
     ∙ ap (λ es. kept ++ es) (up_to-high level dropped high) ∙ append-nil kept
 
 -- entries that follow, taken apart
-pub Follows-split : (clauses : List (List Lit)) (before xs ys : List Entry) → Follows clauses before (xs ++ ys) → Follows clauses before xs × Follows clauses (before ++ xs) ys
-Follows-split clauses before [] ys follows = (tt, subst (λ es. Follows clauses es ys) (sym (append-nil before)) follows)
-Follows-split clauses before (x ∷ xs) ys follows =
-    let rest = Follows-split clauses (before ++ x ∷ []) xs ys follows.1 in
-    ((follows.0, rest.0), subst (λ es. Follows clauses es ys) (moved before x xs) rest.1)
+pub Grows-split : (numbering : Numbering) (before xs ys : List Entry) → Grows numbering before (xs ++ ys) → Grows numbering before xs × Grows numbering (before ++ xs) ys
+Grows-split numbering before [] ys follows = (tt, subst (λ es. Grows numbering es ys) (sym (append-nil before)) follows)
+Grows-split numbering before (x ∷ xs) ys follows =
+    let rest = Grows-split numbering (before ++ x ∷ []) xs ys follows.1 in
+    ((follows.0, rest.0), subst (λ es. Grows numbering es ys) (moved before x xs) rest.1)
 
 -- an entry that rises above a level is a decision, made where propagation had nothing to do
-pub decision-above : (clauses : List (List Lit)) (before : List Entry) (e : Entry) (level : ℕ) → MayFollow clauses before e → last_level before ≤ level → level < e.level → (last_level before ≡ level) × IsPropagated (values_of before) clauses
-decision-above clauses before e level follows low high = elim follows.cause [
-  | inl decision ↦ (omega (arith, decision.raises), decision.quiet)
+pub decision-above : (numbering : Numbering) (before : List Entry) (e : Entry) (level : ℕ) → MayBeSet numbering before e → last_level before ≤ level → level < e.level → (last_level before ≡ level) × IsPropagated (values_of before) numbering
+decision-above numbering before e level follows low high = elim follows.cause [
+  | inl decision ↦ (omega (arith, decision.raises), decision.propagated)
   | inr forced ↦ absurd (omega (arith, forced.stays))
 ]

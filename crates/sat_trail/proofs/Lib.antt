@@ -1,12 +1,13 @@
-pub mod EntryLemmas
-pub mod StorageLemmas
-pub mod IndexLemmas
-pub mod LiteralLemmas
-pub mod SettledLemmas
-pub mod SeenLemmas
-pub mod GrowthLemmas
-pub mod PassLemmas
-pub mod TrailLemmas
-pub mod LevelLemmas
-pub mod ChangeLemmas
-pub mod FactLemmas
+mod EntryLemmas
+mod NumberLemmas
+mod StorageLemmas
+mod OccurrenceLemmas
+mod LiteralLemmas
+mod SettledLemmas
+mod ExaminedLemmas
+mod GrowthLemmas
+mod WalkLemmas
+mod TrailLemmas
+mod LevelLemmas
+mod ChangeLemmas
+mod FactLemmas

@@ -6,8 +6,10 @@ use mathlib.Core.Bool.{beq}
 use Rattle.clause_core.specs.declared.literal.Lit.{Lit}
 use Rattle.clause_core.specs.Literal.{rank}
 use Rattle.clause_core.specs.Clause.{IsAscending}
-use Rattle.clause_core.specs.Propagation.{MakesFalse, Falsifies, LeavesOnly, IsPropagated}
-use Rattle.sat_trail.specs.Examination.{OthersFalse, IsSettled}
+use Rattle.clause_core.specs.Propagation.{MakesFalse, Falsifies, OthersFalse, LeavesOnly, IsPropagated}
+use Rattle.clause_core.specs.Numbering.{numbered, HasNumber}
+use Rattle.sat_trail.specs.inner.Examination.{IsSettled}
+use Rattle.sat_trail.proofs.NumberLemmas.{number_all}
 use Rattle.sat_trail.proofs.LiteralLemmas.{cases_bool, cases_literal, not-differs}
 
 -- a value that is given is not missing
@@ -41,16 +43,16 @@ IsSettled-two values clause a b differ a_among b_among a_open b_open = record {
 }
 
 -- more values are known later
-pub IsSettled-later : (seen now later : ℕ → Option Bool) (clause : List Lit) → ((v : ℕ) (b : Bool) → now v ≡ Some b → later v ≡ Some b) → IsSettled seen now clause → IsSettled seen later clause
-IsSettled-later seen now later clause lasts settled = record {
+pub IsSettled-later : (known now later : ℕ → Option Bool) (clause : List Lit) → ((v : ℕ) (b : Bool) → now v ≡ Some b → later v ≡ Some b) → IsSettled known now clause → IsSettled known later clause
+IsSettled-later known now later clause lasts settled = record {
   member = settled.member;
   among = settled.among;
   last_true = λ l among others. lasts l.var l.positive (settled.last_true l among others);
 }
 
--- fewer values were seen before
-pub IsSettled-earlier : (before seen now : ℕ → Option Bool) (clause : List Lit) → ((v : ℕ) (b : Bool) → before v ≡ Some b → seen v ≡ Some b) → IsSettled seen now clause → IsSettled before now clause
-IsSettled-earlier before seen now clause lasts settled = record {
+-- fewer values were known before
+pub IsSettled-earlier : (before known now : ℕ → Option Bool) (clause : List Lit) → ((v : ℕ) (b : Bool) → before v ≡ Some b → known v ≡ Some b) → IsSettled known now clause → IsSettled before now clause
+IsSettled-earlier before known now clause lasts settled = record {
   member = settled.member;
   among = settled.among;
   last_true = λ l among others. settled.last_true l among (λ m m_among other. lasts m.var (not m.positive) (others m m_among other));
@@ -69,10 +71,10 @@ IsSettled-no_unit values clause l settled leaves =
     some-none (values l.var) l.positive (settled.last_true l leaves.among leaves.others) leaves.no_value
 
 -- where all clauses are settled, unit propagation has nothing to do
-pub IsPropagated-settled : (values : ℕ → Option Bool) (clauses : List (List Lit)) → All (IsSettled values values) clauses → IsPropagated values clauses
+pub IsPropagated-settled : (values : ℕ → Option Bool) (clauses : List (List Lit)) → All (IsSettled values values) clauses → IsPropagated values (numbered clauses)
 IsPropagated-settled values clauses settled = record {
-  no_false = λ k d within. IsSettled-no_false values (get_or clauses k d) (settled k d within);
-  no_unit = λ k d within l. IsSettled-no_unit values (get_or clauses k d) l (settled k d within);
+  no_false = λ n c has. IsSettled-no_false values c (number_all (IsSettled values values) clauses n c settled has);
+  no_unit = λ n c l has. IsSettled-no_unit values c l (number_all (IsSettled values values) clauses n c settled has);
 }
 
 -- the literal is false, and so are the others
@@ -93,9 +95,9 @@ last_true_by values clause l (Some b) is no_false no_unit among others =
     ]
 
 -- a clause that is neither false nor left with one literal is settled
-pub IsSettled-quiet : (values : ℕ → Option Bool) (clause : List Lit) → ¬ Falsifies values clause → ((l : Lit) → ¬ LeavesOnly values clause l) → IsSettled values values clause
-IsSettled-quiet values [] no_false no_unit = absurd (no_false (λ k d within. absurd (omega arith)))
-IsSettled-quiet values (h ∷ rest) no_false no_unit = record {
+pub IsSettled-propagated : (values : ℕ → Option Bool) (clause : List Lit) → ¬ Falsifies values clause → ((l : Lit) → ¬ LeavesOnly values clause l) → IsSettled values values clause
+IsSettled-propagated values [] no_false no_unit = absurd (no_false (λ k d within. absurd (omega arith)))
+IsSettled-propagated values (h ∷ rest) no_false no_unit = record {
   member = h;
   among = (0, omega arith, refl);
   last_true = λ l among others. last_true_by values (h ∷ rest) l (values l.var) refl no_false (no_unit l) among others;
@@ -139,7 +141,7 @@ before-differs clause i d l ascending within before same =
     let there : get_or clause i l ≡ l = get_or_default clause i l d within ∙ sym same in
     omega (arith, ascending.ordered before.0 i l short within, ap rank here, ap rank there)
 
--- what a front holds, the list holds
+-- what a prefix holds, the list holds
 pub Contains-take : (i : ℕ) (clause : List Lit) (l : Lit) → Contains (take i clause) l → Contains clause l
 Contains-take i clause l among =
     subst (λ lits. Contains lits l) (take-append-drop i clause) (Contains-append_left (take i clause) (drop i clause) l among)

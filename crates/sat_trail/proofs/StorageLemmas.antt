@@ -8,7 +8,7 @@ use Rattle.std.proofs.lemmas.List.Quantifiers.{all_pairs_push}
 use Rattle.std.proofs.lemmas.List.Sums.{sum_by-cons, sum_by-set, count_by-le-length}
 use Rattle.sat_trail.specs.declared.entry.Entry.{Entry}
 use Rattle.sat_trail.specs.Entry.{entry_of, values_of, last_level}
-use Rattle.sat_trail.specs.Storage.{Agrees, Assigned, HasRoom, IsStored, StartsWith}
+use Rattle.sat_trail.specs.inner.Storage.{Agrees, Assigned, HasRoom, IsStored, StartsWith}
 use Rattle.sat_trail.proofs.EntryLemmas.{values_of-none, entry_of-apart, entry_of-absent, entry_of-push_same, entry_of-push_other}
 
 -- 1 for a test that passes
@@ -70,7 +70,7 @@ full_after-set cells i o within = sum_by-set (λ x. cond (is_some x) 1 0) cells 
 pub Agrees-push : (es : List Entry) (cells : List (Option Entry)) (e : Entry) → Agrees es cells → 0 < e.lit.var → e.lit.var ≤ length cells → values_of es e.lit.var ≡ None → Agrees (es ++ e ∷ []) (set cells (e.lit.var - 1) (Some e))
 Agrees-push es cells e agrees from_one exists none = record {
   found = λ v within. found_after-push es cells e agrees from_one exists missing v (omega (arith, length-set cells (e.lit.var - 1) (Some e)));
-  apart = all_pairs_push (λ c d. c.lit.var ≢ d.lit.var) es e agrees.apart (entry_of-apart es e.lit.var missing);
+  distinct = all_pairs_push (λ c d. c.lit.var ≢ d.lit.var) es e agrees.distinct (entry_of-apart es e.lit.var missing);
   exist = rw (length-set cells (e.lit.var - 1) (Some e)) (All-push (λ d. (0 < d.lit.var) × (d.lit.var ≤ length cells)) es e agrees.exist (from_one, exists));
   counted = omega (arith, full_after-set cells (e.lit.var - 1) (Some e) (omega arith), agrees.counted, length_push es e, empty);
 }
@@ -91,16 +91,16 @@ last_alone es e apart = entry_of-absent es e.lit.var (λ k d within same.
 pub Agrees-pop : (es : List Entry) (cells : List (Option Entry)) (e : Entry) → Agrees (es ++ e ∷ []) cells → 0 < e.lit.var → e.lit.var ≤ length cells → Agrees es (set cells (e.lit.var - 1) None)
 Agrees-pop es cells e agrees from_one exists = record {
   found = λ v within. found_after-pop es cells e agrees from_one exists missing v (omega (arith, length-set cells (e.lit.var - 1) None));
-  apart = λ i j d before within.
+  distinct = λ i j d before within.
       subst (λ x. x.lit.var ≢ (get_or es j d).lit.var) (get_or_append_left es (e ∷ []) d i (omega arith))
-      (subst (λ x. (get_or (es ++ e ∷ []) i d).lit.var ≢ x.lit.var) (get_or_append_left es (e ∷ []) d j within) (agrees.apart i j d before (omega (arith, length_push es e))));
+      (subst (λ x. (get_or (es ++ e ∷ []) i d).lit.var ≢ x.lit.var) (get_or_append_left es (e ∷ []) d j within) (agrees.distinct i j d before (omega (arith, length_push es e))));
   exist = rw (length-set cells (e.lit.var - 1) None) (λ k d within.
       subst (λ x. (0 < x.lit.var) × (x.lit.var ≤ length cells)) (get_or_append_left es (e ∷ []) d k within) (agrees.exist k d (omega (arith, length_push es e))));
   counted = omega (arith, full_after-set cells (e.lit.var - 1) None (omega arith), agrees.counted, length_push es e, full);
 }
   where
     missing : entry_of es e.lit.var ≡ None
-    missing = last_alone es e agrees.apart
+    missing = last_alone es e agrees.distinct
 
     full : weight (is_some (get_or cells (e.lit.var - 1) None)) ≡ 1
     full = ap (λ (o : Option Entry). weight (is_some o)) (agrees.found (e.lit.var - 1) (omega arith) ∙ ap (entry_of (es ++ e ∷ [])) (let same : e.lit.var - 1 + 1 ≡ e.lit.var = omega arith in same) ∙ entry_of-push_same es e missing)
@@ -117,7 +117,7 @@ pub slot_within : (slots : List Entry) (len : ℕ) (cells : List (Option Entry))
 slot_within slots len cells v stored from_one exists none =
     omega (arith, room (take len slots) cells v stored.agrees from_one exists none, length-take-le len slots stored.filled, stored.room)
 
--- one more entry is stored behind the others
+-- one more entry is stored after the others
 pub IsStored-push : (slots : List Entry) (len : ℕ) (cells : List (Option Entry)) (e : Entry) → IsStored slots len cells → 0 < e.lit.var → e.lit.var ≤ length cells → values_of (take len slots) e.lit.var ≡ None → IsStored (set slots len e) (len + 1) (set cells (e.lit.var - 1) (Some e))
 IsStored-push slots len cells e stored from_one exists none = record {
   room = length-set slots len e ∙ stored.room ∙ sym (length-set cells (e.lit.var - 1) (Some e));

@@ -1,10 +1,6 @@
-pub mod Entry
 pub mod State
-pub mod Growth
 pub mod Trail
 pub mod Levels
-pub mod Examination
-pub mod Storage
-pub mod Propagation
-pub use Rattle.clause_core.specs.Literal
-pub use Rattle.clause_core.specs.Clause
+pub mod Growth
+pub mod Entry
+pub mod inner

@@ -1,6 +1,7 @@
 -- What contracts see of a trail.
-use Rattle.std.specs.Prelude.{ℕ, Bool, List}
+use Rattle.std.specs.Prelude.{ℕ, Bool, List, length}
 use Rattle.clause_core.specs.declared.literal.Lit.{Lit}
+use Rattle.clause_core.specs.Numbering.{Numbering, numbered}
 use Rattle.sat_trail.specs.declared.entry.Entry.{Entry}
 
 -- the clauses in the order of their numbers, and the entries in the order of setting
@@ -10,3 +11,11 @@ pub record State : Type 0 where
   pub entries : List Entry
   pub level : ℕ
   pub ready : Bool
+
+-- the clause of each number, if there is one
+abbrev pub numbering_of : State → Numbering
+numbering_of t = numbered t.clauses
+
+-- the last number that was given to a clause
+abbrev pub last_number : State → ℕ
+last_number t = length t.clauses

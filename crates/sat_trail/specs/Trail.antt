@@ -1,24 +1,49 @@
 -- What every trail keeps, and what its calls do.
-use Rattle.std.specs.Prelude.{◌≡◌, ◌≢◌, ℕ, ◌<◌, ◌≤◌, ◌⊎◌, IsTrue, IsSome, IfSome, Bool, nat_le, List, [], ◌++◌, All, Contains, filter}
+use Rattle.std.specs.Prelude.{◌≡◌, ◌≢◌, ℕ, ◌+◌, ◌<◌, ◌≤◌, IsTrue, IsSome, IfSome, Bool, false, List, [], ◌++◌, length, All, Contains}
 use Rattle.clause_core.specs.declared.literal.Lit.{Lit}
+use Rattle.clause_core.specs.declared.formula.Formula.{Formula}
 use Rattle.clause_core.specs.Clause.{VariablesExist}
-use Rattle.clause_core.specs.Propagation.{Falsifies, IsPropagated}
+use Rattle.clause_core.specs.Numbering.{numbered, HasNumber}
+use Rattle.clause_core.specs.Propagation.{IsPropagated}
 use Rattle.sat_trail.specs.declared.entry.Entry.{Entry}
-use Rattle.sat_trail.specs.Entry.{entry_of, values_of, last_level}
-use Rattle.sat_trail.specs.Growth.{HasNumber, Follows}
-use Rattle.sat_trail.specs.State.{State}
+use Rattle.sat_trail.specs.Entry.{entry_of, values_of}
+use Rattle.sat_trail.specs.Levels.{HasLevels, HasCauses, IsPropagatedBelow}
+use Rattle.sat_trail.specs.State.{State, numbering_of, last_number}
 
--- the entries grew one by one up to the level, over variables that exist
+-- the variables of the entries exist
+abbrev pub EntriesExist : State → Type 0
+EntriesExist t = All (λ e. (0 < e.lit.var) × (e.lit.var ≤ t.vars)) t.entries
+
+-- the variables of the clauses exist
+abbrev pub ClausesExist : State → Type 0
+ClausesExist t = (number : ℕ) (clause : List Lit) →
+    HasNumber (numbering_of t) number clause → VariablesExist t.vars clause
+
+-- what every trail keeps
 pub record IsTrail (t : State) : Type 0 where
-  pub grown : Follows t.clauses [] t.entries
-  pub level : last_level t.entries ≡ t.level
-  pub exist : All (λ e. (0 < e.lit.var) × (e.lit.var ≤ t.vars)) t.entries
-  pub clauses_exist : All (VariablesExist t.vars) t.clauses
-  pub ready_quiet : IsTrue t.ready → IsPropagated (values_of t.entries) t.clauses
+  pub levels : HasLevels t
+  pub causes : HasCauses t
+  pub below : IsPropagatedBelow t
+  pub exist : EntriesExist t
+  pub clauses_exist : ClausesExist t
+  pub ready_propagated : IsTrue t.ready → IsPropagated (values_of t.entries) (numbering_of t)
 
--- the entries of the levels up to this one
-abbrev pub up_to : ℕ → List Entry → List Entry
-up_to level entries = filter (λ e. nat_le e.level level) entries
+-- the formula's clauses have the numbers from 1 on, and nothing is set
+pub record IsStart (f : Formula) (t : State) : Type 0 where
+  pub vars : t.vars ≡ f.vars
+  pub numbers : (n : ℕ) → numbering_of t n ≡ numbered f.clauses n
+  pub last : last_number t ≡ length f.clauses
+  pub empty : t.entries ≡ []
+  pub level : t.level ≡ 0
+  pub unready : t.ready ≡ false
+
+-- the clause has the next number, the other numbers keep their clauses, and nothing is set
+pub record Adds (old : State) (clause : List Lit) (new : State) (number : ℕ) : Type 0 where
+  pub next : number ≡ last_number old + 1
+  pub last : last_number new ≡ number
+  pub has_number : HasNumber (numbering_of new) number clause
+  pub others : (n : ℕ) → n ≢ number → numbering_of new n ≡ numbering_of old n
+  pub rest : new ≡ record old { clauses = new.clauses; ready = false }
 
 -- the literal is unset, or was set at the current level
 abbrev pub IsOpen : State → Lit → Type 0
@@ -33,12 +58,6 @@ pub record HasTwoOpen (t : State) (clause : List Lit) : Type 0 where
   pub other_among : Contains clause other
   pub one_open : IsOpen t one
   pub other_open : IsOpen t other
-
--- the clause of the number is false
-pub record IsFalsified (t : State) (number : ℕ) : Type 0 where
-  pub clause : List Lit
-  pub numbered : HasNumber t.clauses number clause
-  pub falsified : Falsifies (values_of t.entries) clause
 
 -- the entries that were added are of the current level and have reasons; the rest stays
 pub record Propagates (old new : State) : Type 0 where

@@ -1,6 +1,6 @@
 ghost use Rattle.clause_core.specs.Clause.{IsAscending, VariablesExist};
 ghost use Rattle.sat_trail.specs.Entry.{values_of};
-ghost use Rattle.sat_trail.specs.Examination.{IsFinding};
+ghost use Rattle.sat_trail.specs.inner.Examination.{IsFinding};
 
 use super::set_literals::Entries;
 use clause_core::Lit;
@@ -12,9 +12,11 @@ pub enum Finding {
     Settled,
     /// This literal has no value, and the others are false.
     Forces(Lit),
+    /// All its literals are false.
     Falsified,
 }
 
+/// What the values of the set literals say of the clause.
 pub fn examine(set: &Entries, clause: &[Lit]) -> Finding
     requires exist { VariablesExist set.now.vars clause.now }
     requires ascending { IsAscending clause.now }

@@ -1,6 +1,6 @@
 ghost use Rattle.std.specs.Prelude.{◌≡◌, ◌-◌, ◌+◌, ◌<◌, ◌≤◌, ◌++◌, [], ◌∷◌, None, Some, length, take, IfOk, slice_get};
 ghost use Rattle.sat_trail.specs.Entry.{entry_of, values_of, last_level};
-ghost use Rattle.sat_trail.specs.Storage.{StartsWith, HasRoom};
+ghost use Rattle.sat_trail.specs.inner.Storage.{StartsWith, HasRoom};
 
 use super::entry::Entry;
 use clause_core::Lit;
@@ -19,16 +19,20 @@ pub struct Entries {
 
 impl Model for Entries {
     ghost use Rattle.std.specs.Prelude.{◌≡◌, ◌<◌, ◌≤◌, ◌^◌, length, take};
-    ghost use Rattle.sat_trail.specs.Storage.{Assigned, IsStored};
+    ghost use Rattle.sat_trail.specs.inner.Storage.{Assigned, IsStored};
 
     ghost Value = { Assigned };
 
-    ghost view = { λ a. record { vars = length a.cells.items; entries = take a.len a.slots.items } };
+    ghost view = { λ a. record {
+        vars = length a.cells.items;
+        entries = take a.len a.slots.items;
+    } };
 
     ghost invariant = { λ a. IsStored a.slots.items a.len a.cells.items };
 }
 
 impl Entries {
+    /// No literal is set.
     pub fn new(alloc: Global, vars: u32) -> Result<Entries, NoMemory>
         ensures { IfOk result (λ e. e ≡ record { vars = vars; entries = [] }) }
     {
@@ -47,12 +51,14 @@ impl Entries {
         })
     }
 
+    /// The number of variables.
     pub fn vars(&self) -> u32
         ensures { result ≡ self.now.vars }
     {
         self.cells.len() as u32
     }
 
+    /// How many literals are set.
     pub fn len(&self) -> usize
         ensures count { result ≡ length self.now.entries }
         ensures within { length self.now.entries ≤ self.now.vars }
@@ -61,9 +67,10 @@ impl Entries {
         self.len
     }
 
+    /// The entry at the position.
     pub fn at(&self, i: usize) -> Entry
         requires { i < length self.now.entries }
-        ensures place { slice_get self.now.entries i ≡ Some result }
+        ensures entry { slice_get self.now.entries i ≡ Some result }
         ensures from_one { 0 < result.lit.var }
         ensures exists { result.lit.var ≤ self.now.vars }
     {
@@ -79,6 +86,7 @@ impl Entries {
         self.cells[var as usize - 1]
     }
 
+    /// The variable's value, if it has one.
     pub fn value(&self, var: u32) -> Option<bool>
         requires from_one { 0 < var }
         requires exists { var ≤ self.now.vars }
@@ -87,6 +95,7 @@ impl Entries {
         self.of(var).map(|entry| entry.lit.positive)
     }
 
+    /// Sets a literal after the others.
     pub fn push(&mut self, entry: Entry)
         requires from_one { 0 < entry.lit.var }
         requires exists { entry.lit.var ≤ self.old.vars }
@@ -101,7 +110,8 @@ impl Entries {
     /// Takes the last entry out.
     pub fn pop(&mut self)
         requires { 0 < length self.old.entries }
-        ensures { self.new ≡ record self.old { entries = take (length self.old.entries - 1) self.old.entries } }
+        ensures { let entries = take (length self.old.entries - 1) self.old.entries in
+            self.new ≡ record self.old { entries = entries } }
     {
         self.len -= 1;
         let last = self.slots[self.len];

@@ -1,13 +1,14 @@
-ghost use Rattle.std.specs.Prelude.{◌≡◌, ◌-◌, ◌+◌, ◌^◌, ◌<◌, ◌≤◌, ◌++◌, ◌⊎◌, [], ◌∷◌, None, Some, false, length, map, IsTrue, IfOk, OnOk, OnErr, IfSome, IfNone, is_none, slice_get};
+ghost use Rattle.std.specs.Prelude.{◌≡◌, ◌-◌, ◌+◌, ◌^◌, ◌<◌, ◌≤◌, ◌++◌, ◌⊎◌, ◌↔◌, [], ◌∷◌, None, Some, false, length, map, IsTrue, IsSome, IfOk, OnOk, OnErr, IfSome, IfNone, is_none, slice_get};
 ghost use Rattle.clause_core.specs.Clause.{VariablesExist};
-ghost use Rattle.clause_core.specs.Propagation.{IsPropagated};
-ghost use Rattle.sat_trail.specs.Entry.{values_of, reason_of, level_of};
-ghost use Rattle.sat_trail.specs.Growth.{HasNumber};
-ghost use Rattle.sat_trail.specs.Trail.{IsTrail, HasTwoOpen, IsFalsified, Propagates, up_to};
+ghost use Rattle.clause_core.specs.Numbering.{numbered, HasNumber};
+ghost use Rattle.clause_core.specs.Propagation.{IsFalsified, IsPropagated};
+ghost use Rattle.sat_trail.specs.Entry.{values_of, reason_of, level_of, up_to, decided};
+ghost use Rattle.sat_trail.specs.State.{numbering_of, last_number};
+ghost use Rattle.sat_trail.specs.Trail.{IsTrail, IsStart, Adds, HasTwoOpen, Propagates};
 
-use super::clause_index::ClauseIndex;
 use super::entry::Entry;
-use super::propagation::{look_at_new, pass_all};
+use super::occurrence_lists::OccurrenceLists;
+use super::propagation::{examine_new, propagate_entries};
 use super::set_literals::Entries;
 use clause_core::{Clause, Formula, Lit};
 use list_base::{NoMemory, TryClone};
@@ -15,84 +16,88 @@ use std::alloc::Global;
 use std::marker::Model;
 
 /// Set literals over numbered clauses. The list of the set literals is also the queue of unit
-/// propagation: `head` entries of it have been passed, and `looked` clauses were looked at.
+/// propagation: its first `head` entries are propagated, and the first `examined` clauses were
+/// examined since they were added.
 #[derive(Drop)]
 pub struct Trail {
-    index: ClauseIndex,
+    lists: OccurrenceLists,
     set: Entries,
     level: u32,
     head: usize,
-    looked: usize,
+    examined: usize,
     ready: bool,
 }
 
 impl Model for Trail {
     ghost use Rattle.sat_trail.specs.State.{State};
-    ghost use Rattle.sat_trail.specs.Propagation.{IsKept};
+    ghost use Rattle.sat_trail.specs.inner.Propagation.{IsKept, state_of};
 
     ghost Value = { State };
 
-    ghost view = { λ a. record { vars = a.index.vars; clauses = a.index.clauses; entries = a.set.entries; level = a.level; ready = a.ready } };
+    ghost view = { λ a. state_of a.lists a.set a.level a.ready };
 
-    ghost invariant = { λ a. IsKept a.index a.set a.level a.head a.looked a.ready };
+    ghost invariant = { λ a. IsKept a.lists a.set a.level a.head a.examined a.ready };
 }
 
 impl Trail {
-    /// The formula's clauses get the numbers from 1 on. This takes all memory that propagation needs.
+    /// The formula's clauses get the numbers from 1 on. This takes all memory that propagation
+    /// needs.
     pub fn new(alloc: Global, f: &Formula) -> Result<Trail, NoMemory>
         requires { length f.now.clauses < 2 ^ 32 }
-        ensures start { IfOk result (λ t. t ≡ record { vars = f.now.vars; clauses = f.now.clauses; entries = []; level = 0; ready = false }) }
+        ensures start { IfOk result (IsStart f.now) }
         ensures sound { IfOk result IsTrail }
     {
-        let mut index = ClauseIndex::new(alloc, f.vars)?;
+        let mut lists = OccurrenceLists::new(alloc, f.vars)?;
         for clause in f.clauses.as_slice() {
-            index.add(clause.try_clone()?)?;
+            lists.add(clause.try_clone()?)?;
         }
         Ok(Trail {
-            index,
+            lists,
             set: Entries::new(alloc, f.vars)?,
             level: 0,
             head: 0,
-            looked: 0,
+            examined: 0,
             ready: false,
         })
     }
 
-    /// Gives the clause the next number, and sets nothing. A refusal drops the clause.
+    /// Gives the clause the next number, which it returns. Out of memory drops the clause.
     pub fn add(&mut self, c: Clause) -> Result<u32, NoMemory>
         requires exist { VariablesExist self.old.vars c }
-        requires few { length self.old.clauses + 1 < 2 ^ 32 }
+        requires few { last_number self.old + 1 < 2 ^ 32 }
         requires open { (self.old.level ≡ 0) ⊎ HasTwoOpen self.old c }
-        ensures number { IfOk result (λ number. number ≡ length self.new.clauses) }
-        ensures ok { OnOk result (self.new ≡ record self.old { clauses = self.old.clauses ++ c ∷ []; ready = false }) }
+        ensures ok { IfOk result (Adds self.old c self.new) }
         ensures err { OnErr result (self.new ≡ self.old) }
         ensures sound { IsTrail self.new }
     {
-        self.index.add(c)?;
+        self.lists.add(c)?;
         self.ready = false;
-        Ok(self.index.len() as u32)
+        Ok(self.lists.len() as u32)
     }
 
-    /// Sets what unit clauses force, until none is left or a clause is false, whose number it gives.
+    /// Sets what unit clauses force, until none is left or a clause is false. Gives the number of
+    /// the false clause.
     pub fn propagate(&mut self) -> Option<u32>
         ensures grows { Propagates self.old self.new }
         ensures ready { self.new.ready ≡ is_none result }
-        ensures quiet { IfNone result (IsPropagated (values_of self.new.entries) self.new.clauses) }
-        ensures falsified { IfSome result (IsFalsified self.new) }
+        ensures propagated { let values = values_of self.new.entries in
+            IfNone result (IsPropagated values (numbering_of self.new)) }
+        ensures falsified { let values = values_of self.new.entries in
+            IfSome result (IsFalsified (numbering_of self.new) values) }
         ensures sound { IsTrail self.new }
     {
         self.ready = false;
-        let found = look_at_new(
-            &self.index,
+        let found = examine_new(
+            &self.lists,
             &mut self.set,
-            &mut self.looked,
+            &mut self.examined,
             self.head,
             self.level,
         );
         if found.is_some() {
             return found;
         }
-        let found = pass_all(&self.index, &mut self.set, &mut self.head, self.level);
+        let found = propagate_entries(&self.lists, &mut self.set, &mut self.head, self.level);
         self.ready = found.is_none();
         found
     }
@@ -110,7 +115,10 @@ impl Trail {
         requires from_one { 0 < lit.var }
         requires exists { lit.var ≤ self.old.vars }
         requires no_value { values_of self.old.entries lit.var ≡ None }
-        ensures decided { let level = self.old.level + 1 in self.new ≡ record self.old { entries = self.old.entries ++ (record { lit = lit; level = level; reason = None }) ∷ []; level = level; ready = false } }
+        ensures decided {
+            let level = self.old.level + 1 in
+            let entries = self.old.entries ++ decided lit level ∷ [] in
+            self.new ≡ record self.old { entries = entries; level = level; ready = false } }
         ensures room { length self.old.entries < self.old.vars }
         ensures sound { IsTrail self.new }
     {
@@ -127,7 +135,8 @@ impl Trail {
     /// Takes the literals of the levels above this one out.
     pub fn back_to(&mut self, level: u32)
         requires { level ≤ self.old.level }
-        ensures kept { self.new ≡ record self.old { entries = up_to level self.old.entries; level = level; ready = false } }
+        ensures kept { let entries = up_to level self.old.entries in
+            self.new ≡ record self.old { entries = entries; level = level; ready = false } }
         ensures sound { IsTrail self.new }
     {
         self.ready = false;
@@ -137,9 +146,10 @@ impl Trail {
         self.set.back_to(level);
         self.level = level;
         self.head = self.set.len();
-        self.looked = self.index.len();
+        self.examined = self.lists.len();
     }
 
+    /// The number of decisions that hold.
     pub fn level(&self) -> u32
         ensures same { result ≡ self.now.level }
         ensures sound { IsTrail self.now }
@@ -147,6 +157,7 @@ impl Trail {
         self.level
     }
 
+    /// The variable's value, if it has one.
     pub fn value(&self, var: u32) -> Option<bool>
         requires from_one { 0 < var }
         requires exists { var ≤ self.now.vars }
@@ -164,7 +175,7 @@ impl Trail {
         self.set.of(var).and_then(|entry| entry.reason)
     }
 
-    /// The level that stood when the variable was set.
+    /// The level at which the variable was set.
     pub fn level_of(&self, var: u32) -> Option<u32>
         requires from_one { 0 < var }
         requires exists { var ≤ self.now.vars }
@@ -181,21 +192,35 @@ impl Trail {
         self.set.len() as u32
     }
 
-    /// The literal that was set at this place.
+    /// The literal that was set at this position.
     pub fn at(&self, i: u32) -> Lit
         requires { i < length self.now.entries }
-        ensures place { slice_get (map (λ e. e.lit) self.now.entries) i ≡ Some result }
+        ensures literal { slice_get (map (λ e. e.lit) self.now.entries) i ≡ Some result }
         ensures from_one { 0 < result.var }
         ensures exists { result.var ≤ self.now.vars }
     {
         self.set.at(i as usize).lit
     }
 
-    pub fn clause(&self, number: u32) -> &Clause
-        requires from_one { 0 < number }
-        requires given { number ≤ length self.now.clauses }
-        ensures { HasNumber self.now.clauses number result.now }
+    /// The last number that was given to a clause.
+    pub fn last_number(&self) -> u32
+        ensures { result ≡ last_number self.now }
     {
-        self.index.clause(number)
+        self.lists.len() as u32
+    }
+
+    /// Whether a clause has the number.
+    pub fn has_clause(&self, number: u32) -> bool
+        ensures { IsTrue result ↔ IsSome (numbering_of self.now number) }
+    {
+        number > 0 && number as usize <= self.lists.len()
+    }
+
+    /// The clause of the number.
+    pub fn clause(&self, number: u32) -> &Clause
+        requires { IsSome (numbering_of self.now number) }
+        ensures { HasNumber (numbering_of self.now) number result.now }
+    {
+        self.lists.clause(number)
     }
 }

@@ -1,25 +1,25 @@
 -- Each step leaves a literal of the current level, and the last one leaves one alone.
 use Rattle.std.proofs.Common.{arith}
 use Rattle.std.proofs.lemmas.Result.{IfOk-weaker}
-use Rattle.sat_solver.specs.Analysis.{IsLearned}
-use Rattle.sat_solver.specs.Gathering.{IsDerivationOf}
+use Rattle.sat_solver.specs.inner.Analysis.{IsLearned}
+use Rattle.sat_solver.specs.inner.Gathering.{IsDerivationOf}
 use Rattle.sat_solver.proofs.UipLemmas.{HasCurrent-start, HasReason-last, Gathers-at, Gathers-after, HasCurrent-after, IsLearned-gathered, gathered-some}
 use Rattle.sat_solver.proofs.analysis.learn.Goals as goal
 
 pub resolving-init : goal.resolving-init
 resolving-init c =
-    let gathers = rw (← c.len-place.ensures.count) at c.start-chain.ensures.gathers in record {
+    let gathers = rw (← c.len-position.ensures.count) at c.start-chain.ensures.gathers in record {
       gathers = gathers;
       current = HasCurrent-start c.args.trail.now c.args.number _ c.start-chain.result c.start-chain.new.lits c.requires.sound c.requires.above c.requires.falsified c.start-chain.ensures.none gathers;
     }
 
-pub overflow_sub-place : goal.overflow_sub-place
-overflow_sub-place c = gathered-some c.args.trail.now c.args.number _ _ c.resolving.lits c.resolving-test.true c.resolving.invariant.gathers
+pub overflow_sub-position : goal.overflow_sub-position
+overflow_sub-position c = gathered-some c.args.trail.now c.args.number _ _ c.resolving.lits c.resolving-test.true c.resolving.invariant.gathers
 
 pub step-requires-clause-gathers : goal.step-requires-clause-gathers
 step-requires-clause-gathers c =
     let some = gathered-some c.args.trail.now c.args.number _ _ c.resolving.lits c.resolving-test.true c.resolving.invariant.gathers in
-    Gathers-at c.args.trail.now c.args.number c.resolving.place _ _ c.resolving.lits (omega (arith, some)) c.resolving.invariant.gathers
+    Gathers-at c.args.trail.now c.args.number c.resolving.position _ _ c.resolving.lits (omega (arith, some)) c.resolving.invariant.gathers
 
 pub step-requires-clause-reason : goal.step-requires-clause-reason
 step-requires-clause-reason c =
@@ -40,5 +40,5 @@ pub returns-clause-learned : goal.returns-clause-learned
 returns-clause-learned c =
     let of_lits = rw c.as_slice.ensures.same at c.derived.ensures in
     IfOk-weaker c.derived.result (IsDerivationOf c.resolving.chain c.resolving.lits.set.lits) (λ d. IsLearned c.args.trail.now d.chain d.clause)
-    (IsLearned-gathered c.args.trail.now c.args.number c.resolving.chain c.resolving.lits _ c.requires.sound c.requires.above c.requires.falsified c.resolving.invariant.gathers c.resolving.invariant.current c.resolving-test.false)
+    (IsLearned-gathered c.equal_members.ensures c.args.trail.now c.args.number c.resolving.chain c.resolving.lits _ c.requires.sound c.requires.above c.requires.falsified c.resolving.invariant.gathers c.resolving.invariant.current c.resolving-test.false)
     of_lits

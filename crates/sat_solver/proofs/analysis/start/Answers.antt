@@ -1,8 +1,11 @@
 -- The set was emptied, and took the literals of the false clause.
-use Rattle.std.proofs.Common.{ap}
-use Rattle.sat_solver.specs.LiteralSet.{LiteralSet}
+use Rattle.std.proofs.Common.{ap, IsSome, refl, sym, subst}
+use Rattle.sat_solver.specs.inner.LiteralSet.{LiteralSet}
 use Rattle.sat_solver.proofs.StepLemmas.{Gathers-start}
 use Rattle.sat_solver.proofs.analysis.start.Goals as goal
+
+pub clause-requires : goal.clause-requires
+clause-requires c = subst IsSome (sym c.requires.falsified.has_number.there) refl
 
 pub returns-clause-gathers : goal.returns-clause-gathers
 returns-clause-gathers c =

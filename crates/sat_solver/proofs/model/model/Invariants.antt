@@ -3,5 +3,5 @@ use Rattle.sat_trail.specs.Entry.{values_of}
 use Rattle.sat_solver.proofs.ModelLemmas.{HasValues}
 use Rattle.sat_solver.proofs.model.model.Given as goal
 
-abbrev pub invariant-loop-place : goal.invariant-loop-place
-invariant-loop-place l = HasValues (values_of l.trail.entries) l.values l.place
+abbrev pub invariant-loop-index : goal.invariant-loop-index
+invariant-loop-index l = HasValues (values_of l.trail.entries) l.values l.index

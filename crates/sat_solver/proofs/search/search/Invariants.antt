@@ -1,6 +1,6 @@
 -- The trail goes on over the same clauses.
 use Rattle.std.proofs.Common.{◌-◌, length}
-use Rattle.sat_solver.specs.Search.{GoesOn}
+use Rattle.sat_solver.specs.inner.Search.{GoesOn}
 use Rattle.sat_solver.proofs.search.search.Given as goal
 
 abbrev pub invariant-deciding : goal.invariant-deciding

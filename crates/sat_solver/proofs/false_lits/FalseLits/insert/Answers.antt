@@ -1,8 +1,8 @@
 -- The variable of a false literal exists, and the literal is in at the end.
 use Rattle.std.proofs.Common.{◌≤◌, sym, subst}
 use Rattle.std.proofs.lemmas.Bool.{iff_false}
-use Rattle.sat_solver.specs.LiteralSet.{LiteralSet}
-use Rattle.sat_solver.specs.Gathering.{Inserts}
+use Rattle.sat_solver.specs.inner.LiteralSet.{LiteralSet}
+use Rattle.sat_solver.specs.inner.Gathering.{Inserts}
 use Rattle.sat_solver.proofs.GatheringLemmas.{false-exists, Inserts-push, Inserts-held, held}
 use Rattle.sat_solver.proofs.false_lits.FalseLits.insert.Goals as goal
 

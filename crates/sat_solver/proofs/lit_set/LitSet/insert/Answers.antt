@@ -1,7 +1,7 @@
--- The new literal goes behind the others, and its cell was empty.
+-- The new literal comes after the others, and its cell was empty.
 use Rattle.std.proofs.Common.{arith}
 use Rattle.std.proofs.lemmas.Bool.{iff_false}
-use Rattle.sat_solver.proofs.FindsLemmas.{empty-cell}
+use Rattle.sat_solver.proofs.CellLemmas.{empty-cell}
 use Rattle.sat_solver.proofs.StoredSetLemmas.{slot_within, IsStoredSet-push, IsLiteralSet-stored, set_after-push}
 use Rattle.sat_solver.proofs.lit_set.LitSet.insert.Goals as goal
 

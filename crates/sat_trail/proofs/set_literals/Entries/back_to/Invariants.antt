@@ -1,6 +1,6 @@
 -- What is left, with what was taken out, is what there was.
 use Rattle.std.proofs.Common.{length}
-use Rattle.sat_trail.specs.Storage.{StartsWith}
+use Rattle.sat_trail.specs.inner.Storage.{StartsWith}
 use Rattle.sat_trail.proofs.set_literals.Entries.back_to.Given as goal
 
 abbrev pub invariant-loop-self : goal.invariant-loop-self

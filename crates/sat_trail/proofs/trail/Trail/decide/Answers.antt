@@ -1,6 +1,7 @@
 -- The literal is decided where propagation had nothing to do.
 use Rattle.std.proofs.Common.{◌≡◌, ◌<◌, ◌≤◌, ◌^◌, IsTrue, sym, subst, arith}
 use Rattle.sat_trail.proofs.ChangeLemmas.{IsKept-decide, level-fits}
+use Rattle.sat_trail.proofs.FactLemmas.{IsTrail-grown}
 use Rattle.sat_trail.proofs.trail.Trail.decide.Goals as goal
 
 pub overflow_add-self : goal.overflow_add-self
@@ -8,7 +9,7 @@ overflow_add-self c =
     let room = c.len-self-inside.ensures.room in
     let none = rw (← c.self.view_is) at c.requires.no_value in
     let exists = rw (← c.self.view_is, c.self.invariant.same) at c.requires.exists in
-    omega (arith, room.few, room.more c.args.lit.var c.requires.from_one exists none, level-fits c.self.inside.index c.self.inside.set _ _ c.self.invariant.trail)
+    omega (arith, room.few, room.more c.args.lit.var c.requires.from_one exists none, level-fits c.self.inside.lists c.self.inside.set _ _ c.self.invariant.trail)
 
 pub invariant_of-self : goal.invariant_of-self
 invariant_of-self c =
@@ -17,7 +18,7 @@ invariant_of-self c =
 
 pub returns-clause-sound : goal.returns-clause-sound
 returns-clause-sound c =
-    (IsKept-decide _ _ _ _ _ _ _ c.args.lit _ (rw (← c.self.view_is) at c.requires.ready) c.self.invariant c.requires.from_one (rw (← c.self.view_is) at c.requires.exists)
+    IsTrail-grown _ (IsKept-decide _ _ _ _ _ _ _ c.args.lit _ (rw (← c.self.view_is) at c.requires.ready) c.self.invariant c.requires.from_one (rw (← c.self.view_is) at c.requires.exists)
     (rw (← c.self.view_is) at c.requires.no_value) c.push.ensures c.len-self-inside.ensures.count).trail
 
 pub returns-clause-room : goal.returns-clause-room

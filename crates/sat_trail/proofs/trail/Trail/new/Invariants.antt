@@ -3,4 +3,4 @@ use Rattle.std.proofs.Common.{◌≡◌, take}
 use Rattle.sat_trail.proofs.trail.Trail.new.Given as goal
 
 abbrev pub invariant-loop-clause : goal.invariant-loop-clause
-invariant-loop-clause l = (l.index.vars ≡ l.f.vars) × (l.index.clauses ≡ take l.clause-index l.f.clauses)
+invariant-loop-clause l = (l.lists.vars ≡ l.f.vars) × (l.lists.clauses ≡ take l.clause-index l.f.clauses)

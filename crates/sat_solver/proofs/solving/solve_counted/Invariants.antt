@@ -1,7 +1,0 @@
--- One clause was learned in each turn, and the set is over the variables of the trail.
-use Rattle.std.proofs.Common.{◌≡◌, length}
-use Rattle.sat_solver.specs.Progress.{HasLearned}
-use Rattle.sat_solver.proofs.solving.solve_counted.Given as goal
-
-abbrev pub invariant-loop : goal.invariant-loop
-invariant-loop l = HasLearned l.f l.trail l.steps × (length l.steps ≡ l.counter) × (l.clauses ≡ length l.trail.clauses) × (l.lits.set.vars ≡ l.trail.vars)

@@ -1,0 +1,6 @@
+pub mod Choice
+pub mod Search
+pub mod Progress
+pub mod LiteralSet
+pub mod Analysis
+pub mod Gathering

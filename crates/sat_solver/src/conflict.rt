@@ -1,0 +1,36 @@
+ghost use Rattle.std.specs.Prelude.{◌≡◌, ◌+◌, ◌^◌, ◌<◌, IfOk};
+ghost use Rattle.clause_core.specs.Propagation.{IsFalsified};
+ghost use Rattle.sat_trail.specs.Entry.{values_of};
+ghost use Rattle.sat_trail.specs.State.{numbering_of, last_number};
+ghost use Rattle.sat_trail.specs.Trail.{IsTrail};
+ghost use Rattle.sat_solver.specs.inner.Analysis.{Learns};
+
+use super::analysis::{Derivation, learn, lower_level};
+use super::false_lits::FalseLits;
+use list_base::NoMemory;
+use refutation_log::Chain;
+use sat_trail::Trail;
+use std::alloc::Global;
+
+/// Learns a clause from the false one, goes back to where it has one literal left, and adds it.
+pub fn learn_from(
+    alloc: Global,
+    trail: &mut Trail,
+    number: u32,
+    lits: &mut FalseLits,
+) -> Result<Chain, NoMemory>
+    requires sound { IsTrail trail.old }
+    requires falsified { let values = values_of trail.old.entries in
+        IsFalsified (numbering_of trail.old) values number }
+    requires above { 0 < trail.old.level }
+    requires few { last_number trail.old + 1 < 2 ^ 32 }
+    requires vars { lits.old.set.vars ≡ trail.old.vars }
+    ensures learns { IfOk result (Learns trail.old trail.new) }
+    ensures vars { lits.new.set.vars ≡ trail.old.vars }
+{
+    let Derivation { chain, clause } = learn(alloc, trail, number, lits)?;
+    let level = lower_level(trail, clause.lits());
+    trail.back_to(level);
+    trail.add(clause)?;
+    Ok(chain)
+}

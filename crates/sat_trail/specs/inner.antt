@@ -1,0 +1,4 @@
+pub mod Growth
+pub mod Examination
+pub mod Storage
+pub mod Propagation

@@ -1,0 +1,39 @@
+ghost use Rattle.std.specs.Prelude.{◌≡◌, IfOk};
+
+use clause_core::{Clause, ClauseList, Formula, Lit};
+use list_base::{NoMemory, Seq};
+use std::alloc::Global;
+
+/// The variable of the number, negated if the number is below zero.
+pub fn lit(number: i32) -> Lit {
+    Lit {
+        var: number.unsigned_abs(),
+        positive: number > 0,
+    }
+}
+
+/// The clause of the numbers' literals.
+pub fn clause(alloc: Global, numbers: &[i32]) -> Result<Clause, NoMemory> {
+    let mut lits = Seq::new(alloc);
+    for number in numbers {
+        lits.push(lit(*number))?;
+    }
+    Clause::of(alloc, lits.as_slice())
+}
+
+/// The formula of the clauses whose variables exist.
+pub fn formula(alloc: Global, vars: u32, clauses: &[&[i32]]) -> Result<Formula, NoMemory>
+    ensures { IfOk result (λ f. f.vars ≡ vars) }
+{
+    let mut kept: ClauseList = Seq::new(alloc);
+    for numbers in clauses {
+        let c = clause(alloc, numbers)?;
+        if c.is_over(vars) {
+            kept.push(c)?;
+        }
+    }
+    Ok(Formula {
+        vars,
+        clauses: kept,
+    })
+}
