@@ -1,6 +1,8 @@
-pub mod Apart
-pub mod Bindings
-pub mod KeyPlaces
-pub mod PaddedLemmas
-pub mod Pieces
-pub mod ValueLemmas
+mod DistinctLemmas
+mod Bindings
+mod KeyPlaces
+mod PaddedLemmas
+mod Pieces
+mod NumberLemmas
+mod ReadingLemmas
+mod SpellingLemmas

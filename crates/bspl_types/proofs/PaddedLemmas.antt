@@ -1,8 +1,8 @@
 -- What is written over the front of blank cells is padded.
-use Rattle.std.proofs.Common.{◌≡◌, ◌≤◌, ℕ, List, ◌++◌, length, drop, replicate, arith, length-append, length-drop, ap, ◌∙◌, sym}
+use Rattle.std.proofs.Common.{◌≡◌, ◌≤◌, ℕ, List, ◌++◌, length, take, drop, replicate, arith, length-append, length-drop, ap, ◌∙◌, sym}
 use Rattle.std.proofs.lemmas.List.{drop-replicate, length-replicate}
-use Rattle.std.proofs.Math.Seq.{drop-append_seam}
-use Rattle.bspl_types.specs.Padded.{IsPadded}
+use Rattle.std.proofs.Math.Seq.{drop-append_seam, take-append_seam}
+use Rattle.bspl_types.specs.inner.Padded.{IsPadded}
 
 -- so many items at the front, and blanks where nothing was written
 pub front_is_padded : {X : Type 0} (room : ℕ) (blank : X) (n : ℕ) (items : List X) → length items ≡ n → n ≤ room → IsPadded room blank n (items ++ drop n (replicate room blank))
@@ -12,3 +12,7 @@ front_is_padded room blank n items is_long fits =
       all = grind (arith, length-append, length-drop, length-replicate);
       rest = ap (λ k. drop k (items ++ drop n (replicate room blank))) (sym is_long) ∙ drop-append_seam items (drop n (replicate room blank)) ∙ drop-replicate n room blank;
     }
+
+-- what was written is at the front
+pub take_front : {X : Type 0} (items rest : List X) (n : ℕ) → length items ≡ n → take n (items ++ rest) ≡ items
+take_front items rest n is_long = ap (λ k. take k (items ++ rest)) (sym is_long) ∙ take-append_seam items rest

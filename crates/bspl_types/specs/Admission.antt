@@ -1,18 +1,13 @@
--- Which expansions are admitted: each message can be told apart by the whole key.
-use Rattle.std.specs.Prelude.{◌≡◌, ◌≢◌, ℕ, ◌<◌, List, length, IsTrue}
-use Rattle.std.specs.List.{All, AllPairs, Any}
+-- Which expansions are admitted: the key of an enactment is known from each of its messages.
+use Rattle.std.specs.Prelude.{◌≢◌, ℕ, ◌<◌, List, length}
+use Rattle.std.specs.List.{All, AllPairs}
 use Rattle.bspl_types.specs.declared.expanded.Expanded.{Expanded}
-use Rattle.bspl_types.specs.declared.protocol.Carried.{Carried}
 use Rattle.bspl_types.specs.declared.protocol.Message.{Message}
-use Rattle.bspl_types.specs.Adornment.{has_value}
+use Rattle.bspl_types.specs.Adornment.{Binds}
 
--- the parameter is among these, adorned `in` or `out`
-pub record Binds (carried : List Carried) (p : ℕ) : Type 0 where
-  pub among : Any (λ c. (c.param ≡ p) × IsTrue (has_value c.adornment)) carried
-
--- it goes to another role, its parameters are apart, and it binds each key
+-- it goes to another role, its parameters are distinct, and it binds each key
 pub record IsAdmittedMessage (keys : List ℕ) (m : Message) : Type 0 where
-  pub apart : m.sender ≢ m.receiver
+  pub two_roles : m.sender ≢ m.receiver
   pub distinct : AllPairs (λ c d. c.param ≢ d.param) m.carried
   pub whole_key : All (Binds m.carried) keys
 

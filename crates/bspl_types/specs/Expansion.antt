@@ -5,7 +5,7 @@ use Rattle.bspl_types.specs.declared.expanded.Expanded.{Expanded}
 use Rattle.bspl_types.specs.declared.protocol.Adornment.{Adornment}
 use Rattle.bspl_types.specs.declared.protocol.Message.{Message}
 
--- what stands past the last message: it carries nothing
+-- the message of a number past the last one: it carries nothing
 abbrev pub no_message : Message
 no_message = record { name = []; sender = 0; receiver = 0; carried = [] }
 

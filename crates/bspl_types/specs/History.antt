@@ -13,7 +13,7 @@ abbrev pub instance_of : Event → Instance
 instance_of (Emit i) = i
 instance_of (Receive i) = i
 
--- the sender of an emission, the receiver of a receipt
+-- the sender of an emission, or the receiver of a reception
 abbrev pub role_of : Expanded → Event → ℕ
 role_of x (Emit i) = (message_of x i.message).sender
 role_of x (Receive i) = (message_of x i.message).receiver

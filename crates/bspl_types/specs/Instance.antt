@@ -14,11 +14,11 @@ use Rattle.bspl_types.specs.KeyAgrees.{KeyAgrees}
 abbrev pub pairs : Expanded → Instance → List (Carried × Value)
 pairs x i = zip (valued (message_of x i.message).carried) i.values
 
--- the instance has the value for the parameter, which its message adorns so
+-- the instance has that value for the parameter, to which its message gives that adornment
 abbrev pub Carries : Expanded → Instance → Adornment → ℕ → Value → Type 0
 Carries x i adornment p v = Contains (pairs x i) (record { param = p; adornment = adornment }, v)
 
--- its message exists, it has a value for each parameter that wants one, and its key is the protocol's and its own
+-- its message exists, it has a value for each `in` and `out` parameter, and its key parameters have the key's values
 pub record Fits (x : Expanded) (i : Instance) : Type 0 where
   pub known : i.message < length x.messages
   pub each_value : length i.values ≡ length (valued (message_of x i.message).carried)

@@ -1,14 +1,16 @@
-pub mod Adornment
-pub mod Admission
-pub mod Expansion
-pub mod History
-pub mod Instance
-pub mod KeyAgrees
+-- Limits and names, protocols, values, instances, what a role knows, and admission.
 pub mod Limits
-pub mod Knowledge
 pub mod Name
-pub mod Padded
-pub mod Parts
-pub mod Pieces
+pub mod Adornment
 pub mod Shape
+pub mod Parts
+pub mod Text
 pub mod Value
+pub mod Spelling
+pub mod Expansion
+pub mod KeyAgrees
+pub mod Instance
+pub mod History
+pub mod Knowledge
+pub mod Admission
+pub mod inner

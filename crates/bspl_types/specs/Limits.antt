@@ -36,3 +36,7 @@ carried_limit = 16
 -- messages of the expansion
 abbrev pub message_limit : ℕ
 message_limit = 64
+
+-- bytes of a text that is a value
+abbrev pub value_text_limit : ℕ
+value_text_limit = 32

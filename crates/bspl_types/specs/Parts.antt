@@ -5,7 +5,8 @@ use Rattle.bspl_types.specs.declared.protocol.Message.{Message}
 use Rattle.bspl_types.specs.declared.protocol.ParamInfo.{ParamInfo}
 
 -- the expansion has these parts
-pub record HasParts (x : Expanded) (name : List ℕ) (roles : List (List ℕ)) (params : List ParamInfo) (public : ℕ) (messages : List Message) : Type 0 where
+pub record HasParts (x : Expanded) (name : List ℕ) (roles : List (List ℕ)) (params : List ParamInfo)
+    (public : ℕ) (messages : List Message) : Type 0 where
   pub same_name : x.name ≡ name
   pub same_roles : x.roles ≡ roles
   pub same_params : x.params ≡ params

@@ -1,4 +1,4 @@
--- What holds of every expansion: its numbers name what exists, its names are names and apart, its counts are within the limits.
+-- What holds of every expansion: roles and parameters exist, names are valid and distinct, counts are within the limits.
 use Rattle.std.specs.Prelude.{◌≡◌, ◌≢◌, ℕ, ◌<◌, ◌≤◌, Bool, false, List, map, length, take, drop, Option, Some, None, IsTrue}
 use Rattle.std.specs.List.{All, AllPairs, filter, enumerate_from}
 use Rattle.bspl_types.specs.declared.protocol.Adornment.{Adornment}
@@ -8,17 +8,17 @@ use Rattle.bspl_types.specs.Adornment.{has_value}
 use Rattle.bspl_types.specs.Limits.{role_limit, param_limit, key_limit, carried_limit, message_limit}
 use Rattle.bspl_types.specs.Name.{is_name}
 
--- each has a name, and no two have one name
+-- each has a valid name, and the names are distinct
 pub record AreNamed {X : Type 0} (name : X → List ℕ) (items : List X) : Type 0 where
   pub named : All (λ x. IsTrue (is_name (name x))) items
-  pub apart : AllPairs (λ x y. name x ≢ name y) items
+  pub distinct : AllPairs (λ x y. name x ≢ name y) items
 
 -- public, and adorned `in` or `out`
 abbrev pub is_public_value : Option Adornment → Bool
 is_public_value None = false
 is_public_value (Some adornment) = has_value adornment
 
--- exactly the first so many parameters are public, and only those adorned `in` or `out` are marked as keys
+-- exactly the first `public` parameters are adorned, and only those adorned `in` or `out` are marked as keys
 pub record IsDeclared (public : ℕ) (params : List ParamInfo) : Type 0 where
   pub some_public : 0 < public
   pub within : public ≤ length params
@@ -26,11 +26,11 @@ pub record IsDeclared (public : ℕ) (params : List ParamInfo) : Type 0 where
   pub private_bare : All (λ p. p.adornment ≡ None) (drop public params)
   pub keys_bound : All (λ p. IsTrue p.key → IsTrue (is_public_value p.adornment)) params
 
--- the places of the parameters that are marked as keys, in order
+-- the indices of the parameters that are marked as keys, in order
 abbrev pub key_indices : List ParamInfo → List ℕ
-key_indices params = map (λ (place, _). place) (filter (λ (_, p). p.key) (enumerate_from 0 params))
+key_indices params = map (λ (index, _). index) (filter (λ (_, p). p.key) (enumerate_from 0 params))
 
--- its roles and parameters exist, and it carries at least one parameter and not too many
+-- its roles and parameters exist, and it carries at least one parameter and at most the limit
 pub record IsMessageOf (roles params : ℕ) (m : Message) : Type 0 where
   pub known_sender : m.sender < roles
   pub known_receiver : m.receiver < roles
@@ -38,7 +38,7 @@ pub record IsMessageOf (roles params : ℕ) (m : Message) : Type 0 where
   pub some : 0 < length m.carried
   pub few : length m.carried ≤ carried_limit
 
--- there are not too many of each
+-- each count is at most its limit
 pub record IsWithinLimits (roles params keys messages : ℕ) : Type 0 where
   pub few_roles : roles ≤ role_limit
   pub few_params : params ≤ param_limit
@@ -46,7 +46,8 @@ pub record IsWithinLimits (roles params keys messages : ℕ) : Type 0 where
   pub few_messages : messages ≤ message_limit
 
 -- a well-formed expansion
-pub record IsWellFormed (name : List ℕ) (roles : List (List ℕ)) (params : List ParamInfo) (public : ℕ) (keys : List ℕ) (messages : List Message) : Type 0 where
+pub record IsWellFormed (name : List ℕ) (roles : List (List ℕ)) (params : List ParamInfo)
+    (public : ℕ) (keys : List ℕ) (messages : List Message) : Type 0 where
   pub named : IsTrue (is_name name)
   pub role_names : AreNamed (λ name. name) roles
   pub some_role : 0 < length roles

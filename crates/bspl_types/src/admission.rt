@@ -1,4 +1,4 @@
-ghost use Rattle.std.specs.Prelude.{◌≡◌, ◌↔◌, IsTrue, IfOk};
+ghost use Rattle.std.specs.Prelude.{◌≡◌, IfOk};
 ghost use Rattle.bspl_types.specs.Admission.{IsAdmitted};
 
 use super::expanded::Expanded;
@@ -12,10 +12,10 @@ pub struct Admitted {
 }
 
 impl Model for Admitted {
-    ghost use Rattle.bspl_types.specs.declared.expanded.Expanded.{Expanded as Protocol};
+    ghost use Rattle.bspl_types.specs.declared.expanded.Expanded.{Expanded as SpecExpanded};
     ghost use Rattle.bspl_types.specs.Admission.{IsAdmitted};
 
-    ghost Value = { Protocol };
+    ghost Value = { SpecExpanded };
 
     ghost view = { λ a. a.expanded };
 
@@ -23,7 +23,7 @@ impl Model for Admitted {
 }
 
 impl Admitted {
-    /// Admits the expansion. The test for this is `is_admitted`.
+    /// Admits the expansion. `adornment_check::admit` tests what this requires.
     pub fn seal(expanded: Expanded) -> Admitted
         requires { IsAdmitted expanded }
         ensures { result ≡ expanded }

@@ -19,15 +19,15 @@ pub struct Instance {
 impl Instance {
     ghost use Rattle.bspl_types.specs.Instance.{Fits};
 
-    /// Whether the message exists and the key and the values are such as it asks for.
+    /// Whether the message exists and its key and values fit the protocol.
     pub fn fits(&self, x: &Expanded) -> bool
         ensures { IsTrue result ↔ Fits x.now self.now }
     {
-        let place = self.message as usize;
-        if place >= x.messages.len() {
+        let index = self.message as usize;
+        if index >= x.messages.len() {
             return false;
         }
-        let carried = x.messages.at(place).carried.as_slice();
+        let carried = x.messages.at(index).carried.as_slice();
         let keys = x.keys.as_slice();
         self.key.len() == keys.len()
             && self.values.len() == count_valued(carried)

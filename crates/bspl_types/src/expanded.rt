@@ -8,10 +8,10 @@ use super::{Name, NameList, NumberList};
 use list_base::{NoMemory, Seq, TryClone};
 use std::alloc::Global;
 
-/// A protocol after expansion: messages alone, in order, with their parameters by place.
+/// A protocol after expansion: messages alone, in order, with their parameters by index.
 ///
-/// The first `public` entries of `params` are the public parameters; `keys` are the places of those
-/// that are marked as keys.
+/// The first `public` entries of `params` are the public parameters; `keys` are the indices of
+/// those that are marked as keys.
 #[derive(Drop)]
 pub struct Expanded {
     pub name: Name,
@@ -26,7 +26,7 @@ pub struct Expanded {
 impl Expanded {
     ghost use Rattle.bspl_types.specs.Parts.{HasParts};
 
-    /// The expansion with these parts, or nothing where they are not well formed.
+    /// The expansion with these parts, or nothing if they are not well formed.
     pub fn assemble(
         alloc: Global,
         name: Name,

@@ -1,14 +1,13 @@
 ghost use Rattle.std.specs.Prelude.{◌≡◌, ◌<◌, ◌≤◌, ◌↔◌, length, slice_get, Some, IsTrue};
+ghost use Rattle.std.specs.Cmp.{partial_equiv_from_equiv};
+ghost use Rattle.bspl_types.specs.Limits.{key_limit, carried_limit};
 ghost use Rattle.bspl_types.specs.Value.{equal_values};
+ghost use Rattle.bspl_types.specs.inner.Equality.{equal_values_laws, equal_values_writes, values_writes};
 
+use super::limits::{CARRIED_LIMIT, KEY_LIMIT};
 use super::value::{Value, are_equal};
+use std::hash::{Hash, Hasher};
 use std::marker::Model;
-
-/// The most values that a key has.
-pub const KEY_ROOM: usize = 4;
-
-/// The most values that an instance has.
-pub const VALUES_ROOM: usize = 16;
 
 const BLANK: Value = Value::Number(0);
 
@@ -17,39 +16,40 @@ const BLANK: Value = Value::Number(0);
 /// Contracts see a list.
 #[derive(Clone, Copy, Debug)]
 pub struct Key {
-    cells: [Value; 4],
+    cells: [Value; KEY_LIMIT],
     len: usize,
 }
 
 impl Model for Key {
     ghost use Rattle.std.specs.Prelude.{List, ℕ, ◌<◌, take, length};
-    ghost use Rattle.bspl_types.specs.declared.value.Value.{Value as Held};
+    ghost use Rattle.bspl_types.specs.declared.value.Value.{Value as SpecValue};
     ghost use Rattle.bspl_types.specs.declared.value.Value.TheVariants.{Number};
-    ghost use Rattle.bspl_types.specs.Padded.{padded, IsPadded, padded_items, length_items};
+    ghost use Rattle.bspl_types.specs.Limits.{key_limit};
+    ghost use Rattle.bspl_types.specs.inner.Padded.{padded, IsPadded, padded_items, length_items};
 
-    ghost Value = { List Held };
+    ghost Value = { List SpecValue };
 
     ghost view = { λ k. take k.len k.cells };
 
-    ghost invariant = { λ k. (0 < k.len) × IsPadded 4 (Number 0) k.len k.cells };
+    ghost invariant = { λ k. (0 < k.len) × IsPadded key_limit (Number 0) k.len k.cells };
 
-    ghost inverse = { λ xs. record { cells = padded 4 (Number 0) xs; len = length xs } };
+    ghost inverse = { λ xs. record { cells = padded key_limit (Number 0) xs; len = length xs } };
 
     ghost inverse_ok = { λ k is_key i. record {
-      cells = padded_items 4 (Number 0) k.len k.cells is_key.1 i;
-      len = length_items 4 (Number 0) k.len k.cells is_key.1 i;
+      cells = padded_items key_limit (Number 0) k.len k.cells is_key.1 i;
+      len = length_items key_limit (Number 0) k.len k.cells is_key.1 i;
     } };
 }
 
 impl Key {
     /// The key of these values.
     pub fn of(values: &[Value]) -> Key
-        requires few { length values.now ≤ 4 }
+        requires few { length values.now ≤ key_limit }
         requires some { 0 < length values.now }
         ensures { result ≡ values.now }
     {
         let len = values.len();
-        let mut cells = [BLANK; 4];
+        let mut cells = [BLANK; KEY_LIMIT];
         cells[..len].copy_from_slice(values);
         Key { cells, len }
     }
@@ -58,7 +58,7 @@ impl Key {
     pub fn as_slice(&self) -> &[Value]
         ensures values { result.now ≡ self.now }
         ensures some { 0 < length self.now }
-        ensures few { length self.now ≤ 4 }
+        ensures few { length self.now ≤ key_limit }
     {
         &self.cells[..self.len]
     }
@@ -70,7 +70,7 @@ impl Key {
         self.len
     }
 
-    /// The value at the place, from 0.
+    /// The value at the index, from 0.
     pub fn at(&self, i: usize) -> Value
         requires { i < length self.now }
         ensures { slice_get self.now i ≡ Some result }
@@ -87,41 +87,66 @@ impl Key {
     }
 }
 
+impl PartialEq for Key {
+    ghost eq = { equal_values };
+
+    ghost laws = { partial_equiv_from_equiv equal_values_laws };
+
+    fn eq(&self, other: &Key) -> bool {
+        are_equal(self.as_slice(), other.as_slice())
+    }
+}
+
+impl Eq for Key {
+    ghost laws = { equal_values_laws };
+}
+
+impl Hash for Key {
+    ghost hash_input = { values_writes };
+
+    ghost respects_eq = { equal_values_writes };
+
+    fn hash<H: Hasher>(&self, state: &mut H) {
+        self.as_slice().hash(state);
+    }
+}
+
 /// The values of an instance, in the order of its message. Contracts see a list.
 #[derive(Clone, Copy, Debug)]
 pub struct Values {
-    cells: [Value; 16],
+    cells: [Value; CARRIED_LIMIT],
     len: usize,
 }
 
 impl Model for Values {
     ghost use Rattle.std.specs.Prelude.{List, ℕ, take, length};
-    ghost use Rattle.bspl_types.specs.declared.value.Value.{Value as Held};
+    ghost use Rattle.bspl_types.specs.declared.value.Value.{Value as SpecValue};
     ghost use Rattle.bspl_types.specs.declared.value.Value.TheVariants.{Number};
-    ghost use Rattle.bspl_types.specs.Padded.{padded, IsPadded, padded_items, length_items};
+    ghost use Rattle.bspl_types.specs.Limits.{carried_limit};
+    ghost use Rattle.bspl_types.specs.inner.Padded.{padded, IsPadded, padded_items, length_items};
 
-    ghost Value = { List Held };
+    ghost Value = { List SpecValue };
 
     ghost view = { λ v. take v.len v.cells };
 
-    ghost invariant = { λ v. IsPadded 16 (Number 0) v.len v.cells };
+    ghost invariant = { λ v. IsPadded carried_limit (Number 0) v.len v.cells };
 
-    ghost inverse = { λ xs. record { cells = padded 16 (Number 0) xs; len = length xs } };
+    ghost inverse = { λ xs. record { cells = padded carried_limit (Number 0) xs; len = length xs } };
 
     ghost inverse_ok = { λ v is_padded i. record {
-      cells = padded_items 16 (Number 0) v.len v.cells is_padded i;
-      len = length_items 16 (Number 0) v.len v.cells is_padded i;
+      cells = padded_items carried_limit (Number 0) v.len v.cells is_padded i;
+      len = length_items carried_limit (Number 0) v.len v.cells is_padded i;
     } };
 }
 
 impl Values {
     /// These values, in place.
     pub fn of(values: &[Value]) -> Values
-        requires { length values.now ≤ 16 }
+        requires { length values.now ≤ carried_limit }
         ensures { result ≡ values.now }
     {
         let len = values.len();
-        let mut cells = [BLANK; 16];
+        let mut cells = [BLANK; CARRIED_LIMIT];
         cells[..len].copy_from_slice(values);
         Values { cells, len }
     }
@@ -129,7 +154,7 @@ impl Values {
     /// The values, in order.
     pub fn as_slice(&self) -> &[Value]
         ensures values { result.now ≡ self.now }
-        ensures few { length self.now ≤ 16 }
+        ensures few { length self.now ≤ carried_limit }
     {
         &self.cells[..self.len]
     }
@@ -148,7 +173,7 @@ impl Values {
         self.len == 0
     }
 
-    /// The value at the place, from 0.
+    /// The value at the index, from 0.
     pub fn at(&self, i: usize) -> Value
         requires { i < length self.now }
         ensures { slice_get self.now i ≡ Some result }
@@ -162,5 +187,29 @@ impl Values {
         ensures test { result ≡ equal_values self.now other.now }
     {
         are_equal(self.as_slice(), other.as_slice())
+    }
+}
+
+impl PartialEq for Values {
+    ghost eq = { equal_values };
+
+    ghost laws = { partial_equiv_from_equiv equal_values_laws };
+
+    fn eq(&self, other: &Values) -> bool {
+        are_equal(self.as_slice(), other.as_slice())
+    }
+}
+
+impl Eq for Values {
+    ghost laws = { equal_values_laws };
+}
+
+impl Hash for Values {
+    ghost hash_input = { values_writes };
+
+    ghost respects_eq = { equal_values_writes };
+
+    fn hash<H: Hasher>(&self, state: &mut H) {
+        self.as_slice().hash(state);
     }
 }

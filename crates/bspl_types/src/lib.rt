@@ -2,10 +2,13 @@
 #![tactic(auto)]
 
 mod admission;
-mod checks;
+mod buffer;
+mod envelope;
 mod event;
 mod expanded;
+mod field;
 mod key;
+mod laws;
 mod limits;
 mod named;
 mod names;
@@ -15,15 +18,18 @@ mod protocol;
 mod protocol_tests;
 mod refusals;
 mod shape;
+mod spelling;
 #[cfg(test)]
 mod tests;
+mod text;
 mod value;
 
 pub use admission::Admitted;
-pub use checks::is_admitted;
+pub use envelope::{Envelope, Stamped};
 pub use event::{Event, Instance, Run};
 pub use expanded::Expanded;
-pub use key::{KEY_ROOM, Key, VALUES_ROOM, Values};
+pub use key::{Key, Values};
+pub use laws::{equal_values_are_one, spells_once};
 pub use limits::{CARRIED_LIMIT, KEY_LIMIT, MESSAGE_LIMIT, PARAM_LIMIT, ROLE_LIMIT};
 pub use list_base::{Bytes, NoMemory, NumberList, Seq, TryClone};
 pub use named::{Named, are_named, index_of};
@@ -33,6 +39,7 @@ pub use protocol::{
 };
 pub use refusals::{Refusal, What};
 pub use shape::{is_well_formed, key_indices};
+pub use text::Text32;
 pub use value::{Value, are_equal};
 
 /// The bytes of a name.

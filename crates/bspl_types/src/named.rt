@@ -8,7 +8,7 @@ use super::names::is_name;
 use super::protocol::{Message, ParamInfo};
 use list_base::Seq;
 
-/// What has a name of its own.
+/// What has a name.
 pub trait Named {
     ghost use Rattle.std.specs.Prelude.{List, ℕ};
 
@@ -43,37 +43,40 @@ impl Named for Message {
     }
 }
 
-/// Whether each has a name, and no two have one name.
+/// Whether each has a valid name, and the names are distinct.
 pub fn are_named<T: Named>(items: &[T]) -> bool
     ensures { IsTrue result ↔ AreNamed T.name items.now }
 {
-    have_names(items) && have_own_names(items)
+    have_names(items) && have_distinct_names(items)
 }
 
-/// The place of the first that has the name.
+/// The index of the first that has the name.
 pub fn index_of<T: Named>(items: &[T], name: &[u8]) -> Option<usize>
     ensures { result ≡ position (λ x. bytes_eq (T.name x) name.now) items.now }
 {
     items.iter().position(|x| x.name() == name)
 }
 
+/// Whether each has a valid name.
 fn have_names<T: Named>(items: &[T]) -> bool
     ensures { IsTrue result ↔ All (λ x. IsTrue (is_name (T.name x))) items.now }
 {
     items.iter().all(|x| is_name(x.name()))
 }
 
-fn have_own_names<T: Named>(items: &[T]) -> bool
+/// Whether no two have one name.
+fn have_distinct_names<T: Named>(items: &[T]) -> bool
     ensures { IsTrue result ↔ AllPairs (λ x y. T.name x ≢ T.name y) items.now }
 {
-    for (place, item) in items.iter().enumerate() {
-        if has_name(&items[..place], item.name()) {
+    for (index, item) in items.iter().enumerate() {
+        if has_name(&items[..index], item.name()) {
             return false;
         }
     }
     true
 }
 
+/// Whether one of them has the name.
 fn has_name<T: Named>(items: &[T], name: &[u8]) -> bool
     ensures { IsTrue result ↔ Any (λ x. T.name x ≡ name.now) items.now }
 {

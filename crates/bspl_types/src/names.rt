@@ -4,7 +4,7 @@ ghost use Rattle.std.specs.Char.{is_ascii_digit};
 ghost use Rattle.std.specs.List.{list_all, position_or_len, slice_split};
 ghost use Rattle.std.specs.Option.{option_map};
 ghost use Rattle.std.specs.Str.{bytes_eq};
-ghost use Rattle.bspl_types.specs.Pieces.{StartsPieces};
+ghost use Rattle.bspl_types.specs.inner.Pieces.{StartsPieces};
 
 /// Whether the bytes are a name.
 #[tactic(auto, unfolding(crate::specs::Name::is_name))]
@@ -14,6 +14,7 @@ pub fn is_name(text: &[u8]) -> bool
     is_grouped(text) && !is_reserved(text)
 }
 
+/// Whether the bytes are a plain name and groups.
 fn is_grouped(text: &[u8]) -> bool
     ensures { result ≡ is_grouped (slice_split (λ b. b == 35) text.now) }
 {
@@ -25,6 +26,7 @@ fn is_grouped(text: &[u8]) -> bool
         }
 }
 
+/// Whether the text between each `#` and the next is a group.
 fn are_groups(text: &[u8]) -> bool
     ensures { result ≡ list_all is_group (slice_split (λ b. b == 35) text.now) }
 {
@@ -41,13 +43,13 @@ fn are_groups(text: &[u8]) -> bool
     }
 }
 
-/// What stands before the first `#`, and what stands after it.
+/// The text before the first `#`, and the text after it.
 #[tactic(auto, using(crate::proofs::Pieces::two_pieces, crate::proofs::Pieces::one_piece))]
 fn first_piece(text: &[u8]) -> (&[u8], Option<&[u8]>)
     ensures { StartsPieces (λ b. b == 35) text.now result.0.now
         (option_map (λ rest. rest.now) result.1) }
 {
-    let end = first_place(text, b'#');
+    let end = first_index(text, b'#');
     if end == text.len() {
         (text, None)
     } else {
@@ -72,6 +74,7 @@ pub fn begins_name(b: u8) -> bool
     b.is_ascii_alphabetic() || b == b'_'
 }
 
+/// Whether a name may go on with the bytes to its end.
 fn is_name_rest(text: &[u8]) -> bool
     ensures { result ≡ is_name_rest text.now }
 {
@@ -83,6 +86,7 @@ fn is_name_rest(text: &[u8]) -> bool
     true
 }
 
+/// Whether a name may go on with the byte before the rest.
 fn goes_on(b: u8, rest: &[u8]) -> bool
     ensures { result ≡ goes_on b rest.now }
 {
@@ -93,25 +97,28 @@ fn goes_on(b: u8, rest: &[u8]) -> bool
     }
 }
 
+/// Whether the bytes are a number, `.` and a plain name.
 fn is_group(text: &[u8]) -> bool
     ensures { result ≡ is_group text.now }
 {
-    let dot = first_place(text, b'.');
+    let dot = first_index(text, b'.');
     dot < text.len() && is_positive_number(&text[..dot]) && is_plain_name(&text[dot + 1..])
 }
 
-fn first_place(text: &[u8], wanted: u8) -> usize
-    ensures place { result ≡ position_or_len (λ b. b == wanted) text.now }
+/// The index of the first such byte, or the length.
+fn first_index(text: &[u8], wanted: u8) -> usize
+    ensures index { result ≡ position_or_len (λ b. b == wanted) text.now }
     ensures within { result ≤ length text.now }
 {
-    for (place, b) in text.iter().enumerate() {
+    for (index, b) in text.iter().enumerate() {
         if *b == wanted {
-            return place;
+            return index;
         }
     }
     text.len()
 }
 
+/// Whether the bytes are digits, the first of them not 0.
 fn is_positive_number(text: &[u8]) -> bool
     ensures { result ≡ is_positive_number text.now }
 {
@@ -121,7 +128,8 @@ fn is_positive_number(text: &[u8]) -> bool
     }
 }
 
-fn are_digits(text: &[u8]) -> bool
+/// Whether each byte is a digit.
+pub fn are_digits(text: &[u8]) -> bool
     ensures { result ≡ list_all is_ascii_digit text.now }
 {
     text.iter().all(|d| d.is_ascii_digit())
@@ -144,6 +152,7 @@ pub fn is_reserved(text: &[u8]) -> bool
         || is_word(text, b"key")
 }
 
+/// Whether the bytes are the word.
 fn is_word(text: &[u8], word: &[u8]) -> bool
     ensures { result ≡ bytes_eq text.now word.now }
 {

@@ -19,27 +19,28 @@ pub fn agree(keys: &[u32], key: &[Value], carried: &[Carried], values: &[Value])
     ensures { IsTrue result ↔
         All (KeyAgrees keys.now key.now) (zip (valued carried.now) values.now) }
 {
-    let mut left = values;
+    let mut remaining = values;
     for c in carried {
         if c.adornment.has_value() {
-            let Some((value, rest)) = left.split_first() else {
+            let Some((value, rest)) = remaining.split_first() else {
                 return true;
             };
             if !agrees(keys, key, *c, *value) {
                 return false;
             }
-            left = rest;
+            remaining = rest;
         }
     }
     true
 }
 
+/// Whether the parameter, if it is a key, has the key's value.
 fn agrees(keys: &[u32], key: &[Value], c: Carried, value: Value) -> bool
     requires { length key.now ≡ length keys.now }
     ensures { IsTrue result ↔ KeyAgrees keys.now key.now (c, value) }
 {
-    for (place, k) in keys.iter().enumerate() {
-        if *k == c.param && key[place] != value {
+    for (index, k) in keys.iter().enumerate() {
+        if *k == c.param && !key[index].same(&value) {
             return false;
         }
     }

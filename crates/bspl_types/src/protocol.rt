@@ -16,7 +16,7 @@ pub enum Adornment {
 }
 
 impl Adornment {
-    /// Whether an instance has a value for a parameter that is adorned so.
+    /// Whether an instance has a value for a parameter with this adornment.
     pub fn has_value(self) -> bool
         ensures { result ≡ has_value self }
     {
@@ -27,7 +27,7 @@ impl Adornment {
     }
 }
 
-/// A parameter of a message, by its place among the protocol's parameters.
+/// A parameter of a message, by its index in the protocol's parameters.
 #[derive(Clone, Copy, Debug)]
 pub struct Carried {
     pub param: u32,
@@ -37,7 +37,7 @@ pub struct Carried {
 /// The parameters of a message, in the order of its schema.
 pub type CarriedList = Seq<Carried>;
 
-/// A message schema. Roles are places among the protocol's roles.
+/// A message schema. Roles are indices in the protocol's roles.
 #[derive(Drop)]
 pub struct Message {
     pub name: Name,

@@ -1,6 +1,6 @@
 use super::{
     Admitted, Adornment, Carried, Event, Expanded, Instance, Key, Message, Name, NoMemory,
-    ParamInfo, Seq, TryClone, Value, Values, index_of, is_admitted,
+    ParamInfo, Seq, TryClone, Value, Values, index_of,
 };
 use std::alloc::Global;
 use std::process::Abort;

@@ -23,26 +23,26 @@ pub enum What {
     Messages,
 }
 
-/// Why a protocol text is not judged. Each variant but the last is printed with its code.
+/// Why a protocol text is refused. Each variant but the last is printed with its code.
 #[derive(Drop)]
 pub enum Refusal {
     /// E1: no token begins at that byte.
     Byte { offset: u64 },
-    /// E2: no grammatical text goes on so, or the text ends too early.
+    /// E2: no valid protocol has this token here, or the text ends too early.
     Syntax { offset: u64 },
     /// E3: no protocol has the name.
     NoProtocol { name: Name },
-    /// E4: an equal name stands before.
+    /// E4: the name is declared a second time.
     Duplicate { offset: u64 },
     /// E5: the name is not declared.
     Unknown { offset: u64 },
     /// E6: a reference has another number of roles or of parameters than declared.
     Arity { offset: u64 },
-    /// E7: `any` or `opt`, or another adornment in a reference than declared.
+    /// E7: `any` or `opt`, or an adornment in a reference that differs from the declared one.
     BadAdornment { offset: u64 },
     /// E8: the protocol refers to itself.
     Recursion { name: Name },
-    /// E9: there are too many.
+    /// E9: there are more than the limit.
     Limit { what: What, count: u64 },
     /// E10: no public parameter of the protocol is a key.
     NoKey,
@@ -54,14 +54,15 @@ pub enum Refusal {
     SelfMessage { message: Name },
     /// E14: the message has the parameter twice.
     RepeatedParam { message: Name, param: Name },
+    /// Memory ran out.
     NoMemory,
 }
 
 impl From<NoMemory> for Refusal {
     ghost use Rattle.std.specs.Prelude.{◌≡◌};
-    ghost use Rattle.bspl_types.specs.declared.refusals.Refusal.TheVariants.{NoMemory as OutOfMemory};
+    ghost use Rattle.bspl_types.specs.declared.refusals.Refusal.TheVariants.{NoMemory as SpecNoMemory};
 
-    ghost from_gives = { λ _ refusal. refusal ≡ OutOfMemory };
+    ghost from_gives = { λ _ refusal. refusal ≡ SpecNoMemory };
 
     fn from(_error: NoMemory) -> Refusal {
         Refusal::NoMemory

@@ -10,7 +10,7 @@ use super::{Name, NumberList, Seq};
 use list_base::NoMemory;
 use std::alloc::Global;
 
-/// Whether an expansion may have these parts, of which `keys` are the places of the keys.
+/// Whether an expansion may have these parts, of which `keys` are the indices of the keys.
 pub fn is_well_formed(
     name: &[u8],
     roles: &[Name],
@@ -35,7 +35,7 @@ pub fn is_well_formed(
         && are_messages_of(role_count, param_count, messages)
 }
 
-/// Whether exactly the first so many parameters are public, and the keys are among those that bind.
+/// Whether exactly the first `public` parameters are public, and each key is adorned `in` or `out`.
 fn is_declared(public: usize, params: &[ParamInfo]) -> bool
     ensures { IsTrue result ↔ IsDeclared public params.now }
 {
@@ -46,18 +46,21 @@ fn is_declared(public: usize, params: &[ParamInfo]) -> bool
     are_adorned(first) && are_bare(rest) && are_public_values(params)
 }
 
+/// Whether each is adorned.
 fn are_adorned(params: &[ParamInfo]) -> bool
     ensures { IsTrue result ↔ All (λ p. p.adornment ≢ None) params.now }
 {
     params.iter().all(|p| p.adornment.is_some())
 }
 
+/// Whether none is adorned.
 fn are_bare(params: &[ParamInfo]) -> bool
     ensures { IsTrue result ↔ All (λ p. p.adornment ≡ None) params.now }
 {
     params.iter().all(|p| p.adornment.is_none())
 }
 
+/// Whether each key is public, and adorned `in` or `out`.
 fn are_public_values(params: &[ParamInfo]) -> bool
     ensures { IsTrue result ↔ All (λ p. IsTrue p.key → IsTrue (is_public_value p.adornment)) params.now }
 {
@@ -66,6 +69,7 @@ fn are_public_values(params: &[ParamInfo]) -> bool
         .all(|p| !p.key || is_public_value(p.adornment))
 }
 
+/// Whether it is public, and adorned `in` or `out`.
 fn is_public_value(adornment: Option<Adornment>) -> bool
     ensures { result ≡ is_public_value adornment }
 {
@@ -75,45 +79,47 @@ fn is_public_value(adornment: Option<Adornment>) -> bool
     }
 }
 
-/// The places of the parameters that are marked as keys.
+/// The indices of the parameters that are marked as keys.
 pub fn key_indices(alloc: Global, params: &[ParamInfo]) -> Result<NumberList, NoMemory>
     requires { length params.now < 2 ^ 32 }
     ensures { IfOk result (λ keys. keys ≡ key_indices params.now) }
 {
     let mut keys = Seq::new(alloc);
-    for (place, p) in params.iter().enumerate() {
+    for (index, p) in params.iter().enumerate() {
         if p.key {
-            keys.push(place as u32)?;
+            keys.push(index as u32)?;
         }
     }
     Ok(keys)
 }
 
-/// Whether each message has its roles and parameters among so many, and carries as many as it may.
+/// Whether the roles and parameters of each message exist, and it carries as many as it may.
 fn are_messages_of(roles: usize, params: usize, messages: &[Message]) -> bool
     ensures { IsTrue result ↔ All (IsMessageOf roles params) messages.now }
 {
     messages.iter().all(|m| is_message_of(roles, params, m))
 }
 
+/// Whether its roles and parameters exist, and it carries as many as it may.
 fn is_message_of(roles: usize, params: usize, m: &Message) -> bool
     ensures { IsTrue result ↔ IsMessageOf roles params m.now }
 {
     let carried = m.carried.as_slice();
     (m.sender as usize) < roles
         && (m.receiver as usize) < roles
-        && have_places(params, carried)
+        && have_params(params, carried)
         && !carried.is_empty()
         && carried.len() <= CARRIED_LIMIT
 }
 
-fn have_places(params: usize, carried: &[Carried]) -> bool
+/// Whether each parameter exists.
+fn have_params(params: usize, carried: &[Carried]) -> bool
     ensures { IsTrue result ↔ All (λ c. c.param < params) carried.now }
 {
     carried.iter().all(|c| (c.param as usize) < params)
 }
 
-/// Whether there are not too many of each.
+/// Whether each count is within its limit.
 fn is_within_limits(roles: usize, params: usize, keys: usize, messages: usize) -> bool
     ensures { IsTrue result ↔ IsWithinLimits roles params keys messages }
 {

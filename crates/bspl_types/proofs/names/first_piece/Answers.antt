@@ -6,4 +6,4 @@ use Rattle.bspl_types.proofs.Pieces.{two_pieces}
 use Rattle.bspl_types.proofs.names.first_piece.Goals as goal
 
 pub returns-else-end-text : goal.returns-else-end-text
-returns-else-end-text c = two_pieces (λ b. b == 35) c.args.text.now c.first_place-end.result _ (take_rest c.args.text.now (c.first_place-end.result + 1)) c.first_place-end.ensures.place c.first_place-end.ensures.within c.if-end-text.false
+returns-else-end-text c = two_pieces (λ b. b == 35) c.args.text.now c.first_index-end.result _ (take_rest c.args.text.now (c.first_index-end.result + 1)) c.first_index-end.ensures.index c.first_index-end.ensures.within c.if-end-text.false

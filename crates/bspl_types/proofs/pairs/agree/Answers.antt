@@ -11,7 +11,7 @@ use Rattle.bspl_types.proofs.pairs.agree.Goals as goal
 use Rattle.bspl_types.proofs.pairs.agree.Goals.{then-has_value+in-Some+else-not-agrees, else-has_value}
 
 pub returns-in_default : goal.returns-in_default
-returns-in_default c = (λ _. holds_without_values (KeyAgrees c.args.keys.now c.args.key.now) _ (valued (drop c.loop-c.c-index c.args.carried.now)) c.loop-c.left.now c.in_default.ensures.cases c.loop-c.invariant, λ _. refl)
+returns-in_default c = (λ _. holds_without_values (KeyAgrees c.args.keys.now c.args.key.now) _ (valued (drop c.loop-c.c-index c.args.carried.now)) c.loop-c.remaining.now c.in_default.ensures.cases c.loop-c.invariant, λ _. refl)
 
 pub returns-then-not-agrees : goal.returns-then-not-agrees
 returns-then-not-agrees c =
@@ -30,13 +30,13 @@ loop-c-preserved c =
     let from_next = λ (left : List Value). All Agrees (zip (valued (drop (c.loop-c.c-index + 1) c.args.carried.now)) left) ↔ Whole in
     elim c.if-has_value.branch [
       | then-has_value+in-Some+else-not-agrees w ↦
-          subst from_next (sym (ap (λ left. left.now) w.left-is))
+          subst from_next (sym (ap (λ remaining. remaining.now) w.remaining-is))
           (keeps_agreeing Agrees Whole c.args.carried.now c.loop-c.c-index _ w.in-Some.value.now w.in-Some.rest.now c.loop-c-test.true (sym w.if-has_value.ensures)
           (w.if-not-agrees.ensures.0 refl) (subst from_left w.in-Some.ensures.cases.0 c.loop-c.invariant))
       | else-has_value w ↦
-          subst from_next (sym (ap (λ left. left.now) w.left-is))
+          subst from_next (sym (ap (λ remaining. remaining.now) w.remaining-is))
           (keeps_bare Agrees Whole c.args.carried.now c.loop-c.c-index _ _ c.loop-c-test.true (sym w.if-has_value.ensures) c.loop-c.invariant)
     ]
 
 pub returns : goal.returns
-returns c = (λ _. holds_at_end (KeyAgrees c.args.keys.now c.args.key.now) _ c.args.carried.now c.loop-c.c-index c.loop-c.left.now (omega arith) c.loop-c.invariant, λ _. refl)
+returns c = (λ _. holds_at_end (KeyAgrees c.args.keys.now c.args.key.now) _ c.args.carried.now c.loop-c.c-index c.loop-c.remaining.now (omega arith) c.loop-c.invariant, λ _. refl)

@@ -8,4 +8,4 @@ use Rattle.bspl_types.proofs.pairs.agree.Given as goal
 
 -- all agree where those that are left do
 abbrev pub invariant-loop-c : goal.invariant-loop-c
-invariant-loop-c l = All (KeyAgrees l.keys l.key) (zip (valued (drop l.c-index l.carried)) l.left) ↔ All (KeyAgrees l.keys l.key) (zip (valued l.carried) l.values)
+invariant-loop-c l = All (KeyAgrees l.keys l.key) (zip (valued (drop l.c-index l.carried)) l.remaining) ↔ All (KeyAgrees l.keys l.key) (zip (valued l.carried) l.values)

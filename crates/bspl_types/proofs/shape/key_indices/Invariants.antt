@@ -3,6 +3,6 @@ use Rattle.std.proofs.Common.{◌≡◌, take}
 use Rattle.bspl_types.specs.Shape.{key_indices}
 use Rattle.bspl_types.proofs.shape.key_indices.Given as goal
 
--- the places among the parameters so far
-abbrev pub invariant-loop-place : goal.invariant-loop-place
-invariant-loop-place l = l.keys ≡ key_indices (take l.place l.params)
+-- the keys among the parameters before the index
+abbrev pub invariant-loop-index : goal.invariant-loop-index
+invariant-loop-index l = l.keys ≡ key_indices (take l.index l.params)

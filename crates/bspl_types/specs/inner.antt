@@ -1,0 +1,4 @@
+pub mod Equality
+pub mod Padded
+pub mod Pieces
+pub mod Spelling
