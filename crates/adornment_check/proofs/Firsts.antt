@@ -6,7 +6,7 @@ use Rattle.std.proofs.lemmas.List.Elements.{All-more}
 use Rattle.std.proofs.lemmas.List.Quantifiers.{all_pairs_push}
 use Rattle.std.proofs.lemmas.Option.{slice_get-get_or}
 use Rattle.bspl_types.specs.declared.protocol.Carried.{Carried}
-use Rattle.bspl_types.specs.Admission.{Binds}
+use Rattle.bspl_types.specs.Adornment.{Binds}
 use Rattle.adornment_check.specs.Refusing.{AreApart, IsFirstRepeated, IsFirstMissing}
 
 -- what holds of the items that were passed holds of all once all were

@@ -9,7 +9,8 @@ use Rattle.bspl_types.specs.declared.protocol.Message.{Message}
 use Rattle.bspl_types.specs.declared.protocol.ParamInfo.{ParamInfo}
 use Rattle.bspl_types.specs.declared.refusals.Refusal.{Refusal}
 use Rattle.bspl_types.specs.declared.refusals.Refusal.TheVariants.{NotWholeKey, SelfMessage, RepeatedParam, NoMemory}
-use Rattle.bspl_types.specs.Admission.{Binds, IsAdmittedMessage}
+use Rattle.bspl_types.specs.Admission.{IsAdmittedMessage}
+use Rattle.bspl_types.specs.Adornment.{Binds}
 use Rattle.adornment_check.specs.Refusing.{AreApart, IsFirstMissing, IsFirstRepeated, IsMessageRefusal, IsNamed, Lacks, Repeats}
 
 -- what holds of the items before a place holds of each
@@ -101,7 +102,7 @@ one_reason keys params m r s (inr (inr one)) (inr (inr other)) =
 
 -- and none against a message that is admitted
 no_reason : (keys : List ℕ) (params : List ParamInfo) (m : Message) (r : Refusal) → IsAdmittedMessage keys m → IsReason keys params m r → ⊥
-no_reason keys params m r admitted (inl one) = admitted.apart one.1
+no_reason keys params m r admitted (inl one) = admitted.two_roles one.1
 no_reason keys params m r admitted (inr (inl one)) = never_apart m.carried one.2.p one.2.repeated admitted.distinct
 no_reason keys params m r admitted (inr (inr one)) = one.2.missing.missing (bound keys m one.2.p admitted.whole_key one.2.missing)
   where

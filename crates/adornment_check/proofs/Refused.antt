@@ -9,7 +9,8 @@ use Rattle.bspl_types.specs.declared.protocol.ParamInfo.{ParamInfo}
 use Rattle.bspl_types.specs.Shape.{IsMessageOf}
 use Rattle.bspl_types.specs.declared.refusals.Refusal.{Refusal}
 use Rattle.bspl_types.specs.declared.refusals.Refusal.TheVariants as refusals
-use Rattle.bspl_types.specs.Admission.{Binds, IsAdmittedMessage}
+use Rattle.bspl_types.specs.Admission.{IsAdmittedMessage}
+use Rattle.bspl_types.specs.Adornment.{Binds}
 use Rattle.adornment_check.specs.Refusing.{AreApart, IsMessageRefusal, RefusesMessage, RefusesBody, IsNotAdmitted}
 
 -- why a message is refused is why the expansion is
@@ -45,7 +46,7 @@ refused_at keys params messages i d refusal within passed refused =
 
 -- a message without a fault is admitted
 pub faultless : (keys : List ℕ) (m : Message) → m.sender ≢ m.receiver → AreApart m.carried → All (Binds m.carried) keys → IsAdmittedMessage keys m
-faultless keys m apart distinct whole = record { apart = apart; distinct = distinct; whole_key = whole }
+faultless keys m apart distinct whole = record { two_roles = apart; distinct = distinct; whole_key = whole }
 
 -- the messages that were passed are admitted, and so is one more
 pub admitted_more : (keys : List ℕ) (messages : List Message) (i : ℕ) (m : Message) → i < length messages → m ≡ get_or messages i m → All (IsAdmittedMessage keys) (take i messages) → IsAdmittedMessage keys m → All (IsAdmittedMessage keys) (take (i + 1) messages)

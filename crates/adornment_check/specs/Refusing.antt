@@ -7,7 +7,8 @@ use Rattle.bspl_types.specs.declared.protocol.Message.{Message}
 use Rattle.bspl_types.specs.declared.protocol.ParamInfo.{ParamInfo}
 use Rattle.bspl_types.specs.declared.refusals.Refusal.{Refusal}
 use Rattle.bspl_types.specs.declared.refusals.Refusal.TheVariants.{NoKey, NotWholeKey, SelfMessage, RepeatedParam, NoMemory}
-use Rattle.bspl_types.specs.Admission.{Binds, IsAdmittedMessage}
+use Rattle.bspl_types.specs.Admission.{IsAdmittedMessage}
+use Rattle.bspl_types.specs.Adornment.{Binds}
 
 -- the parameters are all different
 abbrev pub AreApart : List Carried → Type 0

@@ -4,8 +4,6 @@
 mod admitting;
 mod laws;
 mod message;
-#[cfg(test)]
-mod tests;
 
 pub use admitting::admit;
 pub use laws::refuses_once;

@@ -1,6 +1,7 @@
 ghost use Rattle.std.specs.Prelude.{◌≡◌, ◌≢◌, ◌<◌, ◌↔◌, length, IfOk, IfErr, IfSome, IfNone, OnOk, IsTrue, MatchOption};
 ghost use Rattle.std.specs.List.{All, Any};
-ghost use Rattle.bspl_types.specs.Admission.{Binds, IsAdmittedMessage};
+ghost use Rattle.bspl_types.specs.Admission.{IsAdmittedMessage};
+ghost use Rattle.bspl_types.specs.Adornment.{Binds};
 ghost use Rattle.adornment_check.specs.Refusing.{AreApart, IsFirstRepeated, IsFirstMissing, IsMessageRefusal, IsNamed, RefusesMessage};
 
 use bspl_types::{Carried, Message, Name, NoMemory, ParamInfo, Refusal, TryClone};

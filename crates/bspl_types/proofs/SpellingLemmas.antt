@@ -1,7 +1,7 @@
 -- The spelling of a byte is told from what follows it, and none begins with a quote.
 use Rattle.std.proofs.Common.{◌≡◌, ◌≢◌, ℕ, ◌+◌, ◌*◌, ◌/◌, ◌%◌, ◌<◌, ◌≤◌, ◌⊎◌, true, false, List, [], ◌∷◌, ◌++◌, length, length-append, length-take, take, get_or, min, refl, sym, ap, subst, ◌∙◌, inl, inr, arith, lt-ltb, le-ltb}
 use Rattle.std.specs.Fmt.{digit_glyph}
-use Rattle.std.specs.List.{All, flat_map}
+use Rattle.std.specs.List.{All}
 use Rattle.std.proofs.lemmas.Bool.{cases_Bool, cases_lt, cond-true, cond-false, false≢true}
 use Rattle.std.proofs.Math.Seq.{get_or-append_seam}
 use Rattle.std.proofs.lemmas.List.{append_assoc, append-nil}

@@ -1,5 +1,5 @@
 -- When two values, and two lists of values, are equal, and what a value can be.
-use Rattle.std.specs.Prelude.{◌≡◌, ◌↔◌, ℕ, IsTrue, Bool, false, ◌==◌, ◌<◌, ◌^◌, List, nat_eq}
+use Rattle.std.specs.Prelude.{◌≡◌, ◌↔◌, IsTrue, Bool, false, ◌==◌, ◌<◌, ◌^◌, List, nat_eq}
 use lib.Pointwise.{pointwise}
 use Rattle.bspl_types.specs.declared.value.Value.{Value}
 use Rattle.bspl_types.specs.declared.value.Value.TheVariants.{Number, Text}

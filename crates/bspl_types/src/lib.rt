@@ -14,13 +14,9 @@ mod named;
 mod names;
 mod pairs;
 mod protocol;
-#[cfg(test)]
-mod protocol_tests;
 mod refusals;
 mod shape;
 mod spelling;
-#[cfg(test)]
-mod tests;
 mod text;
 mod value;
 

@@ -18,7 +18,7 @@ use Rattle.list_base.proofs.Zipped.{flipped, mapped_same, seconds}
 pub formal_made : (params : List ParamInfo) (c : Carried) (p : ParamInfo) (b : Adorn) (w : Word) → AreNamed (λ p. p.name) params → c.param < length params → p ≡ get_or params c.param p → adornment_of b ≡ Some c.adornment → IsWordOf p.name w → IsFormalOf params c (record { adorn = b; offset = 0; name = w; key = None })
 formal_made params c p b w named within stands adorned word = record {
   carries = record {
-    place = subst (λ text. param_index params text ≡ Some c.param) (sym word.named) (own_index (λ (p : ParamInfo). p.name) params c.param p named.apart within stands);
+    place = subst (λ text. param_index params text ≡ Some c.param) (sym word.named) (own_index (λ (p : ParamInfo). p.name) params c.param p named.distinct within stands);
     adorned = adorned;
   };
   unkeyed = refl;
@@ -27,7 +27,7 @@ formal_made params c p b w named within stands adorned word = record {
 
 -- a role is found by its word
 role_met : (roles : List (List ℕ)) (k : ℕ) (role : List ℕ) (w : Word) → AreNamed (λ name. name) roles → k < length roles → role ≡ get_or roles k role → IsWordOf role w → role_index roles w.text ≡ Some k
-role_met roles k role w named within stands word = subst (λ text. role_index roles text ≡ Some k) (sym word.named) (own_index (λ name. name) roles k role named.apart within stands)
+role_met roles k role w named within stands word = subst (λ text. role_index roles text ≡ Some k) (sym word.named) (own_index (λ name. name) roles k role named.distinct within stands)
 
 -- a message, with the words for its roles, its name and its parameters
 pub schema_made : (roles : List (List ℕ)) (params : List ParamInfo) (m : Message) (sender receiver : List ℕ) (from to name : Word) (formals : List Formal) →

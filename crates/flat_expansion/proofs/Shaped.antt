@@ -40,7 +40,7 @@ words_apart words apart = mapped_pairs (λ a b. a ≢ b) (λ (w : Word). w.text)
 named_as : {X : Type 0} (name : X → List ℕ) (xs : List X) (words : List Word) → map name xs ≡ texts words → AreDistinct words → AreNamed name xs
 named_as name xs words same apart = record {
   named = all_of_mapped (λ n. IsTrue (is_name n)) name xs (subst (All (λ n. IsTrue (is_name n))) (sym same) (words_named words));
-  apart = pairs_of_mapped (λ a b. a ≢ b) name xs (subst (AllPairs (λ a b. a ≢ b)) (sym same) (words_apart words apart));
+  distinct = pairs_of_mapped (λ a b. a ≢ b) name xs (subst (AllPairs (λ a b. a ≢ b)) (sym same) (words_apart words apart));
 }
 
 -- the parameters have the names that are declared
@@ -119,7 +119,7 @@ counted d ms within long = record {
 pub shape_of : (d : Declaration) (ms : List Message) → IsWellScoped d → AllZip (IsMessageOfItem (texts d.roles) (params_of d)) d.body ms → All (IsMessageOf (length (texts d.roles)) (length (params_of d))) ms → IsWellFormed d.name.text (texts d.roles) (params_of d) (length d.public) (key_indices (params_of d)) ms
 shape_of d ms ready images each = record {
   named = d.name.named;
-  role_names = record { named = words_named d.roles; apart = words_apart d.roles ready.apart.roles };
+  role_names = record { named = words_named d.roles; distinct = words_apart d.roles ready.apart.roles };
   some_role = omega (arith, length-map d.roles (λ (w : Word). w.text), some_items d.roles ready.formed.some_role);
   param_names = named_as (λ (p : ParamInfo). p.name) (params_of d) (param_words d) (param_texts d.public d.private) ready.apart.params;
   message_names = named_as (λ (m : Message). m.name) ms (message_words d) (message_texts (texts d.roles) (params_of d) d d.body ms images) ready.apart.messages;

@@ -2,10 +2,18 @@
 #![tactic(auto)]
 
 #[cfg(test)]
+mod adornment_check_tests;
+#[cfg(test)]
 mod bspl_io_tests;
 #[cfg(test)]
 mod bspl_parser_refusal_tests;
 #[cfg(test)]
 mod bspl_parser_tests;
 #[cfg(test)]
+mod bspl_types_tests;
+#[cfg(test)]
 mod enactment_model_tests;
+#[cfg(test)]
+mod expanded_tests;
+#[cfg(test)]
+mod list_base_tests;

@@ -23,8 +23,8 @@ names_apart name xs words same apart = record {
 -- its messages have names of their own, and so have its parameters
 pub own_names : (d : Declaration) (x : Expanded) → IsExpansionOf d x → AreOwn d
 own_names d x expands = record {
-  messages = names_apart (λ (m : Message). m.name) x.messages (message_words d) (declared_messages d x expands) x.shape.message_names.apart;
-  params = names_apart (λ (p : ParamInfo). p.name) x.params (param_words d) (declared_params d x expands) x.shape.param_names.apart;
+  messages = names_apart (λ (m : Message). m.name) x.messages (message_words d) (declared_messages d x expands) x.shape.message_names.distinct;
+  params = names_apart (λ (p : ParamInfo). p.name) x.params (param_words d) (declared_params d x expands) x.shape.param_names.distinct;
 }
 
 -- so no name is repeated

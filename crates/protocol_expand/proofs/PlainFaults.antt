@@ -104,7 +104,7 @@ good_item protocols roles params p role_names param_names (item.Message s) m bar
 good_names : (p : Declaration) (x : Expanded) → IsExpansionOf p x → HasNone (IsNamedTwice p)
 good_names p x expands =
     none_of_two (IsDuplicate p.roles) (EitherFault (IsDuplicate (param_words p)) (IsDuplicate (message_words p)))
-    (none_twice p.roles (names_apart (λ name. name) x.roles p.roles (map_itself x.roles ∙ expands.roles) x.shape.role_names.apart))
+    (none_twice p.roles (names_apart (λ name. name) x.roles p.roles (map_itself x.roles ∙ expands.roles) x.shape.role_names.distinct))
     (none_of_two (IsDuplicate (param_words p)) (IsDuplicate (message_words p))
     (none_twice (param_words p) (own_names p x expands).params)
     (none_twice (message_words p) (own_names p x expands).messages))

@@ -1,7 +1,8 @@
 -- Nothing that speaks against the message was found.
 use Rattle.std.proofs.Common.{rules, ◌≡◌, ◌≢◌, ℕ, subst}
 use Rattle.std.specs.List.{All}
-use Rattle.bspl_types.specs.Admission.{Binds, IsAdmittedMessage}
+use Rattle.bspl_types.specs.Admission.{IsAdmittedMessage}
+use Rattle.bspl_types.specs.Adornment.{Binds}
 use Rattle.adornment_check.specs.Refusing.{AreApart}
 use Rattle.adornment_check.proofs.Refused.{faultless}
 use Rattle.adornment_check.proofs.message.check.Goals as goal

@@ -1,7 +1,7 @@
 -- The keys that were passed are bound.
 use Rattle.std.proofs.Common.{◌≡◌, ℕ, take}
 use Rattle.std.specs.List.{All}
-use Rattle.bspl_types.specs.Admission.{Binds}
+use Rattle.bspl_types.specs.Adornment.{Binds}
 use Rattle.adornment_check.proofs.message.first_missing.Given as goal
 
 abbrev pub invariant-loop-key : goal.invariant-loop-key

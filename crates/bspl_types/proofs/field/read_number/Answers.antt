@@ -1,6 +1,6 @@
 -- A number of 64 bits is spelled by a numeral of its value, and by no other field.
-use Rattle.std.proofs.Common.{◌≡◌, ◌^◌, decimal, ap, sym, subst, ◌∙◌, arith}
-use Rattle.std.proofs.lemmas.Bool.{iff_false, false≢true}
+use Rattle.std.proofs.Common.{decimal, ap, sym, subst, ◌∙◌, arith}
+use Rattle.std.proofs.lemmas.Bool.{iff_false}
 use Rattle.bspl_types.specs.inner.Spelling.{IsNumeral}
 use Rattle.bspl_types.proofs.NumberLemmas.{decimal_is_numeral, numeral_is_decimal, value_of_decimal}
 use Rattle.bspl_types.proofs.field.read_number.Goals as goal

@@ -1,5 +1,5 @@
 -- What was read is the text, or the beginning of each text that the field may spell.
-use Rattle.std.proofs.Common.{rules, ◌≡◌, ◌≢◌, ℕ, ◌+◌, ◌<◌, List, [], ◌∷◌, ◌++◌, None, MatchOption, length, get_or, ap, sym, subst, ◌∙◌, arith}
+use Rattle.std.proofs.Common.{ℕ, List, [], ◌∷◌, ◌++◌, MatchOption, ap, sym, subst, ◌∙◌, arith}
 use Rattle.std.proofs.lemmas.Bool.{iff_false}
 use Rattle.bspl_types.specs.inner.Spelling.{spelled_bytes, SpellsText}
 use Rattle.bspl_types.proofs.SpellingLemmas.{no_text_left, no_room_left}

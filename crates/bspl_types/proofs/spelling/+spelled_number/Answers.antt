@@ -1,5 +1,5 @@
 -- A number is the number without its last digit, and that digit.
-use Rattle.std.proofs.Common.{rules, ◌≡◌, ◌/◌, ◌%◌, ◌++◌, ◌∷◌, [], decimal, length, ap, sym, ◌∙◌, arith}
+use Rattle.std.proofs.Common.{rules, ◌/◌, length, ap, arith}
 use Rattle.std.proofs.lemmas.Fmt.{decimal_digit, decimal_step, length-decimal-le}
 use Rattle.bspl_types.proofs.spelling.+spelled_number.Goals as goal
 

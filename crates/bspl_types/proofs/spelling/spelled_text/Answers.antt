@@ -1,5 +1,5 @@
 -- There is room for three bytes more, and for the closing quote.
-use Rattle.std.proofs.Common.{length, take, ap, arith}
+use Rattle.std.proofs.Common.{length, ap, arith}
 use Rattle.bspl_types.proofs.SpellingLemmas.{length-spelled_bytes}
 use Rattle.bspl_types.proofs.spelling.spelled_text.Goals as goal
 

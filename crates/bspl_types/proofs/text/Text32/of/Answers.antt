@@ -1,5 +1,5 @@
 -- The copied bytes stand before blank cells.
-use Rattle.std.proofs.Common.{rules, ◌≡◌, List, ◌++◌, length, take, drop, get_or, ap, sym, subst, ◌∙◌, arith}
+use Rattle.std.proofs.Common.{length, ap, sym, subst, ◌∙◌, arith}
 use Rattle.std.proofs.lemmas.List.{get_or_default}
 use Rattle.bspl_types.specs.Limits.{value_text_limit}
 use Rattle.bspl_types.specs.Text.{IsText}

@@ -1,8 +1,7 @@
 -- A field that begins with a quote spells no number.
-use Rattle.std.proofs.Common.{◌≡◌, List, [], ◌∷◌, ◌++◌, sym, ap, ◌∙◌}
+use Rattle.std.proofs.Common.{[], ◌∷◌}
 use Rattle.std.proofs.lemmas.Bool.Decides.{Decides-eqb}
 use Rattle.std.proofs.lemmas.Slice.Eq.{strip_prefix_is}
-use Rattle.bspl_types.specs.declared.value.Value.TheVariants.{Number, Text}
 use Rattle.bspl_types.proofs.ReadingLemmas.{no_value}
 use Rattle.bspl_types.proofs.value.Value.read.Goals as goal
 

@@ -1,5 +1,6 @@
-use super::{
-    Admitted, Adornment, Carried, Event, Expanded, Instance, Key, Message, Name, NoMemory,
+use adornment_check::admit;
+use bspl_types::{
+    Adornment, Carried, Event, Expanded, Instance, Key, Message, Name, NoMemory,
     ParamInfo, Seq, TryClone, Value, Values, index_of,
 };
 use std::alloc::Global;
@@ -47,7 +48,7 @@ const SCHEMA: Schema = (b"ping", 0, 1, &[OUT_ID]);
 
 const PING: &[Schema] = &[SCHEMA];
 
-/// Parts, and whether the protocol is admitted, or nothing where they are not well formed.
+/// Parts, and whether the protocol is admitted, or nothing if they are not well formed.
 const ROWS: &[(Parts, Option<bool>)] = &[
     ((AB, &[ID], 1, PING), Some(true)),
     ((EIGHT, &[ID], 1, PING), Some(true)),
@@ -125,16 +126,16 @@ fn assemble(alloc: Global, parts: Parts) -> Result<Option<Expanded>, NoMemory> {
     Expanded::assemble(alloc, protocol, roles, params, parts.2, messages)
 }
 
-/// Whether the protocol is admitted; nothing where the parts are not well formed.
+/// Whether the protocol is admitted; nothing if the parts are not well formed.
 fn admits(alloc: Global, parts: Parts) -> Result<Option<bool>, NoMemory> {
     let Some(x) = assemble(alloc, parts)? else {
         return Ok(None);
     };
-    if !is_admitted(&x) {
+    let Ok(admitted) = admit(x) else {
         return Ok(Some(false));
-    }
-    let copy = Admitted::seal(x).copy()?;
-    Ok(Some(is_admitted(copy.expanded())))
+    };
+    let copy = admitted.copy()?;
+    Ok(Some(admit(copy.expanded().try_clone()?).is_ok()))
 }
 
 #[test]
@@ -147,7 +148,7 @@ fn protocols_are_refused_or_admitted(rt: HostRuntime) -> Result<(), Fail> {
 }
 
 #[test]
-fn parts_have_their_places(rt: HostRuntime) -> Result<(), Fail> {
+fn parts_have_their_indices(rt: HostRuntime) -> Result<(), Fail> {
     let parts: Parts = (AB, &[ITEM, ID], 2, PING);
     let x = assemble(rt.alloc(), parts)?.ok_or("the parts are refused")?;
     assert_eq!(rt; x.keys.as_slice(), [1].as_slice());
@@ -157,7 +158,7 @@ fn parts_have_their_places(rt: HostRuntime) -> Result<(), Fail> {
     Ok(())
 }
 
-/// The instance, where there is room for its key and values.
+/// The instance, if there is room for its key and values.
 fn instance(message: u32, key: &[Value], values: &[Value]) -> Option<Instance> {
     if key.is_empty() || key.len() > 4 || values.len() > 16 {
         return None;

@@ -1,4 +1,4 @@
-use super::admit;
+use adornment_check::admit;
 use bspl_types::Adornment::{In, Nil, Out};
 use bspl_types::{
     Adornment, Carried, Expanded, Message, Name, NameList, NoMemory, ParamInfo, Refusal, Seq,
@@ -6,7 +6,7 @@ use bspl_types::{
 use std::alloc::Global;
 use std::test::Fail;
 
-/// A message from one role to another, with its parameters by place: 0 is `ID` and 1 is `K`, both
+/// A message from one role to another, with its parameters by index: 0 is `ID` and 1 is `K`, both
 /// keys, and 2 and 3 are `x` and `y`.
 type Row = (&'static [u8], u32, u32, &'static [(u32, Adornment)]);
 
