@@ -2,20 +2,14 @@ use bspl_types::{Bytes, Key, Text32, Value, Values, is_name};
 use std::collections::HashMap;
 use std::test::Fail;
 
-const ZERO: Value = Value::Number(0);
-
-const ONE: Value = Value::Number(1);
-
-const LARGEST: Value = Value::Number(u64::MAX);
-
-/// Lists of values that are keys, no two of them alike.
-const LISTS: &[&[Value]] = &[
-    &[ZERO],
-    &[ONE],
-    &[ONE, ZERO],
-    &[ZERO, ONE],
-    &[ONE, ZERO, ZERO],
-    &[ONE, ZERO, ZERO, LARGEST],
+/// Lists of numbers that are keys, no two of them equal.
+const LISTS: &[&[u64]] = &[
+    &[0],
+    &[1],
+    &[1, 0],
+    &[0, 1],
+    &[1, 0, 0],
+    &[1, 0, 0, u64::MAX],
 ];
 
 /// A value, by its number or its bytes.
@@ -134,27 +128,54 @@ const OTHERS: &[&[u8]] = &[
     b"key",
 ];
 
+/// The numbers as values, if there are as many as a key has.
+fn cells(numbers: &[u64]) -> Option<[Value; 4]> {
+    if numbers.is_empty() || numbers.len() > 4 {
+        return None;
+    }
+    let mut cells = [Value::Number(0); 4];
+    for (index, number) in numbers.iter().enumerate() {
+        cells[index] = Value::Number(*number);
+    }
+    Some(cells)
+}
+
+/// The key of these numbers, if it has one to four.
+fn key(numbers: &[u64]) -> Option<Key> {
+    let cells = cells(numbers)?;
+    if numbers.is_empty() || numbers.len() > 4 {
+        return None;
+    }
+    Some(Key::of(&cells[..numbers.len()]))
+}
+
+/// The values of these numbers, if there are one to four.
+fn values(numbers: &[u64]) -> Option<Values> {
+    let cells = cells(numbers)?;
+    if numbers.len() > 4 {
+        return None;
+    }
+    Some(Values::of(&cells[..numbers.len()]))
+}
+
 #[test]
-fn keys_and_values_are_told_apart(rt: HostRuntime) {
+fn keys_and_values_are_distinct(rt: HostRuntime) -> Result<(), Fail> {
     for (i, list) in LISTS.iter().enumerate() {
-        assert!(rt; !list.is_empty() && list.len() <= 4);
-        let (key, values) = (Key::of(list), Values::of(list));
-        assert_eq!(rt; key.as_slice(), *list);
-        assert_eq!(rt; values.as_slice(), *list);
-        assert_eq!(rt; key.len() - 1, values.len() - 1);
-        assert_eq!(rt; key.at(key.len() - 1), values.at(values.len() - 1));
+        let one = key(list).ok_or("no key")?;
+        let own = values(list).ok_or("no values")?;
+        assert_eq!(rt; one.as_slice(), own.as_slice());
+        assert_eq!(rt; one.len(), list.len());
         for (j, other) in LISTS.iter().enumerate() {
-            assert!(rt; !other.is_empty() && other.len() <= 4);
-            assert_eq!(rt; key.same(&Key::of(other)), i == j, "key {i} and key {j}");
-            assert_eq!(rt;
-                values.same(&Values::of(other)),
-                i == j,
-                "values {i} and {j}"
-            );
+            let other_key = key(other).ok_or("no key")?;
+            let other_values = values(other).ok_or("no values")?;
+            assert_eq!(rt; one.same(&other_key), i == j, "key {i} and key {j}");
+            assert_eq!(rt; one == other_key, i == j, "key {i} and key {j}");
+            assert_eq!(rt; own.same(&other_values), i == j, "values {i} and {j}");
         }
     }
     assert!(rt; Values::of(&[]).is_empty());
-    assert_eq!(rt; Values::of(&[ONE; 16]).len(), 16);
+    assert_eq!(rt; Values::of(&[Value::Number(1); 16]).len(), 16);
+    Ok(())
 }
 
 #[test]
@@ -184,7 +205,11 @@ fn values_have_one_spelling(rt: HostRuntime) -> Result<(), Fail> {
         assert_eq!(rt; Value::read(field), Some(value), "the field in row {row}");
         let mut text = Bytes::from_slice(rt.alloc(), b"x=")?;
         value.write(&mut text)?;
-        assert_eq!(rt; text.as_slice().strip_prefix(b"x="), Some(*field), "the value in row {row}");
+        assert_eq!(rt;
+            text.as_slice().strip_prefix(b"x="),
+            Some(*field),
+            "the value in row {row}"
+        );
     }
     for (row, field) in NO_SPELLINGS.iter().enumerate() {
         assert_eq!(rt; Value::read(field), None, "the field in row {row}");
@@ -206,19 +231,18 @@ fn texts_are_held_in_place(rt: HostRuntime) {
 fn keys_are_found_by_their_hash(rt: HostRuntime) -> Result<(), Fail> {
     let mut numbers = HashMap::new(rt.alloc());
     for (number, list) in LISTS.iter().enumerate() {
-        assert!(rt; !list.is_empty() && list.len() <= 4);
-        numbers.insert(Key::of(list), number)?;
+        numbers.insert(key(list).ok_or("no key")?, number)?;
     }
     for (number, list) in LISTS.iter().enumerate() {
-        assert!(rt; !list.is_empty() && list.len() <= 4);
-        assert_eq!(rt; numbers.get(&Key::of(list)), Some(&number), "the key {number}");
+        let key = key(list).ok_or("no key")?;
+        assert_eq!(rt; numbers.get(&key), Some(&number), "the key {number}");
     }
-    assert_eq!(rt; numbers.get(&Key::of(&[ZERO, ZERO])), None);
+    assert_eq!(rt; numbers.get(&key(&[0, 0]).ok_or("no key")?), None);
 
     let text = Key::of(&[Value::Text(Text32::of(b"1"))]);
     assert_eq!(rt; numbers.get(&text), None);
     numbers.insert(text, 99)?;
     assert_eq!(rt; numbers.get(&text), Some(&99));
-    assert_eq!(rt; numbers.get(&Key::of(&[ONE])), Some(&1));
+    assert_eq!(rt; numbers.get(&key(&[1]).ok_or("no key")?), Some(&1));
     Ok(())
 }

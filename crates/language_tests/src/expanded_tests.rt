@@ -1,7 +1,7 @@
 use adornment_check::admit;
 use bspl_types::{
-    Adornment, Carried, Event, Expanded, Instance, Key, Message, Name, NoMemory,
-    ParamInfo, Seq, TryClone, Value, Values, index_of,
+    Adornment, Carried, Event, Expanded, Instance, Key, Message, Name, NoMemory, ParamInfo, Seq,
+    TryClone, Value, Values, index_of,
 };
 use std::alloc::Global;
 use std::process::Abort;
@@ -82,18 +82,15 @@ const ROWS: &[(Parts, Option<bool>)] = &[
     ((AB, &[ID], 1, &[SCHEMA, SCHEMA]), None),
 ];
 
-const SEVEN: Value = Value::Number(7);
-
-const OTHER: Value = Value::Number(8);
-
-/// Instances that do not fit the protocol of ping alone: the message, the key and the values.
-const MISFITS: &[(u32, &[Value], &[Value])] = &[
-    (1, &[SEVEN], &[SEVEN]),
-    (0, &[OTHER], &[SEVEN]),
-    (0, &[SEVEN, SEVEN], &[SEVEN]),
-    (0, &[SEVEN], &[OTHER]),
-    (0, &[SEVEN], &[SEVEN, SEVEN]),
-    (0, &[SEVEN], &[]),
+/// Instances that do not fit the protocol of ping alone: the message, and the numbers of the key and
+/// of the values.
+const MISFITS: &[(u32, &[u64], &[u64])] = &[
+    (1, &[7], &[7]),
+    (0, &[8], &[7]),
+    (0, &[7, 7], &[7]),
+    (0, &[7], &[8]),
+    (0, &[7], &[7, 7]),
+    (0, &[7], &[]),
 ];
 
 fn name(alloc: Global, text: &[u8]) -> Result<Name, NoMemory> {
@@ -158,16 +155,27 @@ fn parts_have_their_indices(rt: HostRuntime) -> Result<(), Fail> {
     Ok(())
 }
 
-/// The instance, if there is room for its key and values.
-fn instance(message: u32, key: &[Value], values: &[Value]) -> Option<Instance> {
-    if key.is_empty() || key.len() > 4 || values.len() > 16 {
+/// The instance, if there are at most two numbers of each, and one of the key.
+fn instance(message: u32, key: &[u64], values: &[u64]) -> Option<Instance> {
+    let (keys, bound) = (cells(key)?, cells(values)?);
+    if key.is_empty() || key.len() > 2 || values.len() > 2 {
         return None;
     }
     Some(Instance {
         message,
-        key: Key::of(key),
-        values: Values::of(values),
+        key: Key::of(&keys[..key.len()]),
+        values: Values::of(&bound[..values.len()]),
     })
+}
+
+/// The numbers as values, if there are at most two.
+fn cells(numbers: &[u64]) -> Option<[Value; 2]> {
+    match numbers {
+        [] => Some([Value::Number(0); 2]),
+        [first] => Some([Value::Number(*first), Value::Number(0)]),
+        [first, second] => Some([Value::Number(*first), Value::Number(*second)]),
+        _ => None,
+    }
 }
 
 fn none_fits(rt: &impl Abort, x: &Expanded, ping: &Instance) -> Result<(), Fail> {
@@ -183,7 +191,7 @@ fn none_fits(rt: &impl Abort, x: &Expanded, ping: &Instance) -> Result<(), Fail>
 fn instances_fit_their_protocol(rt: HostRuntime) -> Result<(), Fail> {
     let parts: Parts = (AB, &[ID], 1, PING);
     let x = assemble(rt.alloc(), parts)?.ok_or("the parts are refused")?;
-    let ping = instance(0, &[SEVEN], &[SEVEN]).ok_or("there is no room")?;
+    let ping = instance(0, &[7], &[7]).ok_or("there is no room")?;
     assert!(rt; ping.fits(&x) && ping.same(&ping));
     assert_eq!(rt; Event::Emit(ping).role(&x), 0);
     assert_eq!(rt; Event::Receive(ping).role(&x), 1);
