@@ -9,11 +9,12 @@ use Rattle.bspl_types.specs.declared.value.Value.{Value}
 use Rattle.bspl_types.specs.Expansion.{message_of}
 use Rattle.bspl_types.specs.History.{instance_of}
 use Rattle.bspl_types.specs.Instance.{Fits}
+use Rattle.bspl_types.specs.Value.{EqualValuesAreOne}
 use Rattle.enactment_model.specs.Legal.{IsLegalRun}
 use Rattle.enactment_model.specs.Liveness.{IsEmitted, Quiet}
 use Rattle.enactment_model.specs.Projection.{KeepsEnactment, run_under}
 use Rattle.enactment_model.proofs.PositionLemmas.{act_in_part, conflict_in_whole, counted_in_part}
-use Rattle.enactment_model.proofs.ProjectionLemmas.{EqualValuesAreOne, can_in_part, can_in_whole, is_under, key_from_under, knows_in_part, knows_in_whole, legal_in_part, under_from_key}
+use Rattle.enactment_model.proofs.ProjectionLemmas.{can_in_part, can_in_whole, is_under, key_from_under, knows_in_part, knows_in_whole, legal_in_part, under_from_key}
 
 -- what is emitted under the key is emitted in the part under it
 emitted_in_part : EqualValuesAreOne → (run : List Event) (key : List Value) (m : ℕ) → IsEmitted run key m → IsEmitted (run_under key run) key m

@@ -8,10 +8,11 @@ use Rattle.list_base.proofs.Members.{here, nowhere}
 use Rattle.bspl_types.specs.declared.event.Event.{Event}
 use Rattle.bspl_types.specs.declared.event.Event.TheVariants.{Emit}
 use Rattle.bspl_types.specs.declared.value.Value.{Value}
-use Rattle.bspl_types.specs.Admission.{Binds}
+use Rattle.bspl_types.specs.Adornment.{Binds}
 use Rattle.bspl_types.specs.Expansion.{message_of}
 use Rattle.bspl_types.specs.History.{history_of, instance_of, IsRun, role_of}
 use Rattle.bspl_types.specs.Instance.{Fits}
+use Rattle.bspl_types.specs.Value.{EqualValuesAreOne}
 use Rattle.enactment_model.specs.Examples.{NothingIsNotLive, PingComesToRest, PingIsSafeAndLive, TwinIsNotSafe}
 use Rattle.enactment_model.specs.Liveness.{Bound, LiveProtocol, Quiet}
 use Rattle.enactment_model.specs.Producers.{SharesOut}
@@ -19,9 +20,9 @@ use Rattle.enactment_model.specs.Projection.{run_under}
 use Rattle.enactment_model.specs.Safety.{SafeProtocol}
 use Rattle.enactment_model.proofs.KnowledgeLemmas.{history_is_run, known_from_binding}
 use Rattle.enactment_model.proofs.ProducerLemmas.{safe_by_one_producer}
-use Rattle.enactment_model.proofs.ProjectionLemmas.{EqualValuesAreOne, is_under, key_from_under, under_from_key}
+use Rattle.enactment_model.proofs.ProjectionLemmas.{is_under, key_from_under, under_from_key}
 use Rattle.enactment_model.proofs.ExampleShapes.{nothing, nothing_admitted, one_item, out_id, ping, ping_admitted, ping_message, same_parts, twin, twin_admitted}
-use Rattle.enactment_model.proofs.ExampleRuns.{can_produce, nothing_known, nothing_quiet, ones, ping_run_legal, ping_run_quiet, ping_run_restless, twin_conflict, twin_run, twin_run_legal}
+use Rattle.enactment_model.proofs.ExampleRuns.{can_produce, nothing_known, nothing_quiet, ones, ping_run_legal, ping_run_quiet, ping_run_restless, produces_id, twin_conflict, twin_run, twin_run_legal}
 
 -- so Twin is not safe
 twin_unsafe : ¬ SafeProtocol twin
@@ -59,7 +60,7 @@ ping_not_quiet : EqualValuesAreOne → (run : List Event) (key : List Value) →
 ping_not_quiet exact run key none quiet =
     quiet.exhausted 0
     (λ emitted. no_event (Emit emitted.instance) emitted.emitted emitted.under)
-    (can_produce ping (history_of ping 0 run) 0 key (omega arith) refl
+    (can_produce ping (history_of ping 0 run) 0 key (omega arith) produces_id
     (λ p known. let knows = known.1 in no_event knows.event (filtered_member (λ e. role_of ping e == 0) run knows.event knows.among).0 knows.under))
   where
     no_event : (e : Event) → Contains run e → (instance_of e).key ≡ key → ⊥

@@ -1,20 +1,19 @@
 -- Runs of Ping, Twin and Nothing: their legality, conflict and quietness.
-use Rattle.std.proofs.Common.{◌≡◌, ◌≢◌, ℕ, zero, suc, ◌<◌, List, [], ◌∷◌, length, Some, inl, inr, refl, sym, ap, subst, arith, zip}
+use Rattle.std.proofs.Common.{◌≡◌, ℕ, zero, suc, ◌<◌, List, [], ◌∷◌, length, Some, inl, inr, refl, sym, ap, subst, arith, zip}
 use Rattle.std.specs.Prelude.{slice_get}
 use Rattle.std.specs.List.{All, Contains}
+use Rattle.std.proofs.lemmas.List.Elements.{All-contains}
 use Rattle.std.proofs.lemmas.Option.{none-some}
 use Rattle.list_base.proofs.Members.{cons_cases, here, nowhere, only, there}
-use Rattle.list_base.proofs.Partners.{zipped_member}
 use Rattle.bspl_types.specs.declared.event.Event.{Event}
 use Rattle.bspl_types.specs.declared.event.Event.TheVariants.{Emit, Receive}
 use Rattle.bspl_types.specs.declared.event.Instance.{Instance}
 use Rattle.bspl_types.specs.declared.expanded.Expanded.{Expanded}
-use Rattle.bspl_types.specs.declared.protocol.Adornment.{Adornment}
 use Rattle.bspl_types.specs.declared.protocol.Adornment.TheVariants.{In, Out}
 use Rattle.bspl_types.specs.declared.value.Value.{Value}
 use Rattle.bspl_types.specs.declared.value.Value.TheVariants.{Number}
 use Rattle.bspl_types.specs.Adornment.{valued}
-use Rattle.bspl_types.specs.Expansion.{message_of}
+use Rattle.bspl_types.specs.Expansion.{Adorns, message_of}
 use Rattle.bspl_types.specs.History.{instance_of}
 use Rattle.bspl_types.specs.Instance.{Fits}
 use Rattle.bspl_types.specs.KeyAgrees.{KeyAgrees}
@@ -22,6 +21,7 @@ use Rattle.bspl_types.specs.Knowledge.{CanEmit, IsEnabled, IsKnown}
 use Rattle.enactment_model.specs.Legal.{IsLegalRun}
 use Rattle.enactment_model.specs.Liveness.{Quiet}
 use Rattle.enactment_model.specs.Safety.{Conflict}
+use Rattle.enactment_model.proofs.KnowledgeLemmas.{carried_with_value}
 use Rattle.enactment_model.proofs.ExampleShapes.{both, nothing, one, out_id, ping, twin}
 
 -- the key of ones, and its one value
@@ -36,33 +36,36 @@ instance_at m = record { message = m; key = ones; values = ones }
 pub nothing_known : (x : Expanded) (key : List Value) (p : ℕ) → ¬ IsKnown x [] key p
 nothing_known x key p known = nowhere known.1.event known.1.among
 
--- ID is adorned `out` alone
-pub adorned_out : (adornment : Adornment) (p : ℕ) → Contains (out_id ∷ []) (record { param = p; adornment = adornment }) → Out ≡ adornment
-adorned_out adornment p adorned = ap (λ c. c.adornment) (only out_id (record { param = p; adornment = adornment }) adorned)
+-- each parameter that the message carries is adorned `out`
+abbrev pub OnlyProduces : Expanded → ℕ → Type 0
+OnlyProduces x m = All (λ c. c.adornment ≡ Out) (message_of x m).carried
 
--- a message that produces ID alone can be emitted where no parameter is known
-pub can_produce : (x : Expanded) (history : List Event) (m : ℕ) (key : List Value) → m < length x.messages → (message_of x m).carried ≡ out_id ∷ [] → ((p : ℕ) → ¬ IsKnown x history key p) → CanEmit x history m key
-can_produce x history m key known carried_is unknown =
+-- so it has no `in` parameter
+no_in : (x : Expanded) (m p : ℕ) → OnlyProduces x m → ¬ Adorns x m In p
+no_in x m p only_produces adorned =
+    let in_is_out : In ≡ Out = All-contains (λ c. c.adornment ≡ Out) (message_of x m).carried (record { param = p; adornment = In }) only_produces adorned in cc
+
+-- it can be emitted where no parameter is known
+pub can_produce : (x : Expanded) (history : List Event) (m : ℕ) (key : List Value) → m < length x.messages → OnlyProduces x m → ((p : ℕ) → ¬ IsKnown x history key p) → CanEmit x history m key
+can_produce x history m key known only_produces unknown =
     record {
       known = known;
-      ins = λ p adorned. absurd (out_in (adorned_out In p (subst (λ carried. Contains carried (record { param = p; adornment = In })) carried_is adorned)));
+      ins = λ p adorned. absurd (no_in x m p only_produces adorned);
       outs = λ p adorned. unknown p;
       nils = λ p adorned. unknown p;
     }
-  where
-    out_in : Out ≢ In
-    out_in same = cc
 
 -- so an instance of it is enabled where nothing has happened
-pub enabled_first : (x : Expanded) (i : Instance) → i.message < length x.messages → (message_of x i.message).carried ≡ out_id ∷ [] → IsEnabled x [] i
-enabled_first x i known carried_is =
+pub enabled_first : (x : Expanded) (i : Instance) → i.message < length x.messages → OnlyProduces x i.message → IsEnabled x [] i
+enabled_first x i known only_produces =
     record {
-      can = can_produce x [] i.message i.key known carried_is (nothing_known x i.key);
-      same = λ p v carries. absurd (out_in (adorned_out In p (zipped_member (out_id ∷ []) i.values (record { param = p; adornment = In }) v (subst (λ carried. Contains (zip (valued carried) i.values) (record { param = p; adornment = In }, v)) carried_is carries))));
+      can = can_produce x [] i.message i.key known only_produces (nothing_known x i.key);
+      same = λ p v carries. absurd (no_in x i.message p only_produces (carried_with_value x i In p v carries).0);
     }
-  where
-    out_in : Out ≢ In
-    out_in same = cc
+
+-- a message that produces ID alone
+pub produces_id : All (λ c. c.adornment ≡ Out) (out_id ∷ [])
+produces_id = one (λ c. c.adornment ≡ Out) out_id refl
 
 -- the value of ID is the key's
 pub key_value : (index : ℕ) → slice_get {X = ℕ} (0 ∷ []) index ≡ Some 0 → slice_get ones index ≡ Some (Number 1)
@@ -87,7 +90,7 @@ pub twin_run_legal : IsLegalRun twin twin_run
 twin_run_legal =
     record {
       fits = both (λ e. Fits twin (instance_of e)) (Emit (instance_at 0)) (Emit (instance_at 1)) (instance_fits twin 0 (omega arith) refl refl) (instance_fits twin 1 (omega arith) refl refl);
-      legal = (enabled_first twin (instance_at 0) (omega arith) refl, (enabled_first twin (instance_at 1) (omega arith) refl, tt));
+      legal = (enabled_first twin (instance_at 0) (omega arith) produces_id, (enabled_first twin (instance_at 1) (omega arith) produces_id, tt));
     }
 
 -- both produce ID
@@ -107,7 +110,7 @@ pub ping_run_legal : IsLegalRun ping ping_run
 ping_run_legal =
     record {
       fits = both (λ e. Fits ping (instance_of e)) (Emit (instance_at 0)) (Receive (instance_at 0)) (instance_fits ping 0 (omega arith) refl refl) (instance_fits ping 0 (omega arith) refl refl);
-      legal = (enabled_first ping (instance_at 0) (omega arith) refl, (here (Emit (instance_at 0)) [], tt));
+      legal = (enabled_first ping (instance_at 0) (omega arith) produces_id, (here (Emit (instance_at 0)) [], tt));
     }
 
 -- the one emission of the run is that of the instance

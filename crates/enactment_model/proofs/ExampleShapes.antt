@@ -1,5 +1,5 @@
 -- The expansions of Ping, Twin and Nothing are well formed and admitted.
-use Rattle.std.proofs.Common.{◌≡◌, ◌≢◌, ℕ, zero, suc, ◌<◌, ◌≤◌, true, List, [], ◌∷◌, length, get_or, Some, None, refl, ap, arith, codes}
+use Rattle.std.proofs.Common.{◌≡◌, ◌≢◌, ℕ, zero, suc, ◌<◌, ◌≤◌, true, List, [], ◌∷◌, length, get_or, None, refl, ap, arith, codes}
 use Rattle.std.specs.Prelude.{IsTrue}
 use Rattle.std.specs.List.{All, AllPairs}
 use Rattle.std.proofs.lemmas.List.Elements.{All-cons, All-nil}
@@ -8,11 +8,12 @@ use Rattle.bspl_types.specs.declared.protocol.Adornment.TheVariants.{Out}
 use Rattle.bspl_types.specs.declared.protocol.Carried.{Carried}
 use Rattle.bspl_types.specs.declared.protocol.Message.{Message}
 use Rattle.bspl_types.specs.declared.protocol.ParamInfo.{ParamInfo}
-use Rattle.bspl_types.specs.Admission.{Binds, IsAdmitted, IsAdmittedMessage}
+use Rattle.bspl_types.specs.Admission.{IsAdmitted, IsAdmittedMessage}
+use Rattle.bspl_types.specs.Adornment.{Binds}
 use Rattle.bspl_types.specs.Name.{is_name}
 use Rattle.bspl_types.specs.Parts.{HasParts}
 use Rattle.bspl_types.specs.Shape.{AreNamed, is_public_value, IsMessageOf, IsWellFormed}
-use Rattle.enactment_model.specs.Examples.{id_message}
+use Rattle.enactment_model.specs.Examples.{out_parameter, producer}
 
 -- ID, adorned `out`
 abbrev pub out_id : Carried
@@ -42,7 +43,7 @@ pub distinct_bytes : (a b : ℕ) → a ≢ b → (a ∷ []) ≢ (b ∷ [])
 distinct_bytes a b differ same = differ (ap (λ bytes. get_or bytes 0 0) same)
 
 -- the bytes are a name
-abbrev IsName : List ℕ → Type 0
+abbrev pub IsName : List ℕ → Type 0
 IsName bytes = IsTrue (is_name bytes)
 
 -- the roles A and B
@@ -51,7 +52,7 @@ roles = codes "A" ∷ codes "B" ∷ []
 
 -- the parameter ID
 abbrev pub id_info : ParamInfo
-id_info = record { name = codes "ID"; adornment = Some Out; key = true }
+id_info = out_parameter (codes "ID") true
 
 -- a protocol on ID is well formed
 pub well_formed : (name : List ℕ) (messages : List Message) → IsTrue (is_name name) → AreNamed (λ m. m.name) messages → All (IsMessageOf 2 1) messages → length messages ≤ 64 → IsWellFormed name roles (id_info ∷ []) 1 (0 ∷ []) messages
@@ -59,9 +60,9 @@ unfolding is_name
 well_formed name messages is_named message_names each_message few =
     record {
       named = is_named;
-      role_names = record { named = both IsName (codes "A") (codes "B") refl refl; apart = two_items ◌≢◌ (codes "A") (codes "B") (distinct_bytes 65 66 (omega arith)) };
+      role_names = record { named = both IsName (codes "A") (codes "B") refl refl; distinct = two_items ◌≢◌ (codes "A") (codes "B") (distinct_bytes 65 66 (omega arith)) };
       some_role = omega arith;
-      param_names = record { named = one (λ p. IsName p.name) id_info refl; apart = one_item (λ p q. p.name ≢ q.name) id_info };
+      param_names = record { named = one (λ p. IsName p.name) id_info refl; distinct = one_item (λ p q. p.name ≢ q.name) id_info };
       message_names = message_names;
       declared = record {
         some_public = omega arith;
@@ -76,8 +77,8 @@ well_formed name messages is_named message_names each_message few =
     }
 
 -- a message from A to B, or from B to A
-pub id_message_of_two : (name : List ℕ) (sender receiver : ℕ) → sender < 2 → receiver < 2 → IsMessageOf 2 1 (id_message name sender receiver)
-id_message_of_two name sender receiver known_sender known_receiver =
+pub producer_of_two : (name : List ℕ) (sender receiver : ℕ) → sender < 2 → receiver < 2 → IsMessageOf 2 1 (producer name sender receiver (0 ∷ []))
+producer_of_two name sender receiver known_sender known_receiver =
     record {
       known_sender = known_sender;
       known_receiver = known_receiver;
@@ -92,21 +93,21 @@ on_id name messages shape = record { name = name; roles = roles; params = id_inf
 
 -- the messages of the three protocols
 abbrev pub ping_message : Message
-ping_message = id_message (codes "ping") 0 1
+ping_message = producer (codes "ping") 0 1 (0 ∷ [])
 
 abbrev pub m_message : Message
-m_message = id_message (codes "m") 0 1
+m_message = producer (codes "m") 0 1 (0 ∷ [])
 
 abbrev pub n_message : Message
-n_message = id_message (codes "n") 1 0
+n_message = producer (codes "n") 1 0 (0 ∷ [])
 
 -- Ping
 pub ping_shape : IsWellFormed (codes "Ping") roles (id_info ∷ []) 1 (0 ∷ []) (ping_message ∷ [])
 unfolding is_name
 ping_shape =
     well_formed (codes "Ping") (ping_message ∷ []) refl
-    (record { named = one (λ m. IsName m.name) ping_message refl; apart = one_item (λ m n. m.name ≢ n.name) ping_message })
-    (one (IsMessageOf 2 1) ping_message (id_message_of_two (codes "ping") 0 1 (omega arith) (omega arith)))
+    (record { named = one (λ m. IsName m.name) ping_message refl; distinct = one_item (λ m n. m.name ≢ n.name) ping_message })
+    (one (IsMessageOf 2 1) ping_message (producer_of_two (codes "ping") 0 1 (omega arith) (omega arith)))
     (omega arith)
 
 abbrev pub ping : Expanded
@@ -117,8 +118,8 @@ pub twin_shape : IsWellFormed (codes "Twin") roles (id_info ∷ []) 1 (0 ∷ [])
 unfolding is_name
 twin_shape =
     well_formed (codes "Twin") (m_message ∷ n_message ∷ []) refl
-    (record { named = both (λ m. IsName m.name) m_message n_message refl refl; apart = two_items (λ m n. m.name ≢ n.name) m_message n_message (distinct_bytes 109 110 (omega arith)) })
-    (both (IsMessageOf 2 1) m_message n_message (id_message_of_two (codes "m") 0 1 (omega arith) (omega arith)) (id_message_of_two (codes "n") 1 0 (omega arith) (omega arith)))
+    (record { named = both (λ m. IsName m.name) m_message n_message refl refl; distinct = two_items (λ m n. m.name ≢ n.name) m_message n_message (distinct_bytes 109 110 (omega arith)) })
+    (both (IsMessageOf 2 1) m_message n_message (producer_of_two (codes "m") 0 1 (omega arith) (omega arith)) (producer_of_two (codes "n") 1 0 (omega arith) (omega arith)))
     (omega arith)
 
 abbrev pub twin : Expanded
@@ -129,7 +130,7 @@ pub nothing_shape : IsWellFormed (codes "Nothing") roles (id_info ∷ []) 1 (0 �
 unfolding is_name
 nothing_shape =
     well_formed (codes "Nothing") [] refl
-    (record { named = All-nil (λ m. IsName m.name); apart = λ i j d before within. absurd (omega arith) })
+    (record { named = All-nil (λ m. IsName m.name); distinct = λ i j d before within. absurd (omega arith) })
     (All-nil (IsMessageOf 2 1))
     (omega arith)
 
@@ -137,10 +138,10 @@ abbrev pub nothing : Expanded
 nothing = on_id (codes "Nothing") [] nothing_shape
 
 -- a message that produces ID is admitted
-pub admitted_id_message : (name : List ℕ) (sender receiver : ℕ) → sender ≢ receiver → IsAdmittedMessage (0 ∷ []) (id_message name sender receiver)
-admitted_id_message name sender receiver apart =
+pub admitted_producer : (name : List ℕ) (sender receiver : ℕ) → sender ≢ receiver → IsAdmittedMessage (0 ∷ []) (producer name sender receiver (0 ∷ []))
+admitted_producer name sender receiver two_roles =
     record {
-      apart = apart;
+      two_roles = two_roles;
       distinct = one_item (λ c d. c.param ≢ d.param) out_id;
       whole_key = one (Binds (out_id ∷ [])) 0 (record { among = (0, out_id, omega arith, refl, (refl, refl)) });
     }
@@ -150,7 +151,7 @@ pub twin_admitted : IsAdmitted twin
 twin_admitted =
     record {
       some_key = omega arith;
-      each_message = both (IsAdmittedMessage (0 ∷ [])) m_message n_message (admitted_id_message (codes "m") 0 1 (omega arith)) (admitted_id_message (codes "n") 1 0 (omega arith));
+      each_message = both (IsAdmittedMessage (0 ∷ [])) m_message n_message (admitted_producer (codes "m") 0 1 (omega arith)) (admitted_producer (codes "n") 1 0 (omega arith));
     }
 
 -- Nothing is admitted
@@ -162,7 +163,7 @@ pub ping_admitted : IsAdmitted ping
 ping_admitted =
     record {
       some_key = omega arith;
-      each_message = one (IsAdmittedMessage (0 ∷ [])) ping_message (admitted_id_message (codes "ping") 0 1 (omega arith));
+      each_message = one (IsAdmittedMessage (0 ∷ [])) ping_message (admitted_producer (codes "ping") 0 1 (omega arith));
     }
 
 -- the parts of an expansion are its parts

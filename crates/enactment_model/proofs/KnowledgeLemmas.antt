@@ -10,8 +10,7 @@ use Rattle.bspl_types.specs.declared.event.Instance.{Instance}
 use Rattle.bspl_types.specs.declared.expanded.Expanded.{Expanded}
 use Rattle.bspl_types.specs.declared.protocol.Adornment.{Adornment}
 use Rattle.bspl_types.specs.declared.value.Value.{Value}
-use Rattle.bspl_types.specs.Admission.{Binds}
-use Rattle.bspl_types.specs.Adornment.{has_value, valued}
+use Rattle.bspl_types.specs.Adornment.{Binds, has_value, valued}
 use Rattle.bspl_types.specs.Expansion.{Adorns, message_of}
 use Rattle.bspl_types.specs.History.{history_of, instance_of, IsRun, role_of}
 use Rattle.bspl_types.specs.Instance.{Carries, Fits, pairs}

@@ -9,4 +9,4 @@ pub mod ProducerLemmas
 pub mod ExampleShapes
 pub mod ExampleRuns
 pub mod ExampleLemmas
-pub mod LocalExact
+pub mod RivalLemmas

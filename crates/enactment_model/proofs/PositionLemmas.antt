@@ -7,9 +7,10 @@ use Rattle.bspl_types.specs.declared.event.Event.TheVariants.{Emit}
 use Rattle.bspl_types.specs.declared.expanded.Expanded.{Expanded}
 use Rattle.bspl_types.specs.declared.value.Value.{Value}
 use Rattle.bspl_types.specs.History.{instance_of}
+use Rattle.bspl_types.specs.Value.{EqualValuesAreOne}
 use Rattle.enactment_model.specs.Projection.{HasConflictUnder, position_under, run_under}
 use Rattle.enactment_model.specs.Safety.{Conflict, ProducesAt}
-use Rattle.enactment_model.proofs.ProjectionLemmas.{EqualValuesAreOne, is_under, under_from_key}
+use Rattle.enactment_model.proofs.ProjectionLemmas.{is_under, under_from_key}
 
 -- an act of the run has its counted position in the part under its key
 pub act_in_part : EqualValuesAreOne → (run : List Event) (key : List Value) (position : ℕ) (e : Event) → slice_get run position ≡ Some e → (instance_of e).key ≡ key → slice_get (run_under key run) (position_under key run position) ≡ Some e

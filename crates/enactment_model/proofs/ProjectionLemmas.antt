@@ -1,6 +1,6 @@
 -- The events under one key: what is known from them, and that they are legal.
 use Rattle.std.proofs.Common.{◌≡◌, ℕ, Bool, true, List, [], ◌∷◌, ◌++◌, refl, subst}
-use Rattle.std.specs.Prelude.{◌==◌, ◌↔◌, IsTrue}
+use Rattle.std.specs.Prelude.{◌==◌}
 use Rattle.std.proofs.lemmas.Bool.{cond-true, cond-false, cond_both}
 use Rattle.std.proofs.lemmas.List.{append-nil}
 use Rattle.std.proofs.lemmas.List.Elements.{filter-append}
@@ -13,13 +13,9 @@ use Rattle.bspl_types.specs.declared.value.Value.{Value}
 use Rattle.bspl_types.specs.Expansion.{message_of}
 use Rattle.bspl_types.specs.History.{history_of, instance_of, role_of}
 use Rattle.bspl_types.specs.Knowledge.{CanEmit, IsEnabled, Knows}
-use Rattle.bspl_types.specs.Value.{equal_values}
+use Rattle.bspl_types.specs.Value.{EqualValuesAreOne, equal_values}
 use Rattle.enactment_model.specs.Legal.{LegalAfter, MayFollow}
 use Rattle.enactment_model.specs.Projection.{run_under}
-
--- the test of two lists of values is their equality
-abbrev pub EqualValuesAreOne : Type 0
-EqualValuesAreOne = (xs ys : List Value) → IsTrue (equal_values xs ys) ↔ (xs ≡ ys)
 
 -- the event is under the key
 abbrev pub is_under : List Value → Event → Bool

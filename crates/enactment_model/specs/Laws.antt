@@ -25,7 +25,7 @@ LegalByPositions = (x : Expanded) (run : List Event) → IsLegal x run ↔ EachM
 abbrev pub PrefixIsLegal : Type 0
 PrefixIsLegal = (x : Expanded) (run : List Event) (n : ℕ) → IsLegal x run → IsLegal x (take n run)
 
--- the first events of a legal run whose instances fit are such a run
+-- and their instances fit if those of the run do
 abbrev pub PrefixIsLegalRun : Type 0
 PrefixIsLegalRun =
     (x : Expanded) (run : List Event) (n : ℕ) → IsLegalRun x run → IsLegalRun x (take n run)
@@ -41,9 +41,9 @@ ProjectionKeeps =
 abbrev pub KnownExactlyIfSomeEventBinds : Type 0
 KnownExactlyIfSomeEventBinds =
     (x : Expanded) (history : List Event) (key : List Value) (p : ℕ) → IsRun x history →
-    IsKnown x history key p ↔ HasBindingEvent x history key p
+    ((IsKnown x history key p) ↔ (HasBindingEvent x history key p))
 
--- a role's history is a run
+-- the instances of a role's history fit if those of the run do
 abbrev pub HistoryIsRun : Type 0
 HistoryIsRun =
     (x : Expanded) (run : List Event) (role : ℕ) → IsRun x run → IsRun x (history_of x role run)

@@ -37,9 +37,9 @@ pub record KeepsEnactment (x : Expanded) (run : List Event) (key : List Value) :
       (instance_of e).key ≡ key →
       slice_get (run_under key run) (position_under key run position) ≡ Some e
   pub knowledge : (role p : ℕ) (v : Value) →
-      Knows x (history_of x role run) key p v ↔
-      Knows x (history_of x role (run_under key run)) key p v
+      (Knows x (history_of x role run) key p v) ↔
+      (Knows x (history_of x role (run_under key run)) key p v)
   pub conflicts : (p first second : ℕ) →
-      HasConflictUnder x run key p first second ↔
-      Conflict x (run_under key run) key p first second
-  pub quiet : Quiet x run key ↔ Quiet x (run_under key run) key
+      (HasConflictUnder x run key p first second) ↔
+      (Conflict x (run_under key run) key p first second)
+  pub quiet : (Quiet x run key) ↔ (Quiet x (run_under key run) key)

@@ -3,6 +3,8 @@ ghost use Rattle.enactment_model.specs.Laws.{LegalByPositions, PrefixIsLegal, Pr
 ghost use Rattle.enactment_model.specs.Laws.{NoConflictAgrees, OneProducerIsSafe};
 ghost use Rattle.enactment_model.specs.Laws.{ProjectionKeeps, SecondEmissionIsNotEnabled};
 
+use bspl_types::equal_values_are_one;
+
 /// A run is legal exactly if the event at each position may follow the events before it.
 pub fn legal_by_positions()
     ensures { LegalByPositions }
@@ -19,7 +21,10 @@ pub fn prefix_is_legal()
 /// interfere (Singh 2011).
 pub fn projection_keeps()
     ensures { ProjectionKeeps }
-{}
+{
+    // law: lists of values that the test finds equal are one list
+    equal_values_are_one();
+}
 
 /// A role knows a parameter under a key exactly if some event of its history under that key has a
 /// message that adorns the parameter `in` or `out`.

@@ -6,7 +6,8 @@ mod laws;
 mod producers;
 
 pub use examples::{
-    nothing_is_not_live, ping_comes_to_rest, ping_is_safe_and_live, twin_is_not_safe,
+    nothing_is_not_live, ping_comes_to_rest, ping_is_safe_and_live, rivals_disagree,
+    twin_is_not_safe,
 };
 pub use laws::{
     known_exactly_if_some_event_binds, legal_by_positions, no_conflict_agrees,
