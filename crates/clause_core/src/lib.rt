@@ -9,8 +9,6 @@ mod laws;
 mod literal;
 mod merge;
 mod resolution;
-#[cfg(test)]
-mod tests;
 
 pub use assignment::Assignment;
 pub use clause::{Clause, ClauseList};

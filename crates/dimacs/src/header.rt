@@ -5,7 +5,7 @@ ghost use Rattle.dimacs.specs.Dimacs.{header_words, text_words, words_of};
 ghost use Rattle.dimacs.specs.Token.{lines_left};
 
 use super::words::{next_word, uncommented};
-use refutation_log::{cut, number_of};
+use refutation_log::{split_once, number_of};
 
 /// The most variables that a formula has.
 const VARIABLE_LIMIT: u32 = 16_777_215;
@@ -36,7 +36,7 @@ pub fn start_of(text: &[u8]) -> Result<Start<'_>, u32>
     let mut left = Some(text);
     while let Some(lines) = left {
         place = place.saturating_add(1);
-        let (line, rest) = cut(lines, b'\n');
+        let (line, rest) = split_once(lines, b'\n');
         let said = uncommented(line);
         if next_word(Some(said)).is_some() {
             return match header_of(said) {

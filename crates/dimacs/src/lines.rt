@@ -9,7 +9,7 @@ use super::token::Token;
 use super::words::{push_words, uncommented};
 use clause_core::Formula;
 use list_base::Seq;
-use refutation_log::{Flaw, cut};
+use refutation_log::{LineError, split_once};
 use std::alloc::Global;
 
 /// The tokens of the lines after the header, and the number of the last line.
@@ -55,10 +55,10 @@ fn tokens_of(
     let mut left = lines;
     while let Some(bytes) = left {
         place = place.saturating_add(1);
-        let (line, rest) = cut(bytes, b'\n');
+        let (line, rest) = split_once(bytes, b'\n');
         match push_words(&mut items, vars, uncommented(line)) {
             Ok(()) => left = rest,
-            Err(Flaw::NoMemory) => return Err(Refusal::NoMemory),
+            Err(LineError::NoMemory) => return Err(Refusal::NoMemory),
             Err(_) => return Err(Refusal::Line(place)),
         }
     }

@@ -2,7 +2,7 @@ ghost use Rattle.std.specs.Prelude.{◌≡◌, IfOk};
 ghost use Rattle.dimacs.specs.Token.{token_word};
 
 use clause_core::Lit;
-use refutation_log::{Flaw, pivot_of};
+use refutation_log::{LineError, pivot_of};
 
 /// A word after the header.
 #[derive(Clone, Copy, Debug, PartialEq, Eq)]
@@ -13,7 +13,7 @@ pub enum Token {
 }
 
 /// The token of a word, unless it is none or has a variable past `vars`.
-pub fn token_of(word: &[u8], vars: u32) -> Result<Token, Flaw>
+pub fn token_of(word: &[u8], vars: u32) -> Result<Token, LineError>
     ensures { IfOk result (λ token. token_word token ≡ word.now) }
 {
     if word == b"0".as_slice() {
@@ -23,6 +23,6 @@ pub fn token_of(word: &[u8], vars: u32) -> Result<Token, Flaw>
     if lit.var <= vars {
         Ok(Token::Literal(lit))
     } else {
-        Err(Flaw::Number)
+        Err(LineError::Number)
     }
 }

@@ -5,7 +5,7 @@ ghost use Rattle.dimacs.specs.Token.{blank_parts, words_left, token_word};
 
 use super::token::{Token, token_of};
 use list_base::Seq;
-use refutation_log::Flaw;
+use refutation_log::LineError;
 
 fn is_blank(byte: u8) -> bool
     ensures { result ≡ is_blank byte }
@@ -54,7 +54,7 @@ pub fn uncommented(line: &[u8]) -> &[u8]
 }
 
 /// Puts the tokens of the line's words at the end.
-pub fn push_words(tokens: &mut Seq<Token>, vars: u32, line: &[u8]) -> Result<(), Flaw>
+pub fn push_words(tokens: &mut Seq<Token>, vars: u32, line: &[u8]) -> Result<(), LineError>
     ensures { OnOk result
         (map token_word tokens.new ≡ map token_word tokens.old ++ words_of line.now) }
 {

@@ -6,8 +6,6 @@ mod checker;
 mod lookup;
 mod refusal;
 mod steps;
-#[cfg(test)]
-mod tests;
 
 pub use checker::check_log;
 pub use refusal::Reject;

@@ -10,7 +10,8 @@ pub fn clause_of<'a>(
     derived: &'a [Clause],
     number: u32,
 ) -> Option<&'a Clause>
-    ensures some { IfSome result (λ clause. HasNumber (numbered (formula.now ++ derived.now)) number clause.now) }
+    ensures some { IfSome result (λ clause.
+        HasNumber (numbered (formula.now ++ derived.now)) number clause.now) }
     ensures none { IfNone result (HasNoClause (numbered (formula.now ++ derived.now)) number) }
 {
     if number == 0 {

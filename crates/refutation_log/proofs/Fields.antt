@@ -1,10 +1,10 @@
--- No field has a space or an LF, so a line is cut into the fields that it was joined of.
+-- No field has a space or an LF, so a line is split_once into the fields that it was joined of.
 use Rattle.std.proofs.Common.{◌≡◌, ◌≢◌, ℕ, ◌<◌, ◌≤◌, Bool, true, false, cond, eqb, List, [], ◌∷◌, drop, Result, Ok, Err, codes, refl, sym, ap, ◌∙◌, arith}
 use Rattle.std.specs.List.{flat_map, join_with_byte, slice_split, AllByRecursion}
 use Rattle.std.proofs.lemmas.List.Elements.{All-weaker, All-from_recursion, All-cons}
 use Rattle.std.proofs.lemmas.List.Splits.{join_with_byte-slice_split}
-use Rattle.refutation_log.specs.declared.flaw.Flaw.{Flaw}
-use Rattle.refutation_log.specs.declared.flaw.Flaw.TheVariants as flaws
+use Rattle.refutation_log.specs.declared.line_error.LineError.{LineError}
+use Rattle.refutation_log.specs.declared.line_error.LineError.TheVariants as errors
 use Rattle.refutation_log.specs.declared.refutation.Link.{Link}
 use Rattle.refutation_log.specs.declared.refutation.Chain.{Chain}
 use Rattle.refutation_log.specs.declared.steps.Line.{Line}
@@ -48,13 +48,13 @@ pub step_of_fields : (line : List ℕ) (parts : List (List ℕ)) (step : Chain) 
 step_of_fields line parts step are e = sym (join_with_byte-slice_split 32 line) ∙ ap (join_with_byte 32) (are ∙ e)
 
 -- what is read of a step's fields after its name is read of its line
-pub step_read : (line : List ℕ) (rest : List (List ℕ)) (r : Result Chain Flaw) → slice_split (λ byte. eqb byte 32) line ≡ codes "step" ∷ rest
+pub step_read : (line : List ℕ) (rest : List (List ℕ)) (r : Result Chain LineError) → slice_split (λ byte. eqb byte 32) line ≡ codes "step" ∷ rest
     → IsReading chain_fields StepInRange rest r → IsReading step_body StepInRange line r
 step_read line rest (Ok step) are read = (step_of_fields line (codes "step" ∷ rest) step are (ap (λ (xs : List (List ℕ)). codes "step" ∷ xs) read.0), read.1)
-step_read line rest (Err flaws.Form) are read = λ step e. read step (ap (drop 1) (fields_of_step line (codes "step" ∷ rest) step are e))
-step_read line rest (Err flaws.Number) are read =
+step_read line rest (Err errors.Form) are read = λ step e. read step (ap (drop 1) (fields_of_step line (codes "step" ∷ rest) step are e))
+step_read line rest (Err errors.Number) are read =
     (read.0, step_of_fields line (codes "step" ∷ rest) read.0 are (ap (λ (xs : List (List ℕ)). codes "step" ∷ xs) read.1), read.2)
-step_read line rest (Err flaws.NoMemory) are read = tt
+step_read line rest (Err errors.NoMemory) are read = tt
 
 as_step : (line : List ℕ) (value : Line) → line ≢ codes "end" → line ≡ body_of value → (step : Chain) × (line ≡ step_body step) × (LineInRange value → StepInRange step)
 as_step line (Step step) other e = (step, e, λ good. good)

@@ -4,8 +4,8 @@ use Rattle.std.specs.List.{flat_map}
 use Rattle.std.proofs.lemmas.List.{append_assoc, append-nil, get_or_append_left, get_or_push, length_push}
 use Rattle.std.proofs.lemmas.List.Elements.{All-nil, All-push}
 use Rattle.std.proofs.lemmas.Grind.{flat_map-append}
-use Rattle.refutation_log.specs.declared.flaw.Flaw.{Flaw}
-use Rattle.refutation_log.specs.declared.flaw.Flaw.TheVariants as flaws
+use Rattle.refutation_log.specs.declared.line_error.LineError.{LineError}
+use Rattle.refutation_log.specs.declared.line_error.LineError.TheVariants as errors
 use Rattle.refutation_log.specs.declared.refutation.Link.{Link}
 use Rattle.refutation_log.specs.declared.refutation.Chain.{Chain}
 use Rattle.refutation_log.specs.LogText.{IsInRange, LinkInRange, StepInRange, numeral, pivot_text, link_fields}
@@ -76,7 +76,7 @@ link_read all rest links in_range pivot clause link so_far read = record {
 }
 
 pub bad_link_read : (all rest : List (List ℕ)) (links : List Link) (in_range : Bool) (pivot clause : List ℕ)
-    → AreRead all (pivot ∷ clause ∷ rest) links in_range → IsReading link_fields LinkInRange (pivot ∷ clause ∷ []) (Err flaws.Number) → AreRead all rest links false
+    → AreRead all (pivot ∷ clause ∷ rest) links in_range → IsReading link_fields LinkInRange (pivot ∷ clause ∷ []) (Err errors.Number) → AreRead all rest links false
 bad_link_read all rest links in_range pivot clause so_far read = record {
   read = so_far.read ++ read.0 ∷ [];
   whole = so_far.whole ∙ one_more so_far.read read.0 pivot clause rest read.1;
@@ -89,7 +89,7 @@ not_alone pivot [] e = absurd (cc)
 not_alone pivot (link ∷ more) e = absurd (cc)
 
 -- a field alone is no link
-pub odd_field : (all : List (List ℕ)) (links : List Link) (in_range : Bool) (pivot : List ℕ) → AreRead all (pivot ∷ []) links in_range → IsReading links_fields (All LinkInRange) all (Err flaws.Form)
+pub odd_field : (all : List (List ℕ)) (links : List Link) (in_range : Bool) (pivot : List ℕ) → AreRead all (pivot ∷ []) links in_range → IsReading links_fields (All LinkInRange) all (Err errors.Form)
 odd_field all links in_range pivot so_far = λ others e.
     let more = rest_is_links so_far.read others (pivot ∷ []) (sym so_far.whole ∙ e) in
     not_alone pivot more.0 more.1
@@ -98,13 +98,13 @@ none_begins : (pivot clause : List ℕ) (rest : List (List ℕ)) → ((link : Li
 none_begins pivot clause rest other [] e = absurd (cc)
 none_begins pivot clause rest other (link ∷ more) e = other link (ap (take 2) e)
 
-pub no_link : (all rest : List (List ℕ)) (links : List Link) (in_range : Bool) (pivot clause : List ℕ) (flaw : Flaw) → AreRead all (pivot ∷ clause ∷ rest) links in_range
-    → flaw ≢ flaws.Number → IsReading link_fields LinkInRange (pivot ∷ clause ∷ []) (Err flaw) → IsReading links_fields (All LinkInRange) all (Err flaw)
-no_link all rest links in_range pivot clause flaws.Form so_far other read = λ others e.
+pub no_link : (all rest : List (List ℕ)) (links : List Link) (in_range : Bool) (pivot clause : List ℕ) (error : LineError) → AreRead all (pivot ∷ clause ∷ rest) links in_range
+    → error ≢ errors.Number → IsReading link_fields LinkInRange (pivot ∷ clause ∷ []) (Err error) → IsReading links_fields (All LinkInRange) all (Err error)
+no_link all rest links in_range pivot clause errors.Form so_far other read = λ others e.
     let more = rest_is_links so_far.read others (pivot ∷ clause ∷ rest) (sym so_far.whole ∙ e) in
     none_begins pivot clause rest read more.0 more.1
-no_link all rest links in_range pivot clause flaws.Number so_far other read = absurd (other refl)
-no_link all rest links in_range pivot clause flaws.NoMemory so_far other read = tt
+no_link all rest links in_range pivot clause errors.Number so_far other read = absurd (other refl)
+no_link all rest links in_range pivot clause errors.NoMemory so_far other read = tt
 
 pub all_read : (all : List (List ℕ)) (links : List Link) → AreRead all [] links true → IsReading links_fields (All LinkInRange) all (Ok links)
 all_read all links so_far =
@@ -112,5 +112,5 @@ all_read all links so_far =
     let whole : all ≡ flat_map link_fields so_far.read = so_far.whole ∙ append-nil _ in
     (whole ∙ ap (flat_map link_fields) good.0, subst (All LinkInRange) good.0 good.1)
 
-pub all_read_badly : (all : List (List ℕ)) (links : List Link) → AreRead all [] links false → IsReading links_fields (All LinkInRange) all (Err flaws.Number)
+pub all_read_badly : (all : List (List ℕ)) (links : List Link) → AreRead all [] links false → IsReading links_fields (All LinkInRange) all (Err errors.Number)
 all_read_badly all links so_far = (so_far.read, so_far.whole ∙ append-nil _, so_far.bad refl)

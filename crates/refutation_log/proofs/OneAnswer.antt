@@ -11,7 +11,7 @@ use Rattle.refutation_log.specs.declared.refutation.Kind.{Kind}
 use Rattle.refutation_log.specs.declared.refutation.Chain.{Chain}
 use Rattle.refutation_log.specs.declared.refutation.Log.{Log}
 use Rattle.refutation_log.specs.LogText.{StepInRange, LogInRange, IsTextOf, header_line, step_line, end_line, log_text}
-use Rattle.refutation_log.specs.Refusal.{Line, lines_of, HasNoEnd, HasForm, HasBadNumber, IsMisformed, IsMisnumbered, IsFirstBad, IsRefused, Answers}
+use Rattle.refutation_log.specs.Refusal.{Line, lines_of, HasNoEnd, HasForm, HasBadNumber, IsMisformed, IsMisnumbered, IsFirstBad, IsRefusedLog, Answers}
 use Rattle.refutation_log.proofs.Spellings.{same_from_step_lines, same_from_header_line}
 use Rattle.refutation_log.proofs.RightLines.{front_lines, lines-front, whole_right}
 
@@ -51,12 +51,12 @@ misnumbered_excludes = λ before after line bad form good. good bad.1
 
 none_before : (A B : List Line → List Line → Type 0) (text : List ℕ) (m n : ℕ) → Excludes A → IsFirstBad A text m → IsFirstBad B text n → m < n → ⊥
 none_before A B text m n excludes first other short =
-    let next = overlap first.before first.after other.before other.after (sym first.lines ∙ other.lines) (omega (arith, first.place, other.place)) in
+    let next = overlap first.before first.after other.before other.after (sym first.lines ∙ other.lines) (omega (arith, first.number, other.number)) in
     let right = other.right first.before next.2 next.0 next.4 in
     excludes first.before next.1 next.0 (subst (A first.before) next.3 first.bad) right.0 right.1
 
-one_place : (A B : List Line → List Line → Type 0) (text : List ℕ) (m n : ℕ) → Excludes A → Excludes B → IsFirstBad A text m → IsFirstBad B text n → m ≡ n
-one_place A B text m n a_excludes b_excludes first other =
+one_line : (A B : List Line → List Line → Type 0) (text : List ℕ) (m n : ℕ) → Excludes A → Excludes B → IsFirstBad A text m → IsFirstBad B text n → m ≡ n
+one_line A B text m n a_excludes b_excludes first other =
     elim (cases_order m n) [
       | inl same ↦ same
       | inr differ ↦ elim differ [
@@ -71,16 +71,16 @@ clash before (line ∷ after) form number = form number.0
 
 one_way : (text : List ℕ) (m n : ℕ) → IsFirstBad IsMisformed text m → IsFirstBad IsMisnumbered text n → ⊥
 one_way text m n form number =
-    let place = one_place IsMisformed IsMisnumbered text m n misformed_excludes misnumbered_excludes form number in
-    let same = same_cut form.before form.after number.before number.after (sym form.lines ∙ number.lines) (omega (arith, form.place, number.place)) in
+    let one = one_line IsMisformed IsMisnumbered text m n misformed_excludes misnumbered_excludes form number in
+    let same = same_cut form.before form.after number.before number.after (sym form.lines ∙ number.lines) (omega (arith, form.number, number.number)) in
     let moved : IsMisformed number.before number.after = subst (IsMisformed number.before) same.1 (subst (λ (ls : List Line). IsMisformed ls form.after) same.0 form.bad) in
     clash number.before number.after moved number.bad
 
-one_refusal : (text : List ℕ) (refusal other : LogRefusal) → IsRefused text refusal → IsRefused text other → refusal ≢ NoMemory → other ≢ NoMemory → refusal ≡ other
-one_refusal text (Form m) (Form n) first second some any = ap Form (one_place IsMisformed IsMisformed text m n misformed_excludes misformed_excludes first second)
+one_refusal : (text : List ℕ) (refusal other : LogRefusal) → IsRefusedLog text refusal → IsRefusedLog text other → refusal ≢ NoMemory → other ≢ NoMemory → refusal ≡ other
+one_refusal text (Form m) (Form n) first second some any = ap Form (one_line IsMisformed IsMisformed text m n misformed_excludes misformed_excludes first second)
 one_refusal text (Form m) (Number n) first second some any = absurd (one_way text m n first second)
 one_refusal text (Number m) (Form n) first second some any = absurd (one_way text n m second first)
-one_refusal text (Number m) (Number n) first second some any = ap Number (one_place IsMisnumbered IsMisnumbered text m n misnumbered_excludes misnumbered_excludes first second)
+one_refusal text (Number m) (Number n) first second some any = ap Number (one_line IsMisnumbered IsMisnumbered text m n misnumbered_excludes misnumbered_excludes first second)
 one_refusal text NoMemory other first second some any = absurd (some refl)
 one_refusal text refusal NoMemory first second some any = absurd (any refl)
 
@@ -105,7 +105,7 @@ all_right IsBad excludes wants kind log good before (line ∷ after) e bad =
     let right = whole_right kind log.steps (recursion_from_All StepInRange log.steps good) before after line e in
     excludes before after line bad right.0 right.1
 
-no_fault : (text : List ℕ) (kind : Kind) (log : Log) (refusal : LogRefusal) → IsTextOf text kind log → refusal ≢ NoMemory → IsRefused text refusal → ⊥
+no_fault : (text : List ℕ) (kind : Kind) (log : Log) (refusal : LogRefusal) → IsTextOf text kind log → refusal ≢ NoMemory → IsRefusedLog text refusal → ⊥
 no_fault text kind log (Form n) is some first =
     all_right IsMisformed misformed_excludes (λ before bad. bad) kind log is.numbers first.before first.after (sym (ap lines_of is.text ∙ lines-log kind log) ∙ first.lines) first.bad
 no_fault text kind log (Number n) is some first =
@@ -132,7 +132,7 @@ pair_of read kind log kinds logs = ap (λ (k : Kind). (k, read.1)) kinds ∙ ap 
 
 -- what the answer says of the text
 abbrev Holds : List ℕ → Result (Kind × Log) LogRefusal → Type 0
-Holds text answer = MatchResult answer (λ read. IsTextOf text read.0 read.1) (IsRefused text)
+Holds text answer = MatchResult answer (λ read. IsTextOf text read.0 read.1) (IsRefusedLog text)
 
 pub reads : (text : List ℕ) (r : Result (Kind × Log) LogRefusal) → Holds text r → (kind : Kind) (log : Log) → IsTextOf text kind log → Answers r (Ok (kind, log))
 reads text (Ok read) holds kind log is = let same = same_logs read.0 kind read.1 log (sym holds.text ∙ is.text) in inl (ap Ok (pair_of read kind log same.0 same.1))
@@ -140,7 +140,7 @@ reads text (Err NoMemory) holds kind log is = inr refl
 reads text (Err (Form n)) holds kind log is = absurd (no_fault text kind log (Form n) is (λ e. cc) holds)
 reads text (Err (Number n)) holds kind log is = absurd (no_fault text kind log (Number n) is (λ e. cc) holds)
 
-pub refuses : (text : List ℕ) (r : Result (Kind × Log) LogRefusal) → Holds text r → (refusal : LogRefusal) → refusal ≢ NoMemory → IsRefused text refusal → Answers r (Err refusal)
+pub refuses : (text : List ℕ) (r : Result (Kind × Log) LogRefusal) → Holds text r → (refusal : LogRefusal) → refusal ≢ NoMemory → IsRefusedLog text refusal → Answers r (Err refusal)
 refuses text (Ok read) holds refusal some first = absurd (no_fault text read.0 read.1 refusal holds some first)
 refuses text (Err NoMemory) holds refusal some first = inr refl
 refuses text (Err (Form n)) holds refusal some first = inl (ap Err (one_refusal text (Form n) refusal holds first (λ e. cc) some))

@@ -20,12 +20,12 @@ parts_none c xs lacks = slice_split_none (λ byte. eqb byte c) xs (tests_false c
 pub parts_at : (c : ℕ) (xs ys : List ℕ) → Lacks c xs → slice_split (λ byte. eqb byte c) (xs ++ c ∷ ys) ≡ xs ∷ slice_split (λ byte. eqb byte c) ys
 parts_at c xs ys lacks = slice_split_at (λ byte. eqb byte c) xs c ys (tests_false c xs lacks) (eq-eqb c c refl)
 
--- a list at a place where c stands
+-- a list at a index where c stands
 pub split_there : (c : ℕ) (xs : List ℕ) (i : ℕ) → i < length xs → get_or xs i 0 ≡ c → xs ≡ take i xs ++ c ∷ drop (i + 1) xs
 split_there c xs i short there =
     sym (take-append-drop i xs) ∙ ap (λ (ys : List ℕ). take i xs ++ ys) (drop_more xs i 0 short ∙ ap (λ (b : ℕ). b ∷ drop (i + 1) xs) there)
 
--- parts without a separator, joined, are cut into the same parts
+-- parts without a separator, joined, are split_once into the same parts
 pub parts-join : (c : ℕ) (x : List ℕ) (xs : List (List ℕ)) → AllByRecursion (Lacks c) (x ∷ xs) → slice_split (λ byte. eqb byte c) (join_with_byte c (x ∷ xs)) ≡ x ∷ xs
 parts-join c x [] lack = parts_none c x lack.0
 parts-join c x (y ∷ ys) lack = parts_at c x (join_with_byte c (y ∷ ys)) lack.0 ∙ ap (λ (parts : List (List ℕ)). x ∷ parts) (parts-join c y ys lack.1)

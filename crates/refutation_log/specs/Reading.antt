@@ -1,8 +1,8 @@
 -- What is learnt by reading a part of a text.
 use Rattle.std.specs.Prelude.{◌≡◌, ◌≢◌, ℕ, ◌≤◌, All, List, [], ◌==◌, Option, Some, None, Result, Ok, Err, codes}
 use Rattle.std.specs.List.{slice_split, join_with_byte}
-use Rattle.refutation_log.specs.declared.flaw.Flaw.{Flaw}
-use Rattle.refutation_log.specs.declared.flaw.Flaw.TheVariants as flaws
+use Rattle.refutation_log.specs.declared.line_error.LineError.{LineError}
+use Rattle.refutation_log.specs.declared.line_error.LineError.TheVariants as errors
 use Rattle.refutation_log.specs.declared.refusal.LogRefusal.{LogRefusal}
 use Rattle.refutation_log.specs.declared.refusal.LogRefusal.TheVariants as refusals
 use Rattle.refutation_log.specs.declared.steps.Line.{Line}
@@ -14,18 +14,18 @@ abbrev pub AreDigits : List ℕ → Type 0
 AreDigits bytes = All (λ byte. (48 ≤ byte) × (byte ≤ 57)) bytes
 
 -- the part spells the value read, which is in range; or it spells none; or one out of range
-abbrev pub IsReading : {A X : Type 0} → (A → X) → (A → Type 0) → X → Result A Flaw → Type 0
+abbrev pub IsReading : {A X : Type 0} → (A → X) → (A → Type 0) → X → Result A LineError → Type 0
 IsReading spelling InRange part (Ok value) = (part ≡ spelling value) × InRange value
-IsReading {A} spelling InRange part (Err flaws.Form) = (value : A) → part ≢ spelling value
-IsReading {A} spelling InRange part (Err flaws.Number) =
+IsReading {A} spelling InRange part (Err errors.Form) = (value : A) → part ≢ spelling value
+IsReading {A} spelling InRange part (Err errors.Number) =
     (value : A) × (part ≡ spelling value) × ¬ (InRange value)
-IsReading spelling InRange part (Err flaws.NoMemory) = Unit {0}
+IsReading spelling InRange part (Err errors.NoMemory) = Unit {0}
 
--- the refusal of a line that has this flaw
-abbrev pub refusal_at : Flaw → ℕ → LogRefusal
-refusal_at flaws.Form line = refusals.Form line
-refusal_at flaws.Number line = refusals.Number line
-refusal_at flaws.NoMemory line = refusals.NoMemory
+-- the refusal of a line that has this error
+abbrev pub refusal_of_line : LineError → ℕ → LogRefusal
+refusal_of_line errors.Form line = refusals.Form line
+refusal_of_line errors.Number line = refusals.Number line
+refusal_of_line errors.NoMemory line = refusals.NoMemory
 
 -- the parts between separators of what follows, if anything does
 abbrev pub parts_in : ℕ → Option (List ℕ) → List (List ℕ)

@@ -35,7 +35,7 @@ HasForm (header ∷ others) line = HasNoEnd others × (IsStep line ⊎ (line ≡
 abbrev pub HasBadNumber : Line → Type 0
 HasBadNumber line = (step : Chain) × (line ≡ step_line step) × ¬ (StepInRange step)
 
--- each of the lines has the form that its place wants, and no bad number
+-- each line has the form that is wanted after those before it, and no bad number
 abbrev pub AreRight : List Line → Type 0
 AreRight lines =
     (before after : List Line) (line : Line) → lines ≡ before ++ line ∷ after →
@@ -59,13 +59,13 @@ pub record IsFirstBad
   pub lines : lines_of text ≡ before ++ after
   pub right : AreRight before
   pub bad : IsBad before after
-  pub place : n ≡ length before + 1
+  pub number : n ≡ length before + 1
 
 -- the refusal names the first bad line, and in what way it is bad
-abbrev pub IsRefused : List ℕ → LogRefusal → Type 0
-IsRefused text (Form line) = IsFirstBad IsMisformed text line
-IsRefused text (Number line) = IsFirstBad IsMisnumbered text line
-IsRefused text NoMemory = Unit {0}
+abbrev pub IsRefusedLog : List ℕ → LogRefusal → Type 0
+IsRefusedLog text (Form line) = IsFirstBad IsMisformed text line
+IsRefusedLog text (Number line) = IsFirstBad IsMisnumbered text line
+IsRefusedLog text NoMemory = Unit {0}
 
 -- the result is this answer, unless memory ran out
 abbrev pub Answers : Result (Kind × Log) LogRefusal → Result (Kind × Log) LogRefusal → Type 0

@@ -1,25 +1,22 @@
 //! Logs of a refutation by resolution, and their texts.
 #![tactic(auto)]
 
-mod flaw;
 mod header;
 mod laws;
+mod line_error;
 mod numbers;
 mod parts;
-mod reading;
+mod reader;
 mod refusal;
 mod refutation;
 mod steps;
-mod writing;
+mod writer;
 
-pub use flaw::Flaw;
 pub use laws::{new_clause_appends, step_appends};
+pub use line_error::LineError;
 pub use numbers::{number_of, pivot_of};
-pub use parts::cut;
-pub use reading::read_log;
+pub use parts::split_once;
+pub use reader::read_log;
 pub use refusal::LogRefusal;
 pub use refutation::{Chain, ChainList, Kind, Link, LinkList, Log};
-pub use writing::{push_number, push_pivot, write_log};
-
-#[cfg(test)]
-mod tests;
+pub use writer::{push_number, push_pivot, write_log};

@@ -1,14 +1,15 @@
-ghost use Rattle.std.specs.Prelude.{◌≡◌, ℕ, ◌+◌, ◌↔◌, IsTrue, min};
+ghost use Rattle.std.specs.Prelude.{◌≡◌, ℕ, ◌+◌, ◌↔◌, IsTrue, IsErrOf, min};
 ghost use Rattle.std.specs.Str.Parse.{digits_value};
 ghost use Rattle.refutation_log.specs.LogText.{IsInRange, numeral, pivot_text};
 ghost use Rattle.refutation_log.specs.Reading.{AreDigits, IsReading};
 
-use super::flaw::Flaw;
+use super::line_error::LineError;
 use clause_core::Lit;
 
 /// The largest number of a text.
 const LARGEST: u64 = 2_147_483_647;
 
+/// Whether each byte is a decimal digit.
 fn are_digits(bytes: &[u8]) -> bool
     ensures { IsTrue result ↔ AreDigits bytes.now }
 {
@@ -41,22 +42,26 @@ fn value_of(digits: &[u8]) -> u64
     value
 }
 
-pub fn number_of(digits: &[u8]) -> Result<u32, Flaw>
-    ensures { IsReading numeral IsInRange digits.now result }
+/// The number that the digits spell, if it is in range. It takes no memory.
+pub fn number_of(digits: &[u8]) -> Result<u32, LineError>
+    ensures reading { IsReading numeral IsInRange digits.now result }
+    ensures memory { ¬ IsErrOf result LineError.NoMemory }
 {
     if !is_numeral(digits) {
-        return Err(Flaw::Form);
+        return Err(LineError::Form);
     }
     let value = value_of(digits);
     if 0 < value && value <= LARGEST {
         Ok(value as u32)
     } else {
-        Err(Flaw::Number)
+        Err(LineError::Number)
     }
 }
 
-pub fn pivot_of(field: &[u8]) -> Result<Lit, Flaw>
-    ensures { IsReading pivot_text (λ pivot. IsInRange pivot.var) field.now result }
+/// The literal that the field spells, if its variable is in range. It takes no memory.
+pub fn pivot_of(field: &[u8]) -> Result<Lit, LineError>
+    ensures reading { IsReading pivot_text (λ pivot. IsInRange pivot.var) field.now result }
+    ensures memory { ¬ IsErrOf result LineError.NoMemory }
 {
     match field.strip_prefix(b"-") {
         Some(digits) => Ok(Lit {

@@ -4,7 +4,7 @@ ghost use Rattle.std.specs.Option.{option_copied};
 ghost use Rattle.refutation_log.specs.Reading.{parts_in};
 
 /// The bytes before the first separator, and those after it if it is there.
-pub fn cut(bytes: &[u8], separator: u8) -> (&[u8], Option<&[u8]>)
+pub fn split_once(bytes: &[u8], separator: u8) -> (&[u8], Option<&[u8]>)
     ensures first { All (λ byte. byte ≢ separator) result.0.now }
     ensures whole { MatchOption result.1
         (bytes.now ≡ result.0.now)
@@ -12,9 +12,9 @@ pub fn cut(bytes: &[u8], separator: u8) -> (&[u8], Option<&[u8]>)
     ensures parts { slice_split (λ byte. byte == separator) bytes.now
         ≡ result.0.now ∷ parts_in separator (option_copied result.1) }
 {
-    for (place, byte) in bytes.iter().enumerate() {
+    for (index, byte) in bytes.iter().enumerate() {
         if *byte == separator {
-            return (&bytes[..place], Some(&bytes[place + 1..]));
+            return (&bytes[..index], Some(&bytes[index + 1..]));
         }
     }
     (bytes, None)

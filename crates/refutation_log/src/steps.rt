@@ -4,9 +4,9 @@ ghost use Rattle.std.specs.Option.{option_copied};
 ghost use Rattle.refutation_log.specs.LogText.{LinkInRange, StepInRange, numeral, link_fields, step_fields};
 ghost use Rattle.refutation_log.specs.Reading.{IsReading, parts_in, body_of, LineInRange};
 
-use super::flaw::Flaw;
+use super::line_error::LineError;
 use super::numbers::{number_of, pivot_of};
-use super::parts::cut;
+use super::parts::split_once;
 use super::refutation::{Chain, Link, LinkList};
 use list_base::Seq;
 use std::alloc::Global;
@@ -18,7 +18,7 @@ pub enum Line {
     End,
 }
 
-pub fn line_of(alloc: Global, line: &[u8]) -> Result<Line, Flaw>
+pub fn line_of(alloc: Global, line: &[u8]) -> Result<Line, LineError>
     ensures { IsReading body_of LineInRange line.now result }
 {
     if line == b"end".as_slice() {
@@ -27,42 +27,42 @@ pub fn line_of(alloc: Global, line: &[u8]) -> Result<Line, Flaw>
     Ok(Line::Step(step_of(alloc, line)?))
 }
 
-fn step_of(alloc: Global, line: &[u8]) -> Result<Chain, Flaw>
+fn step_of(alloc: Global, line: &[u8]) -> Result<Chain, LineError>
     ensures { IsReading (λ step. join_with_byte 32 (step_fields step))
         StepInRange line.now result }
 {
-    let (name, fields) = cut(line, b' ');
+    let (name, fields) = split_once(line, b' ');
     if name != b"step".as_slice() {
-        return Err(Flaw::Form);
+        return Err(LineError::Form);
     }
     match fields {
-        None => Err(Flaw::Form),
+        None => Err(LineError::Form),
         Some(fields) => chain_of(alloc, fields),
     }
 }
 
 /// The step with these fields after its name. A bad number is told only where the rest has its
 /// form.
-fn chain_of(alloc: Global, fields: &[u8]) -> Result<Chain, Flaw>
+fn chain_of(alloc: Global, fields: &[u8]) -> Result<Chain, LineError>
     ensures { IsReading (λ step. numeral step.first ∷ flat_map link_fields step.links)
         StepInRange (parts_in 32 (Some fields.now)) result }
 {
-    let (first, links) = cut(fields, b' ');
+    let (first, links) = split_once(fields, b' ');
     match number_of(first) {
         Ok(first) => Ok(Chain {
             first,
             links: links_of(alloc, links)?,
         }),
-        Err(Flaw::Number) => {
+        Err(LineError::Number) => {
             links_of(alloc, links)?;
-            Err(Flaw::Number)
+            Err(LineError::Number)
         }
-        Err(flaw) => Err(flaw),
+        Err(error) => Err(error),
     }
 }
 
 /// The links with these fields. A bad number does not end the search for a bad form.
-fn links_of(alloc: Global, fields: Option<&[u8]>) -> Result<LinkList, Flaw>
+fn links_of(alloc: Global, fields: Option<&[u8]>) -> Result<LinkList, LineError>
     ensures { IsReading (flat_map link_fields) (All LinkInRange)
         (parts_in 32 (option_copied fields.entry)) result }
 {
@@ -70,26 +70,26 @@ fn links_of(alloc: Global, fields: Option<&[u8]>) -> Result<LinkList, Flaw>
     let mut in_range = true;
     let mut left = fields;
     while let Some(pairs) = left {
-        let (pivot, after) = cut(pairs, b' ');
+        let (pivot, after) = split_once(pairs, b' ');
         let Some(after) = after else {
-            return Err(Flaw::Form);
+            return Err(LineError::Form);
         };
-        let (clause, rest) = cut(after, b' ');
+        let (clause, rest) = split_once(after, b' ');
         match link_of(pivot, clause) {
             Ok(link) => links.push(link)?,
-            Err(Flaw::Number) => in_range = false,
-            Err(flaw) => return Err(flaw),
+            Err(LineError::Number) => in_range = false,
+            Err(error) => return Err(error),
         }
         left = rest;
     }
     if in_range {
         Ok(links)
     } else {
-        Err(Flaw::Number)
+        Err(LineError::Number)
     }
 }
 
-fn link_of(pivot: &[u8], clause: &[u8]) -> Result<Link, Flaw>
+fn link_of(pivot: &[u8], clause: &[u8]) -> Result<Link, LineError>
     ensures { IsReading link_fields LinkInRange (pivot.now ∷ clause.now ∷ []) result }
 {
     match pivot_of(pivot) {
@@ -97,10 +97,10 @@ fn link_of(pivot: &[u8], clause: &[u8]) -> Result<Link, Flaw>
             pivot,
             clause: number_of(clause)?,
         }),
-        Err(Flaw::Number) => {
+        Err(LineError::Number) => {
             number_of(clause)?;
-            Err(Flaw::Number)
+            Err(LineError::Number)
         }
-        Err(flaw) => Err(flaw),
+        Err(error) => Err(error),
     }
 }

@@ -12,7 +12,7 @@ pub fn lit(number: i32) -> Lit {
     }
 }
 
-/// The clause of the numbers' literals.
+/// The clause of these literals.
 pub fn clause(alloc: Global, numbers: &[i32]) -> Result<Clause, NoMemory> {
     let mut lits = Seq::new(alloc);
     for number in numbers {
@@ -36,4 +36,13 @@ pub fn formula(alloc: Global, vars: u32, clauses: &[&[i32]]) -> Result<Formula, 
         vars,
         clauses: kept,
     })
+}
+
+/// Appends the clause of these literals.
+pub fn add_clause(
+    alloc: Global,
+    clauses: &mut ClauseList,
+    numbers: &[i32],
+) -> Result<(), NoMemory> {
+    clauses.push(clause(alloc, numbers)?)
 }

@@ -5,6 +5,6 @@ use Rattle.refutation_log.proofs.steps.step_of.Goals as goal
 
 pub returns-in-Some : goal.returns-in-Some
 returns-in-Some c =
-    let name : c.cut.result.0.now ≡ codes "step" = search rules in
-    let parts = rw (name, c.in-Some.is) at c.cut.ensures.parts in
+    let name : c.split_once.result.0.now ≡ codes "step" = search rules in
+    let parts = rw (name, c.in-Some.is) at c.split_once.ensures.parts in
     step_read c.args.line.now _ c.chain_of.result parts c.chain_of.ensures

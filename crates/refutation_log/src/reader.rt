@@ -4,10 +4,10 @@ ghost use Rattle.refutation_log.specs.declared.refutation.Kind.{Kind};
 ghost use Rattle.refutation_log.specs.declared.refutation.Log.{Log};
 ghost use Rattle.refutation_log.specs.declared.refusal.LogRefusal.{LogRefusal};
 ghost use Rattle.refutation_log.specs.LogText.{LogInRange, IsTextOf, header_line, step_line, end_line};
-ghost use Rattle.refutation_log.specs.Refusal.{IsRefused, Answers};
+ghost use Rattle.refutation_log.specs.Refusal.{IsRefusedLog, Answers};
 
 use super::header::kind_of;
-use super::parts::cut;
+use super::parts::split_once;
 use super::refusal::LogRefusal;
 use super::refutation::{ChainList, Kind, Log};
 use super::steps::{Line, line_of};
@@ -17,22 +17,22 @@ use std::alloc::Global;
 /// The kind and the log whose text this is.
 pub fn read_log(alloc: Global, text: &[u8]) -> Result<(Kind, Log), LogRefusal>
     ensures ok { IfOk result (λ read. IsTextOf text.now read.0 read.1) }
-    ensures refused { IfErr result (IsRefused text.now) }
+    ensures refused { IfErr result (IsRefusedLog text.now) }
 
     // What has a text is read, and each refusal is given where it is due.
     ensures reads { (kind : Kind) (log : Log) →
         IsTextOf text.now kind log → Answers result (Ok (kind, log)) }
     ensures refuses { (refusal : LogRefusal) → refusal ≢ LogRefusal.NoMemory →
-        IsRefused text.now refusal → Answers result (Err refusal) }
+        IsRefusedLog text.now refusal → Answers result (Err refusal) }
 {
     log_of(alloc, text)
 }
 
 fn log_of(alloc: Global, text: &[u8]) -> Result<(Kind, Log), LogRefusal>
     ensures ok { IfOk result (λ read. IsTextOf text.now read.0 read.1) }
-    ensures refused { IfErr result (IsRefused text.now) }
+    ensures refused { IfErr result (IsRefusedLog text.now) }
 {
-    let (line, rest) = cut(text, b'\n');
+    let (line, rest) = split_once(text, b'\n');
     let Some(rest) = rest else {
         return Err(LogRefusal::Form { line: 1 });
     };
@@ -48,23 +48,23 @@ fn log_after(alloc: Global, text: &[u8]) -> Result<Log, LogRefusal>
     ensures ok { IfOk result
         (λ log. LogInRange log × (text.now ≡ flat_map step_line log.steps ++ end_line)) }
     ensures refused { IfErr result
-        (λ refusal. (kind : Kind) → IsRefused (header_line kind ++ text.now) refusal) }
+        (λ refusal. (kind : Kind) → IsRefusedLog (header_line kind ++ text.now) refusal) }
 {
     let mut steps = Seq::new(alloc);
-    let mut place = 2;
+    let mut number = 2;
     let mut rest = text;
     loop {
-        let (line, after) = cut(rest, b'\n');
+        let (line, after) = split_once(rest, b'\n');
         let Some(after) = after else {
-            return Err(LogRefusal::Form { line: place });
+            return Err(LogRefusal::Form { line: number });
         };
         match line_of(alloc, line) {
             Ok(Line::Step(step)) => steps.push(step)?,
             Ok(Line::End) if after.is_empty() => return Ok(Log { steps }),
-            Ok(Line::End) => return Err(LogRefusal::Form { line: place + 1 }),
-            Err(flaw) => return Err(flaw.at(place)),
+            Ok(Line::End) => return Err(LogRefusal::Form { line: number + 1 }),
+            Err(error) => return Err(error.at(number)),
         }
-        place += 1;
+        number += 1;
         rest = after;
     }
 }

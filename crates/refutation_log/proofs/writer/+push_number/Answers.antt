@@ -3,7 +3,7 @@ use Rattle.std.proofs.Common.{◌≡◌, ◌+◌, ◌/◌, ◌%◌, [], ◌∷�
 use Rattle.std.proofs.lemmas.List.{append_assoc}
 use Rattle.refutation_log.specs.LogText.{numeral}
 use Rattle.refutation_log.proofs.Numerals.{numeral_digit, numeral_more}
-use Rattle.refutation_log.proofs.writing.+push_number.Goals as goal
+use Rattle.refutation_log.proofs.writer.+push_number.Goals as goal
 
 pub returns-then-number-lt10 : goal.returns-then-number-lt10
 returns-then-number-lt10 t c = rw (numeral_digit c.args.number c.if-number-lt10.true) c.push.ensures.ok

@@ -1,25 +1,10 @@
-use super::{Reject, check_log};
-use clause_core::{Clause, ClauseList, Formula, Lit};
+use super::formulas::{add_clause, lit};
+use clause_core::{ClauseList, Formula};
 use list_base::{NoMemory, Seq};
+use log_checker::{Reject, check_log};
 use refutation_log::{Chain, ChainList, Link, Log};
 use std::alloc::Global;
 use std::test::Fail;
-
-/// The variable of the number, negated where the number is below zero.
-fn lit(number: i32) -> Lit {
-    Lit {
-        var: number.unsigned_abs(),
-        positive: number > 0,
-    }
-}
-
-fn add_clause(alloc: Global, clauses: &mut ClauseList, numbers: &[i32]) -> Result<(), NoMemory> {
-    let mut lits = Seq::new(alloc);
-    for number in numbers {
-        lits.push(lit(*number))?;
-    }
-    clauses.push(Clause::of(alloc, lits.as_slice())?)
-}
 
 /// What would hold of an exchange of one message that gets stuck: 1 it is sent, 2 it is received,
 /// 3 its key is unbound, 4 it is sent before it is received.

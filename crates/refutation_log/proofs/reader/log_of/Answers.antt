@@ -5,29 +5,29 @@ use Rattle.std.proofs.lemmas.List.{append_assoc}
 use Rattle.std.proofs.lemmas.Result.{err_from_is_err_and}
 use Rattle.refutation_log.specs.LogText.{header_line, step_line, end_line}
 use Rattle.refutation_log.proofs.FirstBad.{open_text_refused, no_header_refused, header_then}
-use Rattle.refutation_log.proofs.reading.log_of.Goals as goal
+use Rattle.refutation_log.proofs.reader.log_of.Goals as goal
 
 pub returns-in_default-clause-refused : goal.returns-in_default-clause-refused
 returns-in_default-clause-refused c =
-    let whole = rw c.in_default.is at c.cut.ensures.whole in
-    open_text_refused c.args.text.now (rw whole c.cut.ensures.first)
+    let whole = rw c.in_default.is at c.split_once.ensures.whole in
+    open_text_refused c.args.text.now (rw whole c.split_once.ensures.first)
 
 pub returns-in_default-kind_of-clause-refused : goal.returns-in_default-kind_of-clause-refused
 returns-in_default-kind_of-clause-refused c =
-    let whole = rw c.in-Some.is at c.cut.ensures.whole in
-    no_header_refused c.args.text.now _ _ whole c.cut.ensures.first c.in_default-kind_of.ensures
+    let whole = rw c.in-Some.is at c.split_once.ensures.whole in
+    no_header_refused c.args.text.now _ _ whole c.split_once.ensures.first c.in_default-kind_of.ensures
 
 pub returns-in_err-log-clause-refused : goal.returns-in_err-log-clause-refused
 returns-in_err-log-clause-refused c =
     let p = err_from_is_err_and c.from_residual.result c.from_residual.ensures.1 in
-    let whole = rw c.in-Some.is at c.cut.ensures.whole in
+    let whole = rw c.in-Some.is at c.split_once.ensures.whole in
     let kind = c.in-Some-kind_of.kind in
     let text = header_then c.args.text.now _ _ (header_line kind) whole c.in-Some-kind_of.ensures in
     rw (p.1, p.2, ← text) (c.in_err-log.ensures.refused kind)
 
 pub returns-clause-ok : goal.returns-clause-ok
 returns-clause-ok c =
-    let whole = rw c.in-Some.is at c.cut.ensures.whole in
+    let whole = rw c.in-Some.is at c.split_once.ensures.whole in
     let kind = c.in-Some-kind_of.kind in
     let text = header_then c.args.text.now _ _ (header_line kind) whole c.in-Some-kind_of.ensures in
     let log = c.in_ok-log.ensures.ok in

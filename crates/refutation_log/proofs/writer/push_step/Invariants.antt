@@ -1,7 +1,7 @@
 -- What has been written of a step.
 use Rattle.std.proofs.Common.{◌≡◌, ◌++◌, take}
 use Rattle.refutation_log.proofs.WritingLemmas.{step_front}
-use Rattle.refutation_log.proofs.writing.push_step.Given as goal
+use Rattle.refutation_log.proofs.writer.push_step.Given as goal
 
 -- the links so far are written
 abbrev pub invariant-loop-link : goal.invariant-loop-link

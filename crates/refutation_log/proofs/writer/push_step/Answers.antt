@@ -2,7 +2,7 @@
 use Rattle.std.proofs.Common.{◌≡◌, ◌++◌, codes, ap, ◌∙◌}
 use Rattle.std.proofs.lemmas.List.{append_assoc, take_all}
 use Rattle.refutation_log.proofs.WritingLemmas.{step_front, step_line_is}
-use Rattle.refutation_log.proofs.writing.push_step.Goals as goal
+use Rattle.refutation_log.proofs.writer.push_step.Goals as goal
 
 pub returns : goal.returns
 returns c =

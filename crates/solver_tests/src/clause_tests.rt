@@ -1,23 +1,7 @@
-use super::{Assignment, Clause, Formula, Lit, ResolveRefusal, resolve};
-use list_base::{NoMemory, Seq, TryClone};
-use std::alloc::Global;
+use super::formulas::{clause, lit};
+use clause_core::{Assignment, Formula, ResolveRefusal, resolve};
+use list_base::{Seq, TryClone};
 use std::test::Fail;
-
-/// The variable of the number, negated where the number is below zero.
-fn lit(number: i32) -> Lit {
-    Lit {
-        var: number.unsigned_abs(),
-        positive: number > 0,
-    }
-}
-
-fn clause(alloc: Global, numbers: &[i32]) -> Result<Clause, NoMemory> {
-    let mut lits = Seq::new(alloc);
-    for number in numbers {
-        lits.push(lit(*number))?;
-    }
-    Clause::of(alloc, lits.as_slice())
-}
 
 #[test]
 fn clauses_ascend_without_doubles(rt: HostRuntime) -> Result<(), Fail> {
