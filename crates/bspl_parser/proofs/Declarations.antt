@@ -56,12 +56,12 @@ private_found ts rest ws true e =
     following (w ∷ ws) some spelled = spelled
 private_found ts rest ws false e = (took signs_of_private (λ list. Unit {0}) ts ([], ts) (ws, rest) e refl tt).0
 
--- the private parameters that are read are spelled so
+-- the private parameters that are read are spelled by their signs
 pub private_sound : (ts rest : List Token) (ws : List Word) → private_at ts ≡ Ok (ws, rest) → Spelled (signs_of_private ws) ts rest
 unfolding private_at
 private_sound ts rest ws e = private_found ts rest ws (begins_with Private ts) e
 
--- and those that are spelled so are read
+-- and those that signs spell are read
 private_complete : (ts rest : List Token) (ws : List Word) → Spelled (signs_of_private ws) ts rest → begins_with Private rest ≡ false → begins_with Comma rest ≡ false → private_at ts ≡ Ok (ws, rest)
 unfolding private_at
 private_complete ts rest [] spelled no_private no_comma = rw (spelled, no_private) refl
@@ -80,7 +80,7 @@ private_begins : (t : Symbol) → same_symbol Private t ≡ false → same_symbo
 private_begins t other brace [] body ts rest spelled = body_begins t brace body ts rest spelled
 private_begins t other brace (w ∷ ws) body ts rest spelled = begins-plain Private t (listed signs_of_word (w ∷ ws) ++ body_on body) ts rest spelled ∙ other
 
--- a protocol that is read is spelled so
+-- a protocol that is read is spelled by its signs
 declaration_sound : (ts rest : List Token) (d : Declaration) → declaration_at ts ≡ Ok (d, rest) → Spelled (signs_of_declaration d) ts rest × IsDeclaration d
 unfolding declaration_at
 declaration_sound ts rest d e =
@@ -108,7 +108,7 @@ declaration_sound ts rest d e =
     took signs_of_declaration IsDeclaration ts (record { name = name.0; roles = roles.0; public = public.0; private = private.0; body = body.0 }, close.1) (d, rest) made whole
     (record { some_role = role_list.1.some; some_public = public_list.1.some; each_public = public_list.1.each; each_item = items.1 }))))))))))
 
--- and one that is spelled so is read
+-- and one that its signs spell is read
 declaration_complete : (ts rest : List Token) (d : Declaration) → Spelled (signs_of_declaration d) ts rest → IsDeclaration d → declaration_at ts ≡ Ok (d, rest)
 unfolding declaration_at
 declaration_complete ts rest d spelled good =
@@ -131,7 +131,7 @@ declaration_complete ts rest d spelled good =
     let body_again = many-complete list_kind.Name item_at signs_of_item IsItem AnyTokens item_reads items_repeat at_body at_close d.body body good.each_item (plain_is_no_name CloseBrace [] at_close rest close) tt in
     rw (word_complete ts at_brace d.name name, (plain_complete OpenBrace at_brace at_head brace).1, (either_complete Roles Role at_head at_roles roles_word).1, roles_again, (either_complete Parameters Parameter at_public_word at_public public_word).1, public_again, private_again, body_again, (plain_complete CloseBrace at_close rest close).1) refl))))))))
 
--- the signs of a protocol behind its name
+-- the signs of a protocol after its name
 abbrev pub after_name : Declaration → List Sign
 after_name d = Plain OpenBrace ∷ (signs_of_head d ++ private_on d.private d.body)
 

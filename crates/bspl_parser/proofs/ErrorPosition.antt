@@ -1,4 +1,4 @@
--- Where reading stops at a fault, what was read before can be gone on with.
+-- The tokens before an error begin something valid, and the error stays, whatever follows its token.
 use Rattle.std.proofs.Common.{◌≡◌, Bool, true, false, cond, List, [], ◌∷◌, ◌++◌, length, Ok, Err, inl, refl, sym, ap, subst, ◌∙◌, append_assoc, arith}
 use Rattle.std.proofs.lemmas.List.{append-nil, append_cancel_right}
 use Rattle.bspl_parser.specs.declared.parse_error.ErrorPosition.{ErrorPosition}
@@ -34,7 +34,7 @@ Spelled-prefix (s ∷ signs) ts rest (t ∷ used) spelled parts other =
     let following : spelled.1 ≡ used ++ rest = cc in
     (t, used ++ other, refl, subst (λ u. Matches s u) (sym first) spelled.3, Spelled-prefix signs spelled.1 rest used spelled.4 following other)
 
--- reading stops at a token, and what stands before it can be gone on with
+-- reading fails at a token, and the tokens before it begin something good
 pub record ViableFailure {X V : Type 0} (one : List Token → ParseResult X) (signs : V → List Sign) (Good : V → Type 0) (ts : List Token) (f : ErrorPosition) : Type 0 where
   pub failure : StableFailure one ts f
   pub value : V
@@ -42,11 +42,11 @@ pub record ViableFailure {X V : Type 0} (one : List Token → ParseResult X) (si
   pub good : Good value
   pub spelled : Spelled (signs value) (failure.prefix ++ more) []
 
--- it does so at each fault
+-- each failure is one of those
 abbrev pub FailsViably : {X V : Type 0} → (List Token → ParseResult X) → (V → List Sign) → (V → Type 0) → Type 0
 FailsViably one signs Good = (ts : List Token) (f : ErrorPosition) → one ts ≡ Err f → ViableFailure one signs Good ts f
 
--- what goes on may be seen as another thing
+-- the completed value may be seen as another
 pub viable_as : {X V W : Type 0} (one : List Token → ParseResult X) (signs : V → List Sign) (Good : V → Type 0) (signs' : W → List Sign) (Good' : W → Type 0) (view : V → W) → ((v : V) → signs v ≡ signs' (view v)) → ((v : V) → Good v → Good' (view v)) → FailsViably one signs Good → FailsViably one signs' Good'
 viable_as one signs Good signs' Good' view same good viable ts f e =
     let b = viable ts f e in
@@ -62,7 +62,7 @@ module _ {X Y V W : Type 0} (one : List Token → ParseResult X) (next : X → L
       let a = b.failure in
       let tail = canon (signs' some) in
       record {
-        failure = record { prefix = a.prefix; left = a.left; parts = a.parts; fault = a.fault; again = λ t after is more. rw (a.again t after is more) refl };
+        failure = record { prefix = a.prefix; left = a.left; parts = a.parts; position = a.position; again = λ t after is more. rw (a.again t after is more) refl };
         value = (b.value, some);
         more = b.more ++ tail;
         good = (b.good, some_good);
@@ -79,7 +79,7 @@ module _ {X Y V W : Type 0} (one : List Token → ParseResult X) (next : X → L
           prefix = a.used ++ b.prefix;
           left = b.left;
           parts = a.parts ∙ ap (λ m. a.used ++ m) b.parts ∙ sym (append_assoc a.used b.prefix b.left);
-          fault = b.fault;
+          position = b.position;
           again = λ t after is more.
               let mid : Alike p.1 (b.prefix ++ t ∷ more) = subst (λ m. Alike m (b.prefix ++ t ∷ more)) (sym (b.parts ∙ ap (λ l. b.prefix ++ l) is)) (alike_after b.prefix (t ∷ after) (t ∷ more) (alike_first t after more)) in
               let first : one ((a.used ++ b.prefix) ++ t ∷ more) ≡ Ok (p.0, b.prefix ++ t ∷ more) = ap one (append_assoc a.used b.prefix (t ∷ more)) ∙ a.again (b.prefix ++ t ∷ more) mid in
@@ -115,7 +115,7 @@ module _ {X V : Type 0} (test : List Token → Bool) (one other : List Token →
           let b = viable ts f e in
           let a = b.failure in
           record {
-            failure = record { prefix = a.prefix; left = a.left; parts = a.parts; fault = a.fault; again = λ t after first more. rw (again_at true is a.prefix a.left a.parts t after first more) (a.again t after first more) };
+            failure = record { prefix = a.prefix; left = a.left; parts = a.parts; position = a.position; again = λ t after first more. rw (again_at true is a.prefix a.left a.parts t after first more) (a.again t after first more) };
             value = b.value;
             more = b.more;
             good = b.good;
@@ -125,7 +125,7 @@ module _ {X V : Type 0} (test : List Token → Bool) (one other : List Token →
           let b = viable' ts f e in
           let a = b.failure in
           record {
-            failure = record { prefix = a.prefix; left = a.left; parts = a.parts; fault = a.fault; again = λ t after first more. rw (again_at false is a.prefix a.left a.parts t after first more) (a.again t after first more) };
+            failure = record { prefix = a.prefix; left = a.left; parts = a.parts; position = a.position; again = λ t after first more. rw (again_at false is a.prefix a.left a.parts t after first more) (a.again t after first more) };
             value = b.value;
             more = b.more;
             good = b.good;

@@ -1,4 +1,4 @@
--- Where reading an item stops, it can be gone on with.
+-- The tokens before an error begin a valid item.
 use Rattle.std.proofs.Common.{◌≡◌, ℕ, zero, suc, true, List, [], ◌∷◌, ◌++◌, length, Ok, Err, inl, inr, refl, sym, ap, subst, ◌∙◌, append_assoc, arith}
 use Rattle.std.specs.List.{All}
 use Rattle.std.proofs.lemmas.Bool.{cases_Bool}
@@ -72,7 +72,7 @@ roles_never (suc n) ts f e =
     by_step n ts f goes never (Err g) read e = role_comes ts g goes read
     by_step n ts f goes never (Ok x) read e = by_more x.0 f (many_within list_kind.CommaName word_at n x.1) (never x.1) e
 
--- the signs of the roles behind the first, and of the parameters
+-- the signs of the roles after the first, and of the parameters
 abbrev roles_signs : List Word × List Formal → List Sign
 roles_signs v = after_commas signs_of_word v.0 ++ (after_commas signs_of_formal v.1 ++ Plain CloseParen ∷ [])
 
@@ -88,7 +88,7 @@ roles_by first make ts f (Ok ws) read e =
         prefix = a.used ++ b.prefix;
         left = b.left;
         parts = a.parts ∙ ap (λ m. a.used ++ m) b.parts ∙ sym (append_assoc a.used b.prefix b.left);
-        fault = b.fault;
+        position = b.position;
         again = λ t after is more.
             let list : (a.used ++ b.prefix) ++ t ∷ more ≡ a.used ++ (b.prefix ++ t ∷ more) = append_assoc a.used b.prefix (t ∷ more) in
             let mid : Alike ws.1 (b.prefix ++ t ∷ more) = subst (λ m. Alike m (b.prefix ++ t ∷ more)) (sym (b.parts ∙ ap (λ l. b.prefix ++ l) is)) (alike_after b.prefix (t ∷ after) (t ∷ more) (alike_first t after more)) in
@@ -115,7 +115,7 @@ reference_viable protocol =
     (symbol_then (λ (v : Word × (List Word × List Formal)). signs_of_word v.0 ++ roles_signs v.1) (λ v. Any v.0 × All IsFormal v.1.1) (some_word, ([], [])) (tt, All-nil IsFormal) OpenParen _ (λ open_paren.
     word_then roles_signs (λ v. All IsFormal v.1) ([], []) (All-nil IsFormal) (λ first. roles_on first make) (λ first. roles_viable first make)))
 
--- the signs of an item behind its first name
+-- the signs of an item after its first name
 abbrev after_first : Item → List Sign
 after_first (item.Message m) = after_sender m
 after_first (item.Reference r) = after_protocol r
@@ -140,7 +140,7 @@ made_by one make signs Good viable ts f (Err g) read e =
     let b = viable ts f (read ∙ ap (λ (h : ErrorPosition). Err h) same) in
     let a = b.failure in
     record {
-      failure = record { prefix = a.prefix; left = a.left; parts = a.parts; fault = a.fault; again = λ t after is more. rw (a.again t after is more) refl };
+      failure = record { prefix = a.prefix; left = a.left; parts = a.parts; position = a.position; again = λ t after is more. rw (a.again t after is more) refl };
       value = b.value;
       more = b.more;
       good = b.good;

@@ -1,4 +1,4 @@
--- Where reading a phrase stops, it can be gone on with.
+-- The tokens before an error begin a valid parameter or list.
 use Rattle.std.proofs.Common.{◌≡◌, ℕ, Bool, true, false, ◌&&◌, cond, List, [], ◌∷◌, ◌++◌, Option, Some, None, Ok, Err, refl, sym, subst, ◌∙◌}
 use Rattle.std.specs.List.{All}
 use Rattle.std.proofs.lemmas.Bool.{and_parts}
@@ -57,7 +57,7 @@ adorn_sign a = Located (symbol_of a.0) a.1 ∷ []
 abbrev pub no_sign : Unit {0} → List Sign
 no_sign u = []
 
--- the first token tells what comes
+-- whether a symbol comes depends on the first token
 pub begins_prefix : (s : Symbol) (prefix left : List Token) (t : Token) → begins_with s (prefix ++ t ∷ left) ≡ begins_with s (prefix ++ t ∷ [])
 begins_prefix s [] left (Name w) = refl
 begins_prefix s [] left (Fixed q o) = refl
@@ -79,7 +79,7 @@ one_of_viable a b =
 pub done_viable : {X : Type 0} (x : X) → FailsViably {X = X} (λ ts. Ok (x, ts)) no_sign Any
 done_viable x = never_viable (λ ts. Ok (x, ts)) no_sign Any (λ ts f e. cc)
 
--- a word, a symbol, one of two, and what goes on
+-- a word, a symbol, one of two, and what follows
 module _ {Y W : Type 0} (signs : W → List Sign) (Good : W → Type 0) (some : W) (good : Good some) where
   pub word_then : (next : Word → List Token → ParseResult Y) → ((w : Word) → FailsViably (next w) signs Good) → FailsViably {X = Y} {V = Word × W} (λ ts. word_at ts >>= λ p. next p.0 p.1) (λ v. signs_of_word v.0 ++ signs v.1) (λ v. Any v.0 × Good v.1)
   word_then next others = then_viable word_at next signs_of_word Any signs Good word_stable (λ w. w) (λ ts rest w e. (word_sound ts rest w e, tt)) word_viable others some good
@@ -123,13 +123,13 @@ formal_viable =
     (λ ts f e. bind_never (key_at adorned.0 ts) _ f (λ g e. key_never adorned.0 ts g e) (λ p e. cc) e)))
     (some_word, tt) (tt, tt))
 
--- what stands before a phrase, and the phrase
+-- a separator and an item
 viable_same : {X V : Type 0} (one other : List Token → ParseResult X) (signs : V → List Sign) (Good : V → Type 0) → ((ts : List Token) → one ts ≡ other ts) → FailsViably one signs Good → FailsViably other signs Good
 viable_same one other signs Good same viable ts f e =
     let b = viable ts f (same ts ∙ e) in
     let a = b.failure in
     record {
-      failure = record { prefix = a.prefix; left = a.left; parts = a.parts; fault = a.fault; again = λ t after is more. sym (same (a.prefix ++ t ∷ more)) ∙ a.again t after is more };
+      failure = record { prefix = a.prefix; left = a.left; parts = a.parts; position = a.position; again = λ t after is more. sym (same (a.prefix ++ t ∷ more)) ∙ a.again t after is more };
       value = b.value;
       more = b.more;
       good = b.good;
@@ -155,7 +155,7 @@ more_words_viable = many_viable list_kind.Comma word_at signs_of_word Any word_s
 pub more_formals_viable : FailsViably (many_at list_kind.Comma formal_at) (after_commas signs_of_formal) (All IsFormal)
 more_formals_viable = many_viable list_kind.Comma formal_at signs_of_formal IsFormal formal_stable (step_shortens list_kind.Comma formal_at _ _ Keyless formal_reads formals_repeat) comma_notes (step_sound list_kind.Comma formal_at signs_of_formal IsFormal Keyless formal_reads) (comma_viable formal_at signs_of_formal IsFormal some_formal (λ is. refl) formal_viable)
 
--- a phrase, and those behind commas
+-- an item, and those after commas
 pub prefix_viable : {X V : Type 0} (prefix : List X) (many : List Token → ParseResult (List X)) (signs : V → List Sign) (Good : V → Type 0) → PrefixStable many → (seen : List X → V) → ((ts rest : List Token) (xs : List X) → many ts ≡ Ok (xs, rest) → Spelled (signs (seen xs)) ts rest × Good (seen xs)) → FailsViably many signs Good → FailsViably (λ ts. with_prefix prefix (many ts)) signs Good
 prefix_viable {X} {V} prefix many signs Good stable seen sound viable =
     viable_as (λ ts. with_prefix prefix (many ts)) (λ (v : V × Unit {0}). signs v.0 ++ no_sign v.1) (λ v. Good v.0 × Any v.1) signs Good (λ v. v.0) (λ v. append-nil (signs v.0)) (λ v good. good.0)
@@ -173,7 +173,7 @@ words_viable = listed_viable word_at signs_of_word Any AnyTokens word_reads word
 pub formals_viable : FailsViably (listed_at formal_at) (λ (v : Formal × List Formal). listed signs_of_formal (v.0 ∷ v.1)) (λ v. IsFormal v.0 × All IsFormal v.1)
 formals_viable = listed_viable formal_at signs_of_formal IsFormal Keyless formal_reads formal_stable more_formals formal_viable more_formals_viable
 
--- a list, and what goes on
+-- a list, and what follows
 abbrev pub list_signs : {X : Type 0} → (X → List Sign) → List X → List Sign
 list_signs signs xs = listed signs xs
 

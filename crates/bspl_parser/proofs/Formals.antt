@@ -28,7 +28,7 @@ takes_no_key : (a : Adorn) (P : Type 0) → takes_key a ≡ true → a ≡ adorn
 takes_no_key adorn.Nil P takes is = absurd cc
 takes_no_key a P takes is = absurd cc
 
--- where a key stands it may stand
+-- a key comes only if it may come
 takes_some_key : (a : Adorn) (o : ℕ) → MayHave a (Some o) → takes_key a ≡ true
 takes_some_key adorn.In o may = refl
 takes_some_key adorn.Out o may = refl
@@ -36,19 +36,19 @@ takes_some_key adorn.Nil o may = absurd (let none = may refl in cc)
 takes_some_key adorn.Any o may = refl
 takes_some_key adorn.Opt o may = refl
 
--- the key that is read is spelled so, by the test for it
+-- the key that is read is spelled by its sign, by the test for it
 key_found : (a : Adorn) (ts rest : List Token) (k : Option ℕ) (goes : Bool) → takes_key a && begins_with Key ts ≡ goes → ◌≡◌ {A = ParseResult (Option ℕ)} (cond goes (◌>>=◌ {B = Option ℕ × List Token} (symbol_at Key ts) (λ key. Ok (Some key.0, key.1))) (Ok (None, ts))) (Ok (k, rest)) → Spelled (signs_of_key k) ts rest × MayHave a k
 key_found a ts rest k true goes e =
     bind_then (symbol_at Key ts) _ (k, rest) e (λ key read made.
     took signs_of_key (MayHave a) ts (Some key.0, key.1) (k, rest) made (symbol_sound Key ts key.1 key.0 read) (λ is. takes_no_key a _ (and_parts (takes_key a) (begins_with Key ts) goes).0 is))
 key_found a ts rest k false goes e = took signs_of_key (MayHave a) ts (None, ts) (k, rest) e refl (λ is. refl)
 
--- the key that is read is spelled so
+-- the key that is read is spelled by its sign
 key_sound : (a : Adorn) (ts rest : List Token) (k : Option ℕ) → key_at a ts ≡ Ok (k, rest) → Spelled (signs_of_key k) ts rest × MayHave a k
 unfolding key_at
 key_sound a ts rest k e = key_found a ts rest k (takes_key a && begins_with Key ts) refl e
 
--- and the one that is spelled so is read
+-- and the one that its sign spells is read
 key_complete : (a : Adorn) (ts rest : List Token) (k : Option ℕ) → Spelled (signs_of_key k) ts rest → MayHave a k → Keyless rest → key_at a ts ≡ Ok (k, rest)
 unfolding key_at
 key_complete a ts rest None spelled may keyless = rw spelled (rw (and_right (takes_key a) (begins_with Key rest) keyless) refl)
@@ -57,7 +57,7 @@ key_complete a ts rest (Some o) spelled may keyless =
     let begins : begins_with Key ts ≡ true = ap (begins_with Key) (spelled.2 ∙ ap (λ t. t ∷ spelled.1) spelled.3) in
     rw (takes_some_key a o may, begins, read) refl
 
--- a parameter that is read is spelled so
+-- a parameter that is read is spelled by its signs
 formal_sound : (ts rest : List Token) (f : Formal) → formal_at ts ≡ Ok (f, rest) → Spelled (signs_of_formal f) ts rest × IsFormal f
 unfolding formal_at
 formal_sound ts rest f e =
@@ -69,7 +69,7 @@ formal_sound ts rest f e =
     let whole = Spelled-then (Located (symbol_of adorned.0.0) adorned.0.1 ∷ []) (Named name.0 ∷ signs_of_key key.0) ts adorned.1 key.1 (adorn_sound ts adorned.1 adorned.0.0 adorned.0.1 read_adorned) named in
     took signs_of_formal IsFormal ts (record { adorn = adorned.0.0; offset = adorned.0.1; name = name.0; key = key.0 }, key.1) (f, rest) made whole keyed.1)))
 
--- and one that is spelled so is read
+-- and one that its signs spell is read
 formal_complete : (ts rest : List Token) (f : Formal) → Spelled (signs_of_formal f) ts rest → IsFormal f → Keyless rest → formal_at ts ≡ Ok (f, rest)
 unfolding formal_at
 formal_complete ts rest f spelled good keyless =

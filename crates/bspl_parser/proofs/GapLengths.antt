@@ -1,4 +1,4 @@
--- What is found to be passed over at the front is a gap, or a comment up to the end.
+-- What is found to be skipped at the start is a gap, or a comment up to the end.
 use Rattle.std.proofs.Common.{◌≡◌, ℕ, suc, ◌+◌, ◌<◌, ◌≤◌, Bool, true, false, cond, eqb, ltb, List, [], ◌∷◌, ◌++◌, length, take, drop, one-add, Some, None, ◌⊎◌, inl, inr, refl, sym, ap, subst, ◌∙◌, arith}
 use Rattle.std.specs.Prelude.{IsTrue, codes}
 use Rattle.std.specs.Cmp.Lexicographic.{bytes_decides}
@@ -35,7 +35,7 @@ up_to_lf (b ∷ bs) within =
           rw same_offset (ap (λ r. b ∷ r) (up_to_lf bs within'))
     ]
 
--- a gap of so many bytes stands at the front, or a comment that has no LF
+-- the bytes begin with a gap of that length, or are a comment without LF
 abbrev pub IsPassed : List ℕ → ℕ → Type 0
 IsPassed bytes n = IsGap (take n bytes) ⊎ (IsEnd bytes × (drop n bytes ≡ []))
 
@@ -67,13 +67,13 @@ gap_found b bs true is starts s some = inl (blank is nothing)
 gap_found b bs false is true s some = comment_is (b ∷ bs) s
 gap_found b bs false is false s some = absurd (omega arith)
 
--- what is found is passed over
+-- what is found is skipped
 pub gap_is_passed : (bytes : List ℕ) → 0 < gap_len bytes → IsPassed bytes (gap_len bytes)
 unfolding gap_len
 gap_is_passed [] some = absurd (omega arith)
 gap_is_passed (b ∷ bs) some = gap_found b bs (is_blank_byte b) refl (starts_with eqb (b ∷ bs) (codes "//")) refl some
 
--- no blank and no comment is in front
+-- the bytes begin with no blank and no comment
 pub record NoGap (bytes : List ℕ) : Type 0 where
   pub no_blank : (b : ℕ) (rest : List ℕ) → bytes ≡ b ∷ rest → IsTrue (is_blank_byte b) → ⊥
   pub no_comment : (rest : List ℕ) → bytes ≡ codes "//" ++ rest → ⊥

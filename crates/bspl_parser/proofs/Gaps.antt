@@ -1,4 +1,4 @@
--- What is passed over is told apart from what follows in one way.
+-- What is skipped is determined by the text.
 use Rattle.std.proofs.Common.{◌≡◌, ℕ, true, List, [], ◌∷◌, ◌++◌, inl, inr, refl, sym, ap, subst, ◌∙◌, append_assoc}
 use Rattle.std.specs.Prelude.{IsTrue}
 use Rattle.std.proofs.lemmas.List.Elements.{All-head, All-tail}
@@ -35,7 +35,7 @@ no_lf (b ∷ t) (c ∷ u) v line e = (let tails : t ≡ u ++ 10 ∷ v = cc in no
 no_slash : (b : ℕ) → IsTrue (is_blank_byte b) → b ≡ 47 → ⊥
 no_slash b is e = (let at_slash : is_blank_byte 47 ≡ true = subst (λ c. is_blank_byte c ≡ true) e is in cc)
 
--- behind a gap that two have in front one goes on
+-- after a gap that both begin with, one goes on
 cancel_gap : {p g : List ℕ} → IsGap p → IsGap g → (bytes z : List ℕ) → NoPiece z → p ++ bytes ≡ g ++ z → (more : List ℕ) × IsGap more × (bytes ≡ more ++ z)
 cancel_gap nothing gap bytes z none e = (_, gap, e)
 cancel_gap (blank {b = b} {gap = p} is rest) nothing bytes z none e = absurd (none.no_blank b (p ++ bytes) (sym e) is)
@@ -50,7 +50,7 @@ cancel_gap (comment t {gap = p} line rest) (comment u {gap = g} line' rest') byt
     let same = same_line t u (p ++ bytes) (g ++ z) line line' (sym left ∙ tails ∙ right) in
     cancel_gap rest rest' bytes z none same.1
 
--- gaps with no piece behind them are one
+-- gaps with no piece after them are one
 pub same_gap : {g h : List ℕ} → IsGap g → IsGap h → (z w : List ℕ) → NoPiece z → NoPiece w → g ++ z ≡ h ++ w → (g ≡ h) × (z ≡ w)
 same_gap nothing nothing z w none_z none_w e = (refl, e)
 same_gap nothing (blank {b = c} {gap = h} is rest) z w none_z none_w e = absurd (none_z.no_blank c (h ++ w) e is)

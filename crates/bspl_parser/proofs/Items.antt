@@ -23,7 +23,7 @@ use Rattle.bspl_parser.proofs.Formals.{Keyless, formal_reads}
 use Rattle.bspl_parser.proofs.Lists.{Repeats, many-sound, many-complete}
 use Rattle.bspl_parser.proofs.Listed.{listed-sound, listed-complete, formals_repeat, begins-plain, begins-named, named_begins}
 
--- the signs of a message behind its sender
+-- the signs of a message after its sender
 abbrev pub after_sender : Schema → List Sign
 after_sender m = Plain Arrow ∷ Named m.receiver ∷ Plain Colon ∷ Named m.name ∷ Plain OpenBracket ∷ (listed signs_of_formal m.params ++ Plain CloseBracket ∷ [])
 
@@ -32,7 +32,7 @@ pub record IsSent (sender : Word) (m : Schema) : Type 0 where
   pub by : m.sender ≡ sender
   pub schema : IsSchema m
 
--- a message that is read is spelled so
+-- a message that is read is spelled by its signs
 message_sound : (sender : Word) (ts rest : List Token) (m : Schema) → message_at sender ts ≡ Ok (m, rest) → Spelled (after_sender m) ts rest × IsSent sender m
 unfolding message_at
 message_sound sender ts rest m e =
@@ -54,7 +54,7 @@ message_sound sender ts rest m e =
     took after_sender (IsSent sender) ts (record { sender = sender; receiver = receiver.0; name = name.0; params = params.0 }, close.1) (m, rest) made from_arrow
     (record { by = refl; schema = record { some = list.1.some; each = list.1.each } }))))))))
 
--- and one that is spelled so is read
+-- and one that its signs spell is read
 message_complete : (ts rest : List Token) (m : Schema) → Spelled (after_sender m) ts rest → IsSchema m → message_at m.sender ts ≡ Ok (m, rest)
 unfolding message_at
 message_complete ts rest m spelled good =
@@ -70,7 +70,7 @@ message_complete ts rest m spelled good =
     let list_read = listed-complete formal_at signs_of_formal IsFormal Keyless formal_reads formals_repeat at_params at_close m.params list (record { some = good.some; each = good.each }) no_comma no_key in
     rw ((plain_complete Arrow ts at_receiver arrow).1, word_complete at_receiver at_colon m.receiver receiver, (plain_complete Colon at_colon at_name colon).1, word_complete at_name at_open m.name name, (plain_complete OpenBracket at_open at_params open_bracket).1, list_read, (plain_complete CloseBracket at_close rest close).1) refl))))))
 
--- the signs of a reference behind its protocol's name
+-- the signs of a reference after its protocol's name
 abbrev pub after_protocol : Reference → List Sign
 after_protocol r = Plain OpenParen ∷ (listed signs_of_word r.roles ++ (after_commas signs_of_formal r.params ++ Plain CloseParen ∷ []))
 
@@ -79,7 +79,7 @@ pub record Names (protocol : Word) (r : Reference) : Type 0 where
   pub by : r.protocol ≡ protocol
   pub reference : IsReference r
 
--- a comma and a name, as behind a role of a reference
+-- a comma and a name, as after a role of a reference
 pub roles_repeat : Repeats list_kind.CommaName signs_of_word (λ ts. Unit {0})
 roles_repeat =
     record {
@@ -88,12 +88,12 @@ roles_repeat =
       shorter = λ w ts rest spelled. Spelled-shorter (Plain Comma) (Named w ∷ []) ts rest spelled;
     }
 
--- no role comes behind the last
+-- no role comes after the last
 roles_end : (params : List Formal) (ts rest : List Token) → Spelled (after_commas signs_of_formal params ++ Plain CloseParen ∷ []) ts rest → has_more list_kind.CommaName ts ≡ false
 roles_end [] ts rest spelled = ap (has_more list_kind.CommaName) (spelled.2 ∙ ap (λ t. t ∷ spelled.1) spelled.3.1)
 roles_end (f ∷ fs) ts rest spelled = ap (has_more list_kind.CommaName) (spelled.2 ∙ ap (λ t. t ∷ spelled.1) spelled.3.1 ∙ ap (λ more. Fixed Comma spelled.3.0 ∷ more) (spelled.4.2 ∙ ap (λ t. t ∷ spelled.4.1) spelled.4.3))
 
--- a reference that is read is spelled so
+-- a reference that is read is spelled by its signs
 reference_sound : (protocol : Word) (ts rest : List Token) (r : Reference) → reference_at protocol ts ≡ Ok (r, rest) → Spelled (after_protocol r) ts rest × Names protocol r
 unfolding reference_at
 reference_sound protocol ts rest r e =
@@ -114,14 +114,14 @@ reference_sound protocol ts rest r e =
     took after_protocol (Names protocol) ts (record { protocol = protocol; roles = roles.0; params = params.0 }, close.1) (r, rest) made from_open
     (record { by = refl; reference = record { some = list.1; each = formals.1 } })))))))
 
--- the roles that are spelled so are read
+-- the roles that signs spell are read
 roles_read_again : (roles : List Word) (ts rest : List Token) → roles ≢ [] → Spelled (listed signs_of_word roles) ts rest → has_more list_kind.CommaName rest ≡ false → (first : Word × List Token) × (word_at ts ≡ Ok first) × (with_prefix (first.0 ∷ []) (many_at list_kind.CommaName word_at first.1) ≡ Ok (roles, rest))
 roles_read_again [] ts rest some spelled ends = absurd (some refl)
 roles_read_again (w ∷ ws) ts rest some spelled ends =
     split_then (Named w ∷ []) (after_commas signs_of_word ws) ts rest spelled (λ mid first further.
     ((w, mid), word_complete ts mid w first, rw (many-complete list_kind.CommaName word_at signs_of_word (λ v. Unit {0}) (λ left. Unit {0}) word_reads roles_repeat mid rest ws further (λ k d below. tt) ends tt) refl))
 
--- and a reference that is spelled so is read
+-- and a reference that its signs spell is read
 reference_complete : (ts rest : List Token) (r : Reference) → Spelled (after_protocol r) ts rest → IsReference r → reference_at r.protocol ts ≡ Ok (r, rest)
 unfolding reference_at
 reference_complete ts rest r spelled good =
@@ -149,14 +149,14 @@ item_found name ts rest i false e before named =
     took signs_of_item IsItem before (item.Message m.0, m.1) (i, rest) made
     (Spelled-then (Named m.0.sender ∷ []) (after_sender m.0) before ts m.1 (rw sound.1.by named) sound.0) sound.1.schema)
 
--- an item that is read is spelled so
+-- an item that is read is spelled by its signs
 item_sound : (ts rest : List Token) (i : Item) → item_at ts ≡ Ok (i, rest) → Spelled (signs_of_item i) ts rest × IsItem i
 unfolding item_at
 item_sound ts rest i e =
     bind_then (word_at ts) _ (i, rest) e (λ name read then_item.
     item_found name.0 name.1 rest i (begins_with OpenParen name.1) then_item ts (word_sound ts name.1 name.0 read))
 
--- and one that is spelled so is read
+-- and one that its signs spell is read
 item_complete : (ts rest : List Token) (i : Item) → Spelled (signs_of_item i) ts rest → IsItem i → item_at ts ≡ Ok (i, rest)
 unfolding item_at
 item_complete ts rest (item.Message m) spelled good =

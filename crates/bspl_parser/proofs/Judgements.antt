@@ -22,19 +22,19 @@ use Rattle.bspl_parser.proofs.Primitives.{first_of_same}
 use Rattle.bspl_parser.proofs.Spelled.{Spelled, whole_from_Spelled}
 use Rattle.bspl_parser.proofs.Unique.{Tokens_unique, bad_has_no_tokens}
 
--- a fault of a byte
-pub byte_refused : (text : List ℕ) (fault : ErrorPosition) (end offset : ℕ) → IsScanError text (error.Invalid fault) → offset ≡ error_offset fault end → IsRefusedFor text (Byte offset)
+-- an error at a byte
+pub byte_refused : (text : List ℕ) (position : ErrorPosition) (end offset : ℕ) → IsScanError text (error.Invalid position) → offset ≡ error_offset position end → IsRefusedFor text (Byte offset)
 byte_refused text (At at) end offset bad is = subst (IsBadByte text) (sym is) bad
 byte_refused text End end offset bad is = absurd bad
 
--- what can be gone on with is viable
+-- what can be completed is viable
 viable_of : (prefix : List Token) (more : List Token) (d : Document) → IsDocument d → Spelled (signs_of_document d) (prefix ++ more) [] → IsViable prefix
 viable_of prefix more d formed spelled = (more, d, record { formed = formed; signed = whole_from_Spelled (signs_of_document d) (prefix ++ more) spelled })
 
--- where reading stops at a token no document begins so
+-- no document begins with the tokens up to an error
 stopped_at : (text : List ℕ) (ts : List Token) (f : ErrorPosition) → Tokens text ts → (failure : StableFailure document_at ts f) → IsViable failure.prefix → (left : List Token) → failure.left ≡ left → document_at ts ≡ Err f → (offset : ℕ) → offset ≡ error_offset f (length text) → IsRefusedFor text (Syntax offset)
 stopped_at text ts f of_text failure viable [] is read offset at_offset =
-    let end : f ≡ End = failure.fault ∙ ap position_of is in
+    let end : f ≡ End = failure.position ∙ ap position_of is in
     inr (record {
       tokens = ts;
       scanned = of_text;
@@ -43,7 +43,7 @@ stopped_at text ts f of_text failure viable [] is read offset at_offset =
       at_offset = at_offset ∙ ap (λ g. error_offset g (length text)) end;
     })
 stopped_at text ts f of_text failure viable (t ∷ rest) is read offset at_offset =
-    let at : f ≡ At (offset_of t) = failure.fault ∙ ap position_of is in
+    let at : f ≡ At (offset_of t) = failure.position ∙ ap position_of is in
     inl (record {
       prefix = failure.prefix;
       token = t;
@@ -59,7 +59,7 @@ stopped_at text ts f of_text failure viable (t ∷ rest) is read offset at_offse
           cc;
     })
 
--- a fault of a token, or of the end
+-- an error at a token, or at the end
 pub token_refused : (text : List ℕ) (ts : List Token) (f : ErrorPosition) (offset : ℕ) → Tokens text ts → document_at ts ≡ Err f → offset ≡ error_offset f (length text) → IsRefusedFor text (Syntax offset)
 token_refused text ts f offset of_text read at_offset =
     let b = document_viable ts f read in
@@ -69,11 +69,11 @@ token_refused text ts f offset of_text read at_offset =
 pub text_of : (text : List ℕ) (ts left : List Token) (d : Document) → Tokens text ts → document_at ts ≡ Ok (d, left) → left ≡ [] → IsText text d
 text_of text ts left d of_text read all = record { tokens = ts; scanned = of_text; spelled = document_sound ts d (read ∙ ap (λ r. Ok (d, r)) all) }
 
--- a front of viable tokens is viable
+-- a prefix of viable tokens is viable
 viable_prefix : (prefix more : List Token) → IsViable (prefix ++ more) → IsViable prefix
 viable_prefix prefix more viable = (more ++ viable.0, viable.1, subst (λ ts. Spells ts viable.1) (append_assoc prefix more viable.0) viable.2)
 
--- so a dead token is in no document's tokens
+-- a token that is not viable is in no document's tokens
 dead_in : (prefix : List Token) (t : Token) (rest : List Token) → ¬ IsViable (prefix ++ t ∷ []) → IsViable (prefix ++ t ∷ rest) → ⊥
 dead_in prefix t rest dead viable = dead (viable_prefix (prefix ++ t ∷ []) rest (subst IsViable (sym (append_assoc prefix (t ∷ []) rest)) viable))
 
@@ -87,7 +87,7 @@ one_bad (u ∷ prefix) (v ∷ prefix') t t' rest rest' here there e =
     let tails : prefix ++ t ∷ rest ≡ prefix' ++ t' ∷ rest' = cc in
     one_bad prefix prefix' t t' rest rest' (λ more is. here more cc) (λ more is. there more cc) tails
 
--- and one place has the fault of a text with good tokens
+-- a text of tokens has one offset of bad syntax
 pub syntax_unique : (text : List ℕ) (a b : ℕ) → IsBadSyntax text a → IsBadSyntax text b → a ≡ b
 syntax_unique text a b (inl x) (inl y) =
     let same = Tokens_unique text (x.prefix ++ x.token ∷ x.rest) (y.prefix ++ y.token ∷ y.rest) x.scanned y.scanned in
@@ -102,7 +102,7 @@ syntax_unique text a b (inr x) (inl y) =
     absurd (dead_in y.prefix y.token y.rest y.not_viable (subst IsViable (sym same) x.viable))
 syntax_unique text a b (inr x) (inr y) = x.at_offset ∙ sym y.at_offset
 
--- a document that the text spells has no such place
+-- a text that spells a document has no bad syntax
 pub syntax_has_no_document : (text : List ℕ) (a : ℕ) (d : Document) → IsBadSyntax text a → IsText text d → ⊥
 syntax_has_no_document text a d (inl x) of_d =
     let same = Tokens_unique text of_d.tokens (x.prefix ++ x.token ∷ x.rest) of_d.scanned x.scanned in

@@ -1,4 +1,4 @@
--- The last end of a name is the end of the longest front that is accepted.
+-- The last end of a name is the end of the longest prefix that is accepted.
 use Rattle.std.proofs.Common.{◌≡◌, ℕ, zero, suc, ◌+◌, ◌<◌, Bool, true, false, cond, List, [], ◌∷◌, length, take, Option, Some, None, ◌⊎◌, inl, inr, refl, ap, ◌∙◌, arith}
 use Rattle.std.specs.Option.{option_map_or}
 use Rattle.bspl_parser.specs.declared.name_length.State.{State}
@@ -6,11 +6,11 @@ use Rattle.bspl_parser.specs.declared.name_length.State.TheVariants.{Start}
 use Rattle.bspl_parser.specs.inner.NameLength.{next_state, is_final, last_end, name_len}
 use Rattle.bspl_parser.proofs.NameLengthLemmas.{accepts}
 
--- no front but perhaps the empty one is accepted
+-- no prefix but perhaps the empty one is accepted
 abbrev pub NoPrefix : State → List ℕ → Type 0
 NoPrefix s bytes = (k : ℕ) → k < length bytes → accepts s (take (suc k) bytes) ≡ false
 
--- the front of so many bytes and one more is accepted, and no longer one is
+-- the prefix of one byte more than that is accepted, and no longer one is
 pub record LongestPrefix (s : State) (bytes : List ℕ) (k : ℕ) : Type 0 where
   pub within : k < length bytes
   pub accepted : accepts s (take (suc k) bytes) ≡ true
@@ -20,15 +20,15 @@ pub record LongestPrefix (s : State) (bytes : List ℕ) (k : ℕ) : Type 0 where
 abbrev Ends : State → ℕ → ℕ → List ℕ → ℕ → Type 0
 Ends s found offset bytes end = ((end ≡ found) × NoPrefix s bytes) ⊎ ((k : ℕ) × (end ≡ offset + suc k) × LongestPrefix s bytes k)
 
--- where the next byte leads nowhere no front is accepted
+-- if the next byte leads nowhere no prefix is accepted
 dead : (s : State) (b : ℕ) (bs : List ℕ) → next_state s b ≡ None → NoPrefix s (b ∷ bs)
 dead s b bs none k within = ap (λ o. option_map_or (λ next. accepts next (take k bs)) o false) none
 
--- a front that has the first byte
+-- a prefix that has the first byte
 led : (s next : State) (b : ℕ) (bs : List ℕ) → next_state s b ≡ Some next → (k : ℕ) → accepts s (take (suc k) (b ∷ bs)) ≡ accepts next (take k bs)
 led s next b bs leads k = ap (λ o. option_map_or (λ n. accepts n (take k bs)) o false) leads
 
--- behind the first byte no front is accepted, or a longest one
+-- after the first byte no prefix is accepted, or a longest one
 following : (s next : State) (found offset b : ℕ) (bs : List ℕ) (end : ℕ) → next_state s b ≡ Some next → (final : Bool) → is_final next ≡ final → Ends next (cond final (offset + 1) found) (offset + 1) bs end → Ends s found offset (b ∷ bs) end
 following s next found offset b bs end leads true final (inl none) =
     inr (

@@ -41,7 +41,7 @@ begins-either a b t signs ts rest other_a other_b spelled =
       | inr is ↦ ap (begins_with t) (spelled.2 ∙ ap (λ first. first ∷ spelled.1) is) ∙ other_b
     ]
 
--- phrases behind commas repeat
+-- items after commas form a list
 pub commas_repeat : {X : Type 0} (signs : X → List Sign) (May : List Token → Type 0) → ((ts rest : List Token) (others : List Sign) → Spelled (Plain Comma ∷ others) ts rest → May ts) → Repeats list_kind.Comma signs May
 commas_repeat signs May may =
     record {
@@ -56,7 +56,7 @@ words_repeat = commas_repeat signs_of_word (λ ts. Unit {0}) (λ ts rest others 
 pub formals_repeat : Repeats list_kind.Comma signs_of_formal Keyless
 formals_repeat = commas_repeat signs_of_formal Keyless (λ ts rest others spelled. begins-plain Comma Key others ts rest spelled)
 
--- a list that is not empty, of good phrases
+-- a list that is not empty, of good items
 pub record GoodList {X : Type 0} (Good : X → Type 0) (xs : List X) : Type 0 where
   pub some : xs ≢ []
   pub each : All Good xs

@@ -1,4 +1,4 @@
--- ParseResult phrases one after another, and lists of them.
+-- Reading items one after another, and lists of them.
 use Rattle.std.proofs.Common.{◌≡◌, ℕ, zero, suc, ◌<◌, ◌≤◌, Bool, true, false, cond, List, [], ◌∷◌, ◌++◌, length, Ok, refl, ap, arith}
 use Rattle.std.specs.List.{All, flat_map}
 use Rattle.std.proofs.lemmas.List.Elements.{All-nil, All-cons, All-head, All-tail}
@@ -12,41 +12,41 @@ use Rattle.bspl_parser.specs.inner.GrammarParsers.{has_more, has_comma, separato
 use Rattle.bspl_parser.proofs.Spelled.{Spelled, Spelled-then, Reads, bind_then, split_then, took, ok_is}
 use Rattle.bspl_parser.proofs.Primitives.{plain_sound, plain_complete}
 
--- what stands before each further phrase
+-- what comes before each further item
 abbrev pub separator : ListKind → List Sign
 separator kind = cond (has_comma kind) (Plain Comma ∷ []) []
 
--- the comma that is taken is spelled so, by the test for it
+-- the comma that is taken is spelled by its sign, by the test for it
 separator_found : (comma : Bool) (ts after : List Token) → cond comma (symbol_at Comma ts >>= λ c. Ok c.1) (Ok ts) ≡ Ok after → Spelled (cond comma (Plain Comma ∷ []) []) ts after
 separator_found true ts after e =
     bind_then (symbol_at Comma ts) _ after e (λ comma read made. rw (← ok_is comma.1 after made) (plain_sound Comma ts comma.1 comma.0 read))
 separator_found false ts after e = ok_is ts after e
 
--- the comma that is taken is spelled so
+-- the comma that is taken is spelled by its sign
 pub separator_sound : (kind : ListKind) (ts after : List Token) → separator_at kind ts ≡ Ok after → Spelled (separator kind) ts after
 separator_sound kind ts after e = separator_found (has_comma kind) ts after e
 
--- the comma that is spelled so is taken, by the test for it
+-- the comma that its sign spells is taken, by the test for it
 separator_taken : (comma : Bool) (ts after : List Token) → Spelled (cond comma (Plain Comma ∷ []) []) ts after → cond comma (symbol_at Comma ts >>= λ c. Ok c.1) (Ok ts) ≡ Ok after
 separator_taken true ts after spelled = rw (plain_complete Comma ts after spelled).1 refl
 separator_taken false ts after spelled = ap (λ (left : List Token). Ok left) spelled
 
--- and the one that is spelled so is taken
+-- and the one that its sign spells is taken
 pub separator_complete : (kind : ListKind) (ts after : List Token) → Spelled (separator kind) ts after → separator_at kind ts ≡ Ok after
 separator_complete kind ts after spelled = separator_taken (has_comma kind) ts after spelled
 
--- phrases with what stands before each
+-- items with what comes before each
 abbrev pub repeated : {X : Type 0} → ListKind → (X → List Sign) → List X → List Sign
 repeated kind signs xs = flat_map (λ x. separator kind ++ signs x) xs
 
--- where such a phrase comes reading goes on, what comes may stand behind the phrase before, and it takes tokens
+-- before a further item the list has more, the item before may be followed by it, and it takes tokens
 pub record Repeats {X : Type 0} (kind : ListKind) (signs : X → List Sign) (May : List Token → Type 0) : Type 0 where
   pub goes : (x : X) (ts rest : List Token) → Spelled (separator kind ++ signs x) ts rest → has_more kind ts ≡ true
   pub seam : (x : X) (ts rest : List Token) → Spelled (separator kind ++ signs x) ts rest → May ts
   pub shorter : (x : X) (ts rest : List Token) → Spelled (separator kind ++ signs x) ts rest → length rest < length ts
 
 module _ {X : Type 0} (kind : ListKind) (one : List Token → ParseResult X) (signs : X → List Sign) (Good : X → Type 0) (May : List Token → Type 0) (reads : Reads one signs Good May) where
-  -- one phrase and the others are spelled so where the others are
+  -- one item and the others are spelled by their signs if the others are
   turn_sound : (n : ℕ) → ((ts rest : List Token) (xs : List X) → many_within kind one n ts ≡ Ok (xs, rest) → Spelled (repeated kind signs xs) ts rest × All Good xs)
       → (goes : Bool) (ts rest : List Token) (xs : List X) → cond goes (separator_at kind ts >>= λ after. one after >>= λ x. with_prefix (x.0 ∷ []) (many_within kind one n x.1)) (Ok ([], ts)) ≡ Ok (xs, rest) → Spelled (repeated kind signs xs) ts rest × All Good xs
   turn_sound n others true ts rest xs e =
@@ -61,24 +61,24 @@ module _ {X : Type 0} (kind : ListKind) (one : List Token → ParseResult X) (si
       (All-cons Good x.0 more.0 phrase.1 further.1))))
   turn_sound n others false ts rest xs e = took (repeated kind signs) (All Good) ts ([], ts) (xs, rest) e refl (All-nil Good)
 
-  -- the phrases that are read are spelled so, for each number of turns
+  -- the items that are read are spelled by their signs, for each number of turns
   many_within-sound : (n : ℕ) (ts rest : List Token) (xs : List X) → many_within kind one n ts ≡ Ok (xs, rest) → Spelled (repeated kind signs xs) ts rest × All Good xs
   unfolding many_within
   many_within-sound zero ts rest xs e = took (repeated kind signs) (All Good) ts ([], ts) (xs, rest) e refl (All-nil Good)
   many_within-sound (suc n) ts rest xs e = turn_sound n (many_within-sound n) (has_more kind ts) ts rest xs e
 
-  -- the phrases that are read are spelled so
+  -- the items that are read are spelled by their signs
   pub many-sound : (ts rest : List Token) (xs : List X) → many_at kind one ts ≡ Ok (xs, rest) → Spelled (repeated kind signs xs) ts rest × All Good xs
   many-sound ts rest xs e = many_within-sound (length ts) ts rest xs e
 
 module _ {X : Type 0} (kind : ListKind) (one : List Token → ParseResult X) (signs : X → List Sign) (Good : X → Type 0) (May : List Token → Type 0) (reads : Reads one signs Good May) (repeats : Repeats kind signs May) where
-  -- what comes behind a phrase may stand there
+  -- what follows an item may follow it
   seam : (xs : List X) (ts rest : List Token) → Spelled (repeated kind signs xs) ts rest → May rest → May ts
   seam [] ts rest spelled may = rw spelled may
   seam (x ∷ xs) ts rest spelled may =
       split_then (separator kind ++ signs x) (repeated kind signs xs) ts rest spelled (λ mid first further. repeats.seam x ts mid first)
 
-  -- the phrases that are spelled so are read, for each number of turns
+  -- the items that signs spell are read, for each number of turns
   many_within-complete : (n : ℕ) (xs : List X) (ts rest : List Token) → length ts ≤ n → Spelled (repeated kind signs xs) ts rest → All Good xs → has_more kind rest ≡ false → May rest → many_within kind one n ts ≡ Ok (xs, rest)
   unfolding many_within
   many_within-complete zero [] ts rest enough spelled good ends may = ap (λ (left : List Token). Ok ([], left)) spelled
@@ -95,6 +95,6 @@ module _ {X : Type 0} (kind : ListKind) (one : List Token → ParseResult X) (si
       let further_read = many_within-complete n xs mid rest (omega (arith, repeats.shorter x ts mid first)) further (All-tail Good x xs good) ends may in
       rw (goes, separator_read, phrase_read, further_read) refl))
 
-  -- and those that are spelled so are read
+  -- and those that signs spell are read
   pub many-complete : (ts rest : List Token) (xs : List X) → Spelled (repeated kind signs xs) ts rest → All Good xs → has_more kind rest ≡ false → May rest → many_at kind one ts ≡ Ok (xs, rest)
   many-complete ts rest xs spelled good ends may = many_within-complete (length ts) xs ts rest (omega arith) spelled good ends may

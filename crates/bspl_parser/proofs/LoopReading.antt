@@ -1,4 +1,4 @@
--- ParseResult phrase after phrase, as a loop does.
+-- Reading item after item, as a loop does.
 use Rattle.std.proofs.Common.{◌≡◌, ℕ, zero, suc, pred, ◌≤◌, ◌<◌, true, false, List, [], ◌∷◌, ◌++◌, length, Ok, Err, refl, sym, ap, ◌∙◌, append_assoc, arith}
 use Rattle.std.proofs.lemmas.List.{append-nil}
 use Rattle.bspl_parser.specs.declared.parse_error.ErrorPosition.{ErrorPosition}
@@ -16,22 +16,22 @@ pub record IsLoopReading {X : Type 0} (kind : ListKind) (one : List Token → Pa
   pub enough : length ts ≤ room
   pub rest : with_prefix prefix (many_within kind one room ts) ≡ whole
 
--- nothing goes on without tokens
+-- a list has no more items without tokens
 pub has_more-nil : (kind : ListKind) → has_more kind [] ≡ false
 has_more-nil list_kind.Comma = refl
 has_more-nil list_kind.CommaName = refl
 has_more-nil list_kind.Name = refl
 has_more-nil list_kind.Rest = refl
 
--- where reading goes on there is a token
+-- if a list has more items there is a token
 some_token : (kind : ListKind) (ts : List Token) → has_more kind ts ≡ true → 0 < length ts
 some_token kind [] goes = absurd (cc (has_more-nil kind))
 some_token kind (t ∷ ts) goes = omega arith
 
--- one more in front
+-- one more item before
 regroup : {X : Type 0} (prefix : List X) (x : X) (reading : ParseResult (List X)) → with_prefix prefix (with_prefix (x ∷ []) reading) ≡ with_prefix (prefix ++ x ∷ []) reading
 regroup prefix x (Ok more) = ap (λ xs. Ok (xs, more.1)) (sym (append_assoc prefix (x ∷ []) more.0))
-regroup prefix x (Err fault) = refl
+regroup prefix x (Err position) = refl
 
 module _ {X : Type 0} (kind : ListKind) (one : List Token → ParseResult X) (n : ℕ) (ts : List Token) (goes : has_more kind ts ≡ true) where
   -- one turn of the reading
@@ -40,14 +40,14 @@ module _ {X : Type 0} (kind : ListKind) (one : List Token → ParseResult X) (n 
   turn after left x separator read = rw (goes, separator, read) refl
 
   -- a turn without a separator
-  turn_without_separator : (fault : ErrorPosition) → separator_at kind ts ≡ Err fault → many_within kind one (suc n) ts ≡ Err fault
+  turn_without_separator : (position : ErrorPosition) → separator_at kind ts ≡ Err position → many_within kind one (suc n) ts ≡ Err position
   unfolding many_within
-  turn_without_separator fault separator = rw (goes, separator) refl
+  turn_without_separator position separator = rw (goes, separator) refl
 
-  -- a turn without a phrase
-  turn_phraseless : (after : List Token) (fault : ErrorPosition) → separator_at kind ts ≡ Ok after → one after ≡ Err fault → many_within kind one (suc n) ts ≡ Err fault
+  -- a turn whose item fails
+  turn_phraseless : (after : List Token) (position : ErrorPosition) → separator_at kind ts ≡ Ok after → one after ≡ Err position → many_within kind one (suc n) ts ≡ Err position
   unfolding many_within
-  turn_phraseless after fault separator read = rw (goes, separator, read) refl
+  turn_phraseless after position separator read = rw (goes, separator, read) refl
 
 -- no turn is left
 pub no_turn : {X : Type 0} (kind : ListKind) (one : List Token → ParseResult X) (n : ℕ) (ts : List Token) → has_more kind ts ≡ false → many_within kind one n ts ≡ Ok ([], ts)
@@ -55,7 +55,7 @@ unfolding many_within
 no_turn kind one zero ts goes = refl
 no_turn kind one (suc n) ts goes = rw goes refl
 
--- a phrase was read
+-- an item was read
 pub goes_further : {X : Type 0} (kind : ListKind) (one : List Token → ParseResult X) (whole : ParseResult (List X)) (prefix : List X) (ts : List Token) → IsLoopReading kind one whole prefix ts → (after left : List Token) (x : X) → has_more kind ts ≡ true → separator_at kind ts ≡ Ok after → length after ≤ length ts → one after ≡ Ok (x, left) → length left < length after → IsLoopReading kind one whole (prefix ++ x ∷ []) left
 goes_further kind one whole prefix ts loop_reading after left x goes separator no_longer read shorter =
     let some = some_token kind ts goes in
@@ -68,23 +68,23 @@ goes_further kind one whole prefix ts loop_reading after left x goes separator n
     }
 
 -- a separator was not read
-pub separator_fails : {X : Type 0} (kind : ListKind) (one : List Token → ParseResult X) (whole : ParseResult (List X)) (prefix : List X) (ts : List Token) → IsLoopReading kind one whole prefix ts → (fault : ErrorPosition) → has_more kind ts ≡ true → separator_at kind ts ≡ Err fault → whole ≡ Err fault
-separator_fails kind one whole prefix ts loop_reading fault goes fails =
+pub separator_fails : {X : Type 0} (kind : ListKind) (one : List Token → ParseResult X) (whole : ParseResult (List X)) (prefix : List X) (ts : List Token) → IsLoopReading kind one whole prefix ts → (position : ErrorPosition) → has_more kind ts ≡ true → separator_at kind ts ≡ Err position → whole ≡ Err position
+separator_fails kind one whole prefix ts loop_reading position goes fails =
     let some = some_token kind ts goes in
     let n : ℕ = pred loop_reading.room in
     let room : loop_reading.room ≡ suc n = omega (arith, loop_reading.enough) in
-    sym loop_reading.rest ∙ ap (λ r. with_prefix prefix (many_within kind one r ts)) room ∙ ap (with_prefix prefix) (turn_without_separator kind one n ts goes fault fails)
+    sym loop_reading.rest ∙ ap (λ r. with_prefix prefix (many_within kind one r ts)) room ∙ ap (with_prefix prefix) (turn_without_separator kind one n ts goes position fails)
 
--- a phrase was not read
+-- an item was not read
 pub phrase_fails : {X : Type 0} (kind : ListKind) (one : List Token → ParseResult X) (whole : ParseResult (List X)) (prefix : List X) (ts : List Token) → IsLoopReading kind one whole prefix ts → (stopped : ParseError) (after : List Token) → has_more kind ts ≡ true → separator_at kind ts ≡ Ok after → Fails stopped (one after) → Fails stopped whole
 phrase_fails kind one whole prefix ts loop_reading error.NoMemory after goes separator fails = tt
-phrase_fails kind one whole prefix ts loop_reading (error.Invalid fault) after goes separator fails =
+phrase_fails kind one whole prefix ts loop_reading (error.Invalid position) after goes separator fails =
     let some = some_token kind ts goes in
     let n : ℕ = pred loop_reading.room in
     let room : loop_reading.room ≡ suc n = omega (arith, loop_reading.enough) in
-    sym loop_reading.rest ∙ ap (λ r. with_prefix prefix (many_within kind one r ts)) room ∙ ap (with_prefix prefix) (turn_phraseless kind one n ts goes after fault separator fails)
+    sym loop_reading.rest ∙ ap (λ r. with_prefix prefix (many_within kind one r ts)) room ∙ ap (with_prefix prefix) (turn_phraseless kind one n ts goes after position separator fails)
 
--- no further phrase comes
+-- no further item comes
 pub is_done : {X : Type 0} (kind : ListKind) (one : List Token → ParseResult X) (whole : ParseResult (List X)) (prefix : List X) (ts : List Token) → IsLoopReading kind one whole prefix ts → has_more kind ts ≡ false → whole ≡ Ok (prefix, ts)
 is_done kind one whole prefix ts loop_reading goes =
     sym loop_reading.rest ∙ ap (with_prefix prefix) (no_turn kind one loop_reading.room ts goes) ∙ ap (λ xs. Ok (xs, ts)) (append-nil prefix)

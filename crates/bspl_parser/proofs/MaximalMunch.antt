@@ -57,7 +57,7 @@ at_open_paren rest = separated 40 rest refl refl refl refl refl
 pub at_close_paren : (rest : List ℕ) → IsSeparated (41 ∷ rest)
 at_close_paren rest = separated 41 rest refl refl refl refl refl
 
--- what is accepted nowhere is not accepted behind one more byte
+-- what no state accepts is not accepted after one more byte
 led_by : (text : List ℕ) (b : ℕ) (more : List ℕ) → ((s : State) → accepts s (text ++ b ∷ more) ≡ false) → (o : Option State) → option_map_or (λ next. accepts next (text ++ b ∷ more)) o false ≡ false
 led_by text b more others None = refl
 led_by text b more others (Some next) = others next

@@ -10,7 +10,7 @@ use Rattle.bspl_parser.specs.declared.name_length.State.{State}
 use Rattle.bspl_parser.specs.declared.name_length.State.TheVariants.{Start, Plain, Dash, Hash, Number}
 use Rattle.bspl_parser.specs.inner.NameLength.{after_plain, after_digit, next_state, is_final}
 
--- a name may end behind all of the bytes
+-- a name may end after all of the bytes
 abbrev pub accepts : State → List ℕ → Bool
 accepts s [] = is_final s
 accepts s (b ∷ bs) = option_map_or (λ next. accepts next bs) (next_state s b) false
@@ -22,7 +22,7 @@ pieces bytes = slice_split (λ b. eqb b 35) bytes
 abbrev is_dot : ℕ → Bool
 is_dot b = eqb b 46
 
--- what each state wants of the piece that it is in, and of the pieces behind it
+-- what each state wants of the piece that it is in, and of the pieces after it
 abbrev plain_of : List (List ℕ) → Bool
 plain_of [] = false
 plain_of (p ∷ ps) = is_name_rest p && list_all is_group ps
@@ -46,7 +46,7 @@ some_piece (b ∷ bs) =
       | inr other ↦ (b ∷ others.0, others.1, slice_split-cons_no (λ b. eqb b 35) b bs other ∙ ap (onto_first b) others.2)
     ]
 
--- a byte that is no dot goes to what stands before the dot
+-- a byte that is no dot belongs to the part before the dot
 before_more : (b : ℕ) (p : List ℕ) → eqb b 46 ≡ false → before_first is_dot (b ∷ p) ≡ b ∷ before_first is_dot p
 before_more b p other = rw (other, one-add) refl
 
@@ -162,7 +162,7 @@ pub record Accepts (bytes : List ℕ) (ps : List (List ℕ)) : Type 0 where
   pub hash : accepts Hash bytes ≡ list_all is_group ps
   pub number : accepts Number bytes ≡ number_of ps
 
--- behind a `#` come further groups
+-- after a `#` come further groups
 hash_next : (b : ℕ) (bs : List ℕ) → eqb b 35 ≡ true → Accepts bs (pieces bs) → Accepts (b ∷ bs) ([] ∷ pieces bs)
 hash_next b bs is others =
     let b-is = eqb-true b 35 is in

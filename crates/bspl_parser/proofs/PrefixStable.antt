@@ -1,4 +1,4 @@
--- ParseResult takes note of the first token that is left alone, and a fault of its own token.
+-- What was read is read again if what follows begins alike; an error stays, whatever follows its token.
 use Rattle.std.proofs.Common.{◌≡◌, Bool, true, false, cond, eqb, List, [], ◌∷◌, ◌++◌, length, Ok, Err, refl, sym, ap, subst, ◌∙◌, append_assoc, arith}
 use Rattle.std.proofs.lemmas.Bool.{ne_eqb}
 use Rattle.bspl_parser.specs.declared.parse_error.ErrorPosition.{ErrorPosition}
@@ -11,7 +11,7 @@ use Rattle.bspl_parser.specs.Token.{offset_of}
 use Rattle.bspl_parser.specs.inner.TokenParsers.{begins_with, begins_with_name}
 use Rattle.bspl_parser.proofs.Spelled.{ok_is}
 
--- the fault of tokens that cannot stand there: the first of them, or that none comes
+-- the position of an error: the first of the tokens, or the end if there are none
 abbrev pub position_of : List Token → ErrorPosition
 position_of [] = End
 position_of (t ∷ ts) = At (offset_of t)
@@ -30,23 +30,23 @@ pub alike_first : (t : Token) (a b : List Token) → Alike (t ∷ a) (t ∷ b)
 alike_first (Name w) a b = record { symbols = λ s. refl; names = refl; ends = some_tokens (Name w) a ∙ sym (some_tokens (Name w) b) }
 alike_first (Fixed s o) a b = record { symbols = λ s. refl; names = refl; ends = some_tokens (Fixed s o) a ∙ sym (some_tokens (Fixed s o) b) }
 
--- behind a front as well
+-- after a prefix as well
 pub alike_after : (prefix a b : List Token) → Alike a b → Alike (prefix ++ a) (prefix ++ b)
 alike_after [] a b alike = alike
 alike_after (t ∷ prefix) a b alike = alike_first t (prefix ++ a) (prefix ++ b)
 
--- what was read stays so where what is left begins alike
+-- what was read is read again if what follows begins alike
 pub record StableSuccess {X : Type 0} (one : List Token → ParseResult X) (ts rest : List Token) (x : X) : Type 0 where
   pub used : List Token
   pub parts : ts ≡ used ++ rest
   pub again : (other : List Token) → Alike rest other → one (used ++ other) ≡ Ok (x, other)
 
--- a fault stays so, whatever follows its token
+-- an error stays, whatever follows its token
 pub record StableFailure {X : Type 0} (one : List Token → ParseResult X) (ts : List Token) (f : ErrorPosition) : Type 0 where
   pub prefix : List Token
   pub left : List Token
   pub parts : ts ≡ prefix ++ left
-  pub fault : f ≡ position_of left
+  pub position : f ≡ position_of left
   pub again : (t : Token) (after : List Token) → left ≡ t ∷ after → (more : List Token) → one (prefix ++ t ∷ more) ≡ Err f
 
 pub record PrefixStable {X : Type 0} (one : List Token → ParseResult X) : Type 0 where

@@ -1,4 +1,4 @@
--- ParseResult phrases one after another is stable.
+-- Items that were read one after another are read again, whatever follows.
 use Rattle.std.proofs.Common.{◌≡◌, ℕ, zero, suc, pred, ◌<◌, ◌≤◌, Bool, true, false, not, cond, inl, inr, List, [], ◌∷◌, ◌++◌, length, Result, Ok, Err, refl, sym, ap, subst, ◌∙◌, append_assoc, arith}
 use Rattle.std.proofs.lemmas.Bool.{cases_Bool}
 use Rattle.bspl_parser.specs.declared.parse_error.ErrorPosition.{ErrorPosition}
@@ -22,7 +22,7 @@ stable_same one other same stable =
           record { used = a.used; parts = a.parts; again = λ left alike. sym (same (a.used ++ left)) ∙ a.again left alike });
     }
 
--- what stands before a phrase, and the phrase
+-- a separator and an item
 abbrev pub step : {X : Type 0} → ListKind → (List Token → ParseResult X) → List Token → ParseResult X
 step kind one ts = separator_at kind ts >>= λ after. one after
 
@@ -49,7 +49,7 @@ turned {X} kind one n ts goes = rw goes (regroup (separator_at kind ts))
 module _ {X : Type 0} (kind : ListKind) (one : List Token → ParseResult X) (stable : PrefixStable one)
     (shortens : (ts rest : List Token) (x : X) → step kind one ts ≡ Ok (x, rest) → length rest < length ts)
     (keeps : (ts rest : List Token) (x : X) (used : List Token) → step kind one ts ≡ Ok (x, rest) → ts ≡ used ++ rest → has_more kind ts ≡ true → (other : List Token) → has_more kind (used ++ other) ≡ true) where
-  -- the phrases that were read are read again, with any room that is enough
+  -- the items that were read are read again, with any room that is enough
   pub record ManySuccess (ts rest : List Token) (xs : List X) : Type 0 where
     pub used : List Token
     pub parts : ts ≡ used ++ rest
@@ -65,7 +65,7 @@ module _ {X : Type 0} (kind : ListKind) (one : List Token → ParseResult X) (st
         again = λ other alike goes m enough. no_turn kind one m other (sym goes ∙ ap (has_more kind) (sym left) ∙ ends) ∙ ap (λ p. Ok (p.0, other)) same;
       }
 
-  -- one phrase and then the others
+  -- one item and then the others
   more_success : (n : ℕ) (ts rest : List Token) (xs : List X) → has_more kind ts ≡ true → (first : ParseResult X) → step kind one ts ≡ first
       → ((mid : List Token) (ys : List X) → length mid < length ts → many_within kind one n mid ≡ Ok (ys, rest) → ManySuccess mid rest ys)
       → (first >>= λ x. with_prefix (x.0 ∷ []) (many_within kind one n x.1)) ≡ Ok (xs, rest) → ManySuccess ts rest xs
@@ -109,7 +109,7 @@ module _ {X : Type 0} (kind : ListKind) (one : List Token → ParseResult X) (st
         | inr ends ↦ ended ts rest xs ends (sym (no_turn kind one (suc n) ts ends) ∙ e)
       ]
 
-  -- where the first token alone tells whether reading goes on, it is stable
+  -- if the first token alone decides whether a list has more, the list is read again
   pub many_stable : ((a b : List Token) → Alike a b → has_more kind a ≡ has_more kind b) → PrefixStable (many_at kind one)
   many_stable notes =
       record {
@@ -117,7 +117,7 @@ module _ {X : Type 0} (kind : ListKind) (one : List Token → ParseResult X) (st
             record { used = a.used; parts = a.parts; again = λ other alike. a.again other alike (notes rest other alike) (length (a.used ++ other)) (omega arith) });
       }
 
--- what is taken from the front is some token
+-- what is taken from the start has a token
 some_used : (ts used rest : List Token) → ts ≡ used ++ rest → length rest < length ts → (t : Token) × (more : List Token) × (used ≡ t ∷ more)
 some_used ts [] rest parts shorter = absurd (let len = ap length parts in omega arith)
 some_used ts (t ∷ used) rest parts shorter = (t, used, refl)
@@ -131,15 +131,15 @@ module _ {X : Type 0} (kind : ListKind) (one : List Token → ParseResult X) (st
       let alike : Alike (used ++ other) (used ++ rest) = subst (λ u. Alike (u ++ other) (u ++ rest)) (sym some.2) (alike_first some.0 (some.1 ++ other) (some.1 ++ rest)) in
       notes (used ++ other) (used ++ rest) alike ∙ ap (has_more kind) (sym parts) ∙ goes
 
-  pub keeps_fault : (ts : List Token) (f : ErrorPosition) (prefix left : List Token) → step kind one ts ≡ Err f → ts ≡ prefix ++ left → has_more kind ts ≡ true → (t : Token) (after : List Token) → left ≡ t ∷ after → (more : List Token) → has_more kind (prefix ++ t ∷ more) ≡ true
-  keeps_fault ts f prefix left read parts goes t after is more =
+  pub keeps_failure : (ts : List Token) (f : ErrorPosition) (prefix left : List Token) → step kind one ts ≡ Err f → ts ≡ prefix ++ left → has_more kind ts ≡ true → (t : Token) (after : List Token) → left ≡ t ∷ after → (more : List Token) → has_more kind (prefix ++ t ∷ more) ≡ true
+  keeps_failure ts f prefix left read parts goes t after is more =
       notes (prefix ++ t ∷ more) (prefix ++ t ∷ after) (alike_after prefix (t ∷ more) (t ∷ after) (alike_first t more after)) ∙ ap (has_more kind) (ap (λ l. prefix ++ l) (sym is) ∙ sym parts) ∙ goes
 
-  -- reading phrases by the first token is stable
+  -- the items of a list that goes by the first token are read again
   pub phrases_stable : PrefixStable (many_at kind one)
   phrases_stable = many_stable kind one stable shortens keeps_one notes
 
--- the first token tells of a comma, a name and the end
+-- a comma, a name and the end are known from the first token
 pub comma_notes : (a b : List Token) → Alike a b → has_more list_kind.Comma a ≡ has_more list_kind.Comma b
 comma_notes a b alike = alike.symbols Comma
 

@@ -1,4 +1,4 @@
--- ParseResult phrases is stable: what was read stays so, and a fault stays at its token, whatever follows.
+-- What was read of a message, an item or a protocol is read again, whatever follows.
 use Rattle.std.proofs.Common.{◌≡◌, ◌<◌, List, [], ◌∷◌, ◌++◌, length, Ok}
 use Rattle.bspl_parser.specs.declared.document.Item.TheVariants as item
 use Rattle.bspl_parser.specs.declared.list_kind.ListKind.{ListKind}
@@ -20,13 +20,13 @@ use Rattle.bspl_parser.proofs.PrefixStable.{PrefixStable, either_stable, then_st
 use Rattle.bspl_parser.proofs.PrefixStableTokens.{word_stable, symbol_stable, one_of_stable, formal_stable}
 use Rattle.bspl_parser.proofs.PrefixStableLists.{step, phrases_stable, comma_notes, name_notes}
 
--- a phrase and what stands before it take a token
+-- an item with its separator takes a token
 pub step_shortens : {X : Type 0} (kind : ListKind) (one : List Token → ParseResult X) (signs : X → List Sign) (Good : X → Type 0) (May : List Token → Type 0) → Reads one signs Good May → Repeats kind signs May → (ts rest : List Token) (x : X) → step kind one ts ≡ Ok (x, rest) → length rest < length ts
 step_shortens kind one signs Good May reads repeats ts rest x e =
     bind_then (separator_at kind ts) _ (x, rest) e (λ after separator_read read.
     repeats.shorter x ts rest (Spelled-then (separator kind) (signs x) ts after rest (separator_sound kind ts after separator_read) (reads.sound after rest x read).0))
 
--- phrases behind commas, behind a list that was read
+-- items after commas, after a list that was read
 pub prefix_stable : {X : Type 0} (prefix : List X) (many : List Token → ParseResult (List X)) → PrefixStable many → PrefixStable (λ ts. with_prefix prefix (many ts))
 prefix_stable prefix many stable = then_stable many (λ more ts. Ok (prefix ++ more, ts)) stable (λ more. nothing_stable (prefix ++ more))
 

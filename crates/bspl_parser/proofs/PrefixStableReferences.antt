@@ -1,4 +1,4 @@
--- ParseResult references is stable, although two tokens tell where their roles end.
+-- What was read of a reference is read again, although its roles end by a test of two tokens.
 use Rattle.std.proofs.Common.{◌≡◌, ℕ, ◌<◌, true, false, List, [], ◌∷◌, ◌++◌, length, Ok, Err, None, inl, inr, refl, sym, ap, subst, ◌∙◌, append_assoc, arith}
 use Rattle.std.specs.Prelude.{IsTrue}
 use Rattle.std.specs.List.{All}
@@ -33,7 +33,7 @@ use Rattle.bspl_parser.proofs.PrefixStableTokens.{word_stable, symbol_stable}
 use Rattle.bspl_parser.proofs.PrefixStableLists.{step, ManySuccess, many_success}
 use Rattle.bspl_parser.proofs.PrefixStablePhrases.{step_shortens, more_formals, AnyWord, AnyTokens}
 
--- two tokens tell whether a role comes
+-- whether a role comes depends on two tokens
 two_alike : (a b : Token) (r s : List Token) → has_more list_kind.CommaName (a ∷ b ∷ r) ≡ has_more list_kind.CommaName (a ∷ b ∷ s)
 two_alike (Name v) (Name w) r s = refl
 two_alike (Name v) (Fixed t p) r s = refl
@@ -55,7 +55,7 @@ role_comes (Fixed q o ∷ Name w ∷ ts) f goes e =
 pub roles_shorten : (ts rest : List Token) (w : Word) → step list_kind.CommaName word_at ts ≡ Ok (w, rest) → length rest < length ts
 roles_shorten = step_shortens list_kind.CommaName word_at signs_of_word AnyWord AnyTokens word_reads roles_repeat
 
--- a role that was read stays so
+-- a role that was read is read again
 pub roles_keep : (ts rest : List Token) (w : Word) (used : List Token) → step list_kind.CommaName word_at ts ≡ Ok (w, rest) → ts ≡ used ++ rest → has_more list_kind.CommaName ts ≡ true → (other : List Token) → has_more list_kind.CommaName (used ++ other) ≡ true
 roles_keep ts rest w used read parts goes other =
     bind_then (separator_at list_kind.CommaName ts) _ (w, rest) read (λ after separator_read word_read.
@@ -101,7 +101,7 @@ some_word = record { text = 120 ∷ []; offset = 0; named = some_name }
 abbrev pub some_formal : Formal
 some_formal = record { adorn = adorn.In; offset = 0; name = some_word; key = None }
 
--- behind a comma the parameters may go on
+-- after a comma parameters may follow
 params_go_on : {X : Type 0} (make : List Formal → X) (o : ℕ) → params_at make (Fixed Comma o ∷ Fixed In 0 ∷ Name some_word ∷ Fixed CloseParen 0 ∷ []) ≡ Ok (make (some_formal ∷ []), [])
 params_go_on make o =
     let close : List Token = Fixed CloseParen 0 ∷ [] in
@@ -112,7 +112,7 @@ params_go_on make o =
     let end = plain_complete CloseParen close [] (Fixed CloseParen 0, [], refl, (0, refl), refl) in
     rw (params, end.1) refl
 
--- behind the roles the parameters tell that no role comes
+-- parameters after the roles begin with no role
 goes_same : {X : Type 0} (make : List Formal → X) (mid rest : List Token) (x : X) (used : List Token) → params_at make mid ≡ Ok (x, rest) → mid ≡ used ++ rest → (other : List Token) → has_more list_kind.CommaName mid ≡ has_more list_kind.CommaName (used ++ other)
 goes_same make mid rest x used read parts other =
     let begin = params_begin make mid rest x read in
@@ -132,7 +132,7 @@ goes_same make mid rest x used read parts other =
         let third = Spelled-shorter (Named f.name) _ spelled.4.1 rest spelled.4.4 in
         absurd (omega arith)
 
--- also where they stop at a fault
+-- and so do those with an error
 pub goes_failure : {X : Type 0} (make : List Formal → X) (mid : List Token) (f : ErrorPosition) (failure : StableFailure (params_at make) mid f) → (t : Token) (after : List Token) → failure.left ≡ t ∷ after → (more : List Token) → has_more list_kind.CommaName mid ≡ has_more list_kind.CommaName (failure.prefix ++ t ∷ more)
 goes_failure make mid f failure t after is more = by_prefix failure.prefix (failure.parts ∙ ap (λ l. failure.prefix ++ l) is) (failure.again t after is)
   where
@@ -153,7 +153,7 @@ goes_failure make mid f failure t after is more = by_prefix failure.prefix (fail
     by_prefix (a ∷ []) parts again = ap (has_more list_kind.CommaName) parts ∙ two_alike a t after more
     by_prefix (a ∷ b ∷ u) parts again = ap (has_more list_kind.CommaName) parts ∙ two_alike a b (u ++ t ∷ after) (u ++ t ∷ more)
 
--- the roles behind the first, and the parameters
+-- the roles after the first, and the parameters
 abbrev pub roles_on : {X : Type 0} → Word → (List Word → List Formal → X) → List Token → ParseResult X
 roles_on first make ts = with_prefix (first ∷ []) (many_at list_kind.CommaName word_at ts) >>= λ roles. params_at (make roles.0) roles.1
 

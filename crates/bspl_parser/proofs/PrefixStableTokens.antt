@@ -17,7 +17,7 @@ use Rattle.bspl_parser.specs.inner.GrammarParsers.{formal_at}
 use Rattle.bspl_parser.proofs.Spelled.{ok_is}
 use Rattle.bspl_parser.proofs.PrefixStable.{PrefixStable, StableSuccess, StableFailure, either_stable, then_stable, nothing_stable}
 
--- what the first token gives, and the tokens behind it
+-- what the first token gives, and the tokens after it
 abbrev pub with_rest : {X : Type 0} → Result X ErrorPosition → List Token → ParseResult X
 with_rest (Ok x) ts = Ok (x, ts)
 with_rest (Err f) ts = Err f
@@ -53,14 +53,14 @@ module _ {X : Type 0} (one : List Token → ParseResult X) (takes : TakesOne one
           prefix = [];
           left = t ∷ ts;
           parts = refl;
-          fault = takes.blames t f (is ∙ ap (λ (h : ErrorPosition). Err h) same);
+          position = takes.blames t f (is ∙ ap (λ (h : ErrorPosition). Err h) same);
           again = λ u after same_first more. (let first : t ≡ u = cc in subst (λ u. one (u ∷ more) ≡ Err f) first (takes.some t more ∙ rw is (ap (λ (h : ErrorPosition). Err h) same)));
         },
         refl,
       )
 
   pub stops_first : (ts : List Token) (f : ErrorPosition) → one ts ≡ Err f → (s : StableFailure one ts f) × (s.prefix ≡ [])
-  stops_first [] f e = (let none = takes.none in let is : End ≡ f = cc in (record { prefix = []; left = []; parts = refl; fault = sym is; again = λ t after same more. absurd cc }, refl))
+  stops_first [] f e = (let none = takes.none in let is : End ≡ f = cc in (record { prefix = []; left = []; parts = refl; position = sym is; again = λ t after same more. absurd cc }, refl))
   stops_first (t ∷ ts) f e = stops_first_of t ts f (takes.give t) refl (sym (takes.some t ts) ∙ e)
 
   -- it is stable
@@ -154,7 +154,7 @@ adorn_takes = record { give = give_adorn; blames = adorn_blames; some = adorn_so
 pub adorn_stable : PrefixStable adorn_at
 adorn_stable = takes_stable adorn_at adorn_takes
 
--- the word `key`, where it may stand
+-- the word `key`, if it may come
 pub key_stable : (a : Adorn) → PrefixStable (key_at a)
 unfolding key_at
 key_stable a =

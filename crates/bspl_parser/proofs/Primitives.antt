@@ -19,10 +19,10 @@ use Rattle.bspl_parser.specs.inner.TokenParsers.{begins_with, word_at, symbol_at
 use Rattle.bspl_parser.proofs.SymbolLemmas.{same_symbol-refl, same_symbol-true}
 use Rattle.bspl_parser.proofs.Spelled.{Spelled, Reads, ok_is}
 
--- a reading behind a test that it passed
-pub guard_ok : {A : Type 0} (b : Bool) (x y : A) (fault : ErrorPosition) → cond b (Ok x) (Err fault) ≡ Ok y → (b ≡ true) × (x ≡ y)
-guard_ok true x y fault e = (refl, ok_is x y e)
-guard_ok false x y fault e = absurd cc
+-- a reading after a test that it passed
+pub guard_ok : {A : Type 0} (b : Bool) (x y : A) (position : ErrorPosition) → cond b (Ok x) (Err position) ≡ Ok y → (b ≡ true) × (x ≡ y)
+guard_ok true x y position e = (refl, ok_is x y e)
+guard_ok false x y position e = absurd cc
 
 -- a word
 pub word_sound : (ts rest : List Token) (w : Word) → word_at ts ≡ Ok (w, rest) → Spelled (Named w ∷ []) ts rest
@@ -39,7 +39,7 @@ word_complete ts rest w spelled = rw (spelled.2, spelled.3, spelled.4) refl
 pub word_reads : Reads word_at signs_of_word (λ w. Unit {0}) (λ ts. Unit {0})
 word_reads = record { sound = λ ts rest w e. (word_sound ts rest w e, tt); complete = λ ts rest w spelled good may. word_complete ts rest w spelled }
 
--- a symbol at its place
+-- a symbol at its offset
 pub symbol_sound : (s : Symbol) (ts rest : List Token) (o : ℕ) → symbol_at s ts ≡ Ok (o, rest) → Spelled (Located s o ∷ []) ts rest
 unfolding symbol_at
 symbol_sound s [] rest o e = absurd cc
@@ -55,13 +55,13 @@ pub symbol_complete : (s : Symbol) (ts rest : List Token) (o : ℕ) → Spelled 
 unfolding symbol_at
 symbol_complete s ts rest o spelled = rw (spelled.2, spelled.3, same_symbol-refl s, spelled.4) refl
 
--- a symbol, wherever it stands
+-- a symbol at any offset
 pub plain_sound : (s : Symbol) (ts rest : List Token) (o : ℕ) → symbol_at s ts ≡ Ok (o, rest) → Spelled (Plain s ∷ []) ts rest
 plain_sound s ts rest o e =
     let at_offset = symbol_sound s ts rest o e in
     (at_offset.0, at_offset.1, at_offset.2, (o, at_offset.3), at_offset.4)
 
--- and so is it wherever it stands
+-- and it is taken at any offset
 pub plain_complete : (s : Symbol) (ts rest : List Token) → Spelled (Plain s ∷ []) ts rest → (o : ℕ) × (symbol_at s ts ≡ Ok (o, rest))
 plain_complete s ts rest spelled = (spelled.3.0, symbol_complete s ts rest spelled.3.0 (spelled.0, spelled.1, spelled.2, spelled.3.1, spelled.4))
 
@@ -113,7 +113,7 @@ adorn_of-symbol_of adorn.Nil = refl
 adorn_of-symbol_of adorn.Any = refl
 adorn_of-symbol_of adorn.Opt = refl
 
--- the adornment that is found is spelled so
+-- the adornment that is found is spelled by its sign
 adorn_found : (s : Symbol) (p : ℕ) (ts rest : List Token) (a : Adorn) (o : ℕ) (found : Option Adorn) → adorn_of s ≡ found → option_map_or {U = ParseResult (Adorn × ℕ)} (λ b. Ok ((b, p), ts)) found (Err (At p)) ≡ Ok ((a, o), rest) → Spelled (Located (symbol_of a) o ∷ []) (Fixed s p ∷ ts) rest
 adorn_found s p ts rest a o None is e = absurd cc
 adorn_found s p ts rest a o (Some b) is e =
@@ -122,14 +122,14 @@ adorn_found s p ts rest a o (Some b) is e =
     let same_offset : p ≡ o = ap (λ q. q.0.1) same in
     (Fixed s p, ts, refl, cc, ap (λ q. q.1) same)
 
--- the adornment that is read is spelled so
+-- the adornment that is read is spelled by its sign
 pub adorn_sound : (ts rest : List Token) (a : Adorn) (o : ℕ) → adorn_at ts ≡ Ok ((a, o), rest) → Spelled (Located (symbol_of a) o ∷ []) ts rest
 unfolding adorn_at
 adorn_sound [] rest a o e = absurd cc
 adorn_sound (Name v ∷ ts) rest a o e = absurd cc
 adorn_sound (Fixed s p ∷ ts) rest a o e = adorn_found s p ts rest a o (adorn_of s) refl e
 
--- and the one that is spelled so is read
+-- and the one that its sign spells is read
 pub adorn_complete : (ts rest : List Token) (a : Adorn) (o : ℕ) → Spelled (Located (symbol_of a) o ∷ []) ts rest → adorn_at ts ≡ Ok ((a, o), rest)
 unfolding adorn_at
 adorn_complete ts rest a o spelled = rw (spelled.2, spelled.3, adorn_of-symbol_of a, spelled.4) refl

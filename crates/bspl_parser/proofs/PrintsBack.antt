@@ -1,4 +1,4 @@
--- Texts that are scanned as what some signs say, whatever comes behind them.
+-- Texts that are scanned as some signs say, whatever follows.
 use Rattle.std.proofs.Common.{◌≡◌, ℕ, ◌+◌, List, [], ◌∷◌, ◌++◌, length, refl, sym, subst, ◌∙◌, append_assoc, arith}
 use Rattle.std.proofs.lemmas.List.{length-append}
 use Rattle.bspl_parser.specs.declared.token.Token.{Token}
@@ -16,7 +16,7 @@ pub record IsPrintedBack {X : Type 0} (signs : X → List Sign) (Like : X → Ty
   pub scanned : TokensTo AtEnd offset bytes tokens
   pub spelled : Spelled (signs value) tokens rest
 
--- wherever the text stands, before what may follow it, its tokens spell such a value
+-- at each offset, before what may follow it, the text is scanned as tokens that spell a value of that kind
 pub record PrintsBack {X : Type 0} (May : List ℕ → Type 0) (text : List ℕ) (signs : X → List Sign) (Like : X → Type 0) : Type 0 where
   pub prints_back : (offset : ℕ) (rest : List ℕ) (ts : List Token) → May rest → TokensTo AtEnd (offset + length text) rest ts → IsPrintedBack signs Like offset (text ++ rest) ts
 
@@ -75,7 +75,7 @@ module _ {X Y : Type 0} {May Must : List ℕ → Type 0} {a b : List ℕ} {signs
 pub gap_prints_back : {gap : List ℕ} → IsGap gap → PrintsBack Anything gap none (AnyOf (Unit {0}))
 gap_prints_back {gap} is_gap = record { prints_back = λ offset rest ts may of_ts. record { value = tt; like = tt; tokens = ts; scanned = gap_before AtEnd gap is_gap offset rest ts of_ts; spelled = refl } }
 
--- a token's text, where no longer one stands
+-- a token's text, before what makes no longer token of it
 pub token_prints_back : (May : List ℕ → Type 0) (text : List ℕ) (token : ℕ → Token) (sign : ℕ → Sign) → ((o : ℕ) → SpellsToken text (token o)) → ((o : ℕ) → offset_of (token o) ≡ o) → ((o : ℕ) → Matches (sign o) (token o)) → ((rest : List ℕ) → May rest → IsLongestToken text rest) → PrintsBack May text (λ (o : ℕ). sign o ∷ []) (AnyOf ℕ)
 token_prints_back May text token sign spells at_offset matches longest = record { prints_back = one }
   where

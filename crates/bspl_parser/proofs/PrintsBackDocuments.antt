@@ -21,7 +21,7 @@ use Rattle.bspl_parser.proofs.PrintsBackPhrases.{words_prints_back, formals_prin
 use Rattle.bspl_parser.proofs.PrintsBackTokens.{name_prints_back, spaced_prints_back, indent_prints_back, lf_prints_back, open_prints_back, close_prints_back}
 
 module _ {X : Type 0} {text : List ℕ} {signs : X → List Sign} {Like : X → Type 0} where
-  -- a line of what may stand before an LF
+  -- a line of what an LF may follow
   pub line_prints_back : (May : List ℕ → Type 0) → ((rest : List ℕ) → May (10 ∷ rest)) → PrintsBack May text signs Like → PrintsBack Anything (indented_line text) signs Like
   line_prints_back May before_lf prints =
       PrintsBack-as signs Like (λ (v : (Unit {0} × X) × Unit {0}). v.0.1) (λ v. append-nil (signs v.0.1)) (λ v like. like.0.1)
@@ -49,7 +49,7 @@ public_prints_back fs =
     (PrintsBack-as (λ (gs : List Formal). OneOf Parameters Parameter ∷ listed signs_of_formal gs) (λ gs. map formal_without_offsets gs ≡ map formal_without_offsets fs) (λ (v : ℕ × List Formal). v.1) (λ v. refl) (λ v like. like.1)
     (PrintsBack-then (λ rest must. tt) (spaced_prints_back Parameters (λ o. OneOf Parameters Parameter) refl (λ o. (o, inl refl))) (formals_prints_back fs)))
 
--- words of one text and lists of such words
+-- equal words before equal lists of words
 words_same : (v w : Word) (vs ws : List Word) → word_without_offset v ≡ word_without_offset w → map word_without_offset vs ≡ map word_without_offset ws → map word_without_offset (v ∷ vs) ≡ map word_without_offset (w ∷ ws)
 words_same v w vs ws heads tails = both (word_without_offset v) (word_without_offset w) (map word_without_offset vs) (map word_without_offset ws) heads tails
   where

@@ -13,7 +13,7 @@ cons_same : {X : Type 0} (x y : X) (xs ys : List X) → x ≡ y → xs ≡ ys �
 cons_same x y xs ys heads tails = cc
 
 module _ {X : Type 0} (text : X → List ℕ) (signs : X → List Sign) (bare : X → X) where
-  -- equal to the list apart from places
+  -- equal to the list but for offsets
   abbrev Alike : List X → List X → Type 0
   Alike xs ys = map bare ys ≡ map bare xs
 
@@ -27,7 +27,7 @@ module _ {X : Type 0} (text : X → List ℕ) (signs : X → List Sign) (bare : 
   commas_separated (x ∷ xs) rest separated = at_comma _
 
   module _ (one : (x : X) → PrintsBack IsSeparated (text x) signs (λ y. bare y ≡ bare x)) where
-    -- each behind a comma
+    -- each after a comma
     pub commas_prints_back : (xs : List X) → PrintsBack IsSeparated (comma_prefixed text xs) (after_commas signs) (Alike xs)
     commas_prints_back [] = empty_prints_back IsSeparated (after_commas signs) refl
     commas_prints_back (x ∷ xs) =
@@ -42,7 +42,7 @@ module _ {X : Type 0} (text : X → List ℕ) (signs : X → List Sign) (bare : 
         (PrintsBack-then (commas_separated xs) (one x) (commas_prints_back xs))
 
   module _ (one : (x : X) → PrintsBack Anything (text x) signs (λ y. bare y ≡ bare x)) (gap : List ℕ) (is_gap : IsGap gap) where
-    -- each behind a gap
+    -- each after a gap
     pub each_prints_back : (xs : List X) → PrintsBack Anything (flat_map (λ x. gap ++ text x) xs) (λ (ys : List X). flat_map signs ys) (Alike xs)
     each_prints_back [] = empty_prints_back Anything (λ ys. flat_map signs ys) refl
     each_prints_back (x ∷ xs) =

@@ -1,4 +1,4 @@
--- The steps of a scan over a text, at the place that was reached.
+-- The steps of a scan over a text, at the offset that it reached.
 use Rattle.std.proofs.Common.{◌≡◌, ℕ, ◌+◌, ◌-◌, ◌<◌, ◌≤◌, List, [], ◌∷◌, ◌++◌, length, take, drop, Option, Some, None, sym, ap, subst, ◌∙◌, arith}
 use Rattle.std.specs.Prelude.{IfSome}
 use Rattle.std.proofs.lemmas.List.{take_rest, drop_all, drop-drop, length-drop}
@@ -10,11 +10,11 @@ use Rattle.bspl_parser.proofs.GapLengths.{gap_is_passed}
 use Rattle.bspl_parser.proofs.Scans.{IsFirstToken, first_is_longest}
 use Rattle.bspl_parser.proofs.Scanned.{IsScanned, at_end, gap_skipped, token_taken, bad_byte}
 
--- what is left of the text, as a slice of it has it
+-- the rest of the text, as a slice of it
 abbrev pub left : List ℕ → ℕ → List ℕ
 left text offset = take (length text - offset) (drop offset text)
 
--- so many bytes of the text were passed
+-- the bytes before the offset were scanned
 abbrev pub IsAt : List ℕ → List Token → ℕ → Type 0
 IsAt text tokens offset = IsScanned text tokens offset (drop offset text)
 
@@ -37,8 +37,8 @@ module _ (text : List ℕ) (tokens : List Token) (offset : ℕ) (at_offset : IsA
       subst (IsScanned text (tokens ++ t ∷ []) (offset + n)) (drop-drop n offset text) taken
 
   -- neither was found
-  pub fault_step : offset < length text → (n : ℕ) → n ≡ gap_len (left text offset) → n ≤ 0 → None ≡ first_token (left text offset) → IsBadByte text offset
-  fault_step within n is nothing none =
+  pub error_step : offset < length text → (n : ℕ) → n ≡ gap_len (left text offset) → n ≤ 0 → None ≡ first_token (left text offset) → IsBadByte text offset
+  error_step within n is nothing none =
       let rest = take_rest text offset in
       let len : n ≡ gap_len (drop offset text) = is ∙ ap gap_len rest in
       let long = length-drop offset text in
@@ -56,7 +56,7 @@ found_first text k n found = first_is_longest text k n (sym found)
 pub room_left : (text : List ℕ) (offset n : ℕ) → offset ≤ length text → n ≤ length (left text offset) → offset + n ≤ length text
 room_left text offset n within fits = let rest = ap length (take_rest text offset) in omega (arith, length-drop offset text)
 
--- so many bytes has a token that is found
+-- the length of a token that is found is within the bytes
 pub first_within : (bytes : List ℕ) (found : Option (Kind × ℕ)) → found ≡ first_token bytes → IfSome found (λ f. (0 < f.1) × (f.1 ≤ length bytes))
 first_within bytes None is = tt
 first_within bytes (Some f) is = let prefix = first_is_longest bytes f.0 f.1 (sym is) in (prefix.some, prefix.within)

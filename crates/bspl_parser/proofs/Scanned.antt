@@ -1,4 +1,4 @@
--- Tokens that were taken from the front of a text, and what is left of it.
+-- Tokens that were taken from the start of a text, and the rest of it.
 use Rattle.std.proofs.Common.{◌≡◌, ℕ, ◌+◌, ◌<◌, ◌≤◌, List, [], ◌∷◌, ◌++◌, length, take, drop, Some, None, inl, inr, refl, sym, ap, subst, ◌∙◌, append_assoc, arith}
 use Rattle.std.proofs.lemmas.List.{append-nil, take-append-drop, length-take-le, length-append}
 use Rattle.bspl_parser.specs.declared.scanner.Kind.{Kind}
@@ -18,7 +18,7 @@ AtEnd offset rest = IsEnd rest
 abbrev pub AtBad : ℕ → ℕ → List ℕ → Type 0
 AtBad bad offset rest = (offset ≡ bad) × BeginsNothing rest
 
--- tokens of what is left are the text's, behind those that were taken, up to its end or up to a bad byte
+-- the tokens that were taken, with those of the rest, are the text's, up to its end or up to a bad byte
 pub record IsScanned (text : List ℕ) (tokens : List Token) (offset : ℕ) (bytes : List ℕ) : Type 0 where
   pub whole : (more : List Token) → TokensTo AtEnd offset bytes more → TokensTo AtEnd 0 text (tokens ++ more)
   pub failure : (bad : ℕ) (more : List Token) → TokensTo (AtBad bad) offset bytes more → TokensTo (AtBad bad) 0 text (tokens ++ more)
@@ -69,7 +69,7 @@ none_in_nothing End offset (t ∷ ts) of_ts = absurd (no_text of_ts.0 of_ts.1 of
     no_text [] (c ∷ x) r solid e = cc
     no_text (b ∷ g) x r solid e = cc
 
--- what is passed over is passed
+-- what is skipped is scanned
 pub gap_skipped : (text : List ℕ) (tokens : List Token) (offset : ℕ) (bytes : List ℕ) (n : ℕ) → IsScanned text tokens offset bytes → n ≤ length bytes → IsPassed bytes n → IsScanned text tokens (offset + n) (drop n bytes)
 gap_skipped text tokens offset bytes n scanned within (inl gap) =
     let len = length-take-le n bytes within in

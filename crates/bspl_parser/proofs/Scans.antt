@@ -1,4 +1,4 @@
--- The token that is found at the front of bytes is the longest there, and none is found only where none is.
+-- The token that is found at the start of bytes is the longest there, and none is found only if none is there.
 use Rattle.std.proofs.Common.{◌≡◌, ℕ, suc, ◌+◌, ◌<◌, ◌≤◌, Bool, true, false, cond, eqb, ltb, List, [], ◌∷◌, ◌++◌, map, length, take, drop, Option, Some, None, inl, inr, refl, sym, ap, subst, ◌∙◌, append_assoc, arith}
 use Rattle.std.specs.Prelude.{IsTrue}
 use Rattle.std.specs.List.{find, list_any, starts_with}
@@ -44,7 +44,7 @@ find_none p q f same (y ∷ ys) e =
       | false ↦ λ fails found. or_from (q (f y)) (list_any q (map f ys)) (same y ∙ fails) (find_none p q f same ys found)
     ]) refl e
 
--- what is known of the token that is found at the front
+-- what is known of the token that is found at the start
 pub record IsFirstToken (bytes : List ℕ) (found : Kind) (len : ℕ) : Type 0 where
   pub some : 0 < len
   pub within : len ≤ length bytes
@@ -65,11 +65,11 @@ word_named : (text : List ℕ) (found : Option Symbol) → word_symbol text ≡ 
 word_named text None none word is = accepted_is_name text word (find_none (λ s. bytes_eq text (spelling s)) (bytes_eq text) spelling (λ s. refl) words none)
 word_named text (Some s) some word is = absurd cc
 
--- the front of so many bytes that the list begins with
+-- a prefix of a prefix
 first_of : (bytes text after : List ℕ) → bytes ≡ text ++ after → take (length text) bytes ≡ text
 first_of bytes text after parts = ap (take (length text)) parts ∙ take_at text after (length text) refl
 
--- no token's text begins with the longest name and goes on behind it
+-- no token's text begins with the longest name and is longer
 word_longest : (bytes : List ℕ) (k : ℕ) → LongestPrefix Start bytes k → IsLongestToken (take (suc k) bytes) (drop (suc k) bytes)
 word_longest bytes k prefix more after longer parts spells =
     let text = take (suc k) bytes in
@@ -94,7 +94,7 @@ word_longest bytes k prefix more after longer parts spells =
 some_text : (text : List ℕ) (t : Token) → SpellsToken text t → (m : ℕ) × (length text ≡ suc m)
 some_text text t spells = let solid = texts_solid text t spells in (length solid.others, ap length solid.is)
 
--- the mark that is found stands at the front
+-- the bytes begin with the mark that is found
 mark_is : (bytes : List ℕ) (long : Bool) → starts_with eqb bytes long_arrow ≡ long → (found : Option Symbol) → find (λ s. starts_with eqb bytes (spelling s)) marks ≡ found → (s : Symbol) (n : ℕ)
     → ◌≡◌ {A = Option (Symbol × ℕ)} (cond long (Some (Arrow, 3)) (option_map (λ s. (s, length (spelling s))) found)) (Some (s, n)) → (text : List ℕ) × SpellsSymbol text s × (length text ≡ n) × (take n bytes ≡ text)
 mark_is bytes true is found f s n e =
@@ -111,7 +111,7 @@ mark_found : (bytes : List ℕ) (s : Symbol) (n : ℕ) → mark_at bytes ≡ Som
 unfolding mark_at
 mark_found bytes s n e = mark_is bytes (starts_with eqb bytes long_arrow) refl (find (λ s. starts_with eqb bytes (spelling s)) marks) refl s n e
 
--- no token's text begins with a mark and goes on behind it
+-- no token's text begins with a mark and is longer
 mark_longest : (bytes : List ℕ) (s : Symbol) (n : ℕ) → name_len bytes ≡ 0 → mark_at bytes ≡ Some (s, n) → length (take n bytes) ≡ n → IsLongestToken (take n bytes) (drop n bytes)
 mark_longest bytes s n none found len more after longer parts spells =
     let text = take n bytes in
@@ -167,7 +167,7 @@ first_found bytes false none (Some m) f k n e =
     let zero_len : name_len bytes ≡ 0 = (let no = ltb-false 0 (name_len bytes) none in omega arith) in
     subst (λ (p : Kind × ℕ). IsFirstToken bytes p.0 p.1) (some_is (kind.Fixed m.0, m.1) (k, n) e) (marked_first bytes m.0 m.1 zero_len f)
 
--- the token that is found is the longest at the front
+-- the token that is found is the longest at the start
 pub first_is_longest : (bytes : List ℕ) (k : Kind) (n : ℕ) → first_token bytes ≡ Some (k, n) → IsFirstToken bytes k n
 unfolding first_token
 first_is_longest bytes k n e = first_found bytes (ltb 0 (name_len bytes)) refl (mark_at bytes) refl k n e
@@ -191,7 +191,7 @@ first_not_found bytes false none None f e text rest t parts spells =
           cc
     ]
 
--- where none is found no front is a token's text
+-- if none is found no prefix is a token's text
 pub first_is_none : (bytes : List ℕ) → first_token bytes ≡ None → (text rest : List ℕ) (t : Token) → bytes ≡ text ++ rest → SpellsToken text t → ⊥
 unfolding first_token
 first_is_none bytes e text rest t parts spells = first_not_found bytes (ltb 0 (name_len bytes)) refl (mark_at bytes) refl e text rest t parts spells

@@ -40,12 +40,12 @@ pub record Reads {X : Type 0} (one : List Token → ParseResult X) (signs : X �
   pub sound : (ts rest : List Token) (x : X) → one ts ≡ Ok (x, rest) → Spelled (signs x) ts rest × Good x
   pub complete : (ts rest : List Token) (x : X) → Spelled (signs x) ts rest → Good x → May rest → one ts ≡ Ok (x, rest)
 
--- a step that did not fail, and what goes on with its value
+-- a step that did not fail, and what follows from its value
 pub bind_then : {A B C : Type 0} (r : Result A ErrorPosition) (f : A → Result B ErrorPosition) (y : B) → (r >>= f) ≡ Ok y → ((x : A) → r ≡ Ok x → f x ≡ Ok y → C) → C
 bind_then (Ok x) f y e goes_on = goes_on x refl e
-bind_then (Err fault) f y e goes_on = absurd cc
+bind_then (Err position) f y e goes_on = absurd cc
 
--- tokens of some signs and of others, and what goes on with the seam
+-- tokens of some signs and of others, and what follows from their seam
 pub split_then : {C : Type 0} (signs others : List Sign) (ts rest : List Token) → Spelled (signs ++ others) ts rest → ((mid : List Token) → Spelled signs ts mid → Spelled others mid rest → C) → C
 split_then signs others ts rest both goes_on = let split = Spelled-split signs others ts rest both in goes_on split.0 split.1 split.2
 
@@ -53,7 +53,7 @@ split_then signs others ts rest both goes_on = let split = Spelled-split signs o
 pub ok_is : {A : Type 0} (x y : A) → ◌≡◌ {A = Result A ErrorPosition} (Ok x) (Ok y) → x ≡ y
 ok_is x y e = cc
 
--- what was taken from the front spells a good value
+-- what was taken from the start spells a good value
 pub took : {X : Type 0} (signs : X → List Sign) (Good : X → Type 0) (ts : List Token) (made p : X × List Token) → ◌≡◌ {A = ParseResult X} (Ok made) (Ok p) → Spelled (signs made.0) ts made.1 → Good made.0 → Spelled (signs p.0) ts p.1 × Good p.0
 took {X} signs Good ts made p e spelled good = subst (λ (q : X × List Token). Spelled (signs q.0) ts q.1 × Good q.0) (ok_is made p e) (spelled, good)
 

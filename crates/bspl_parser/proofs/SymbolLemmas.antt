@@ -1,11 +1,11 @@
--- Symbols are told apart by their places.
+-- Symbols are distinct by their indices.
 use Rattle.std.proofs.Common.{◌≡◌, true, ◌++◌, get_or, refl, sym, ap, ◌∙◌}
 use Rattle.std.proofs.lemmas.Bool.{eqb-true, eq-eqb}
 use Rattle.bspl_parser.specs.declared.symbol.Symbol.{Symbol}
 use Rattle.bspl_parser.specs.declared.symbol.Symbol.TheVariants.{Roles, Role, Parameters, Parameter, Private, In, Out, Nil, Any, Opt, Key, Arrow, OpenBrace, CloseBrace, OpenBracket, CloseBracket, OpenParen, CloseParen, Comma, Colon}
 use Rattle.bspl_parser.specs.inner.SymbolTable.{symbol_index, same_symbol, words, marks}
 
--- the symbol at its place
+-- the symbol at its index
 at_index : (s : Symbol) → get_or (words ++ marks) (symbol_index s) Colon ≡ s
 at_index Roles = refl
 at_index Role = refl

@@ -184,7 +184,7 @@ texts_solid text t spells =
       | inr is_mark ↦ is_mark.solid
     ]
 
--- what begins with a solid text has no piece of a gap in front
+-- what begins with a solid text begins with no piece of a gap
 pub solid_is_no_piece : (text rest : List ℕ) → IsSolid text → NoPiece (text ++ rest)
 solid_is_no_piece text rest solid =
     let prefix : text ++ rest ≡ solid.first ∷ (solid.others ++ rest) = ap (λ x. x ++ rest) solid.is in

@@ -14,7 +14,7 @@ use Rattle.bspl_parser.proofs.NameLemmas.{symbol_is_no_name, arrow_is_no_name}
 use Rattle.bspl_parser.proofs.Texts.{texts_solid, spelling_is, solid_is_no_piece}
 use Rattle.bspl_parser.proofs.WordLemmas.{Word_same}
 
--- of two fronts of one list one is a front of the other
+-- of two prefixes of one list one is a prefix of the other
 prefixes : (x r y s : List ℕ) → x ++ r ≡ y ++ s → ((more : List ℕ) × (y ≡ x ++ more) × (r ≡ more ++ s)) ⊎ ((more : List ℕ) × (x ≡ y ++ more) × (s ≡ more ++ r))
 prefixes [] r y s e = inl (y, refl, e)
 prefixes (b ∷ x) r [] s e = inr (b ∷ x, refl, sym e)
@@ -37,14 +37,14 @@ not_both text w s named (inr spelled) =
     let no_name = arrow_is_no_name in
     cc
 
--- a text and a place make one token
+-- a text and an offset make one token
 same_token : (text : List ℕ) (t u : Token) → SpellsToken text t → SpellsToken text u → offset_of t ≡ offset_of u → t ≡ u
 same_token text (Name v) (Name w) of_t of_u same_offset = ap Name (Word_same v w (of_t ∙ sym of_u) same_offset)
 same_token text (Name v) (Fixed s o) of_t of_u same_offset = absurd (not_both text v s of_t of_u)
 same_token text (Fixed s o) (Name w) of_t of_u same_offset = absurd (not_both text w s of_u of_t)
 same_token text (Fixed s o) (Fixed s' o') of_t of_u same_offset = let same : s ≡ s' = spelling_is text s s' of_t of_u in let same_offset' : o ≡ o' = same_offset in cc
 
--- the longest texts at one place are one
+-- the longest texts at one offset are one
 same_text : (x r y s : List ℕ) (t u : Token) → SpellsToken x t → IsLongestToken x r → SpellsToken y u → IsLongestToken y s → x ++ r ≡ y ++ s → x ≡ y
 same_text x r y s t u of_t longest_t of_u longest_u e =
     elim (prefixes x r y s e) [
@@ -52,14 +52,14 @@ same_text x r y s t u of_t longest_t of_u longest_u e =
       | inr h ↦ h.1 ∙ ap (λ more. y ++ more) (longest_u h.0 r t h.2 (subst (λ text. SpellsToken text t) h.1 of_t)) ∙ append-nil y
     ]
 
--- what two tokens at the front of one list share
+-- what two tokens at the start of the same bytes share
 pub record IsOne (t u : Token) (g h x y r s : List ℕ) : Type 0 where
   pub token : t ≡ u
   pub gap : g ≡ h
   pub text : x ≡ y
   pub rest : r ≡ s
 
--- two tokens at the front of one list are one
+-- two tokens at the start of the same bytes are one
 pub same_first : (offset : ℕ) (bytes : List ℕ) (t u : Token) (g x r h y s : List ℕ) → BeginsWithToken offset bytes t g x r → BeginsWithToken offset bytes u h y s → IsOne t u g h x y r s
 same_first offset bytes t u g x r h y s of_t of_u =
     let none_t = solid_is_no_piece x r (texts_solid x t of_t.spelled) in
@@ -83,13 +83,13 @@ pub record IsLast (bytes : List ℕ) : Type 0 where
 abbrev pub AreLast : (ℕ → List ℕ → Type 0) → Type 0
 AreLast End = (offset : ℕ) (rest : List ℕ) → End offset rest → IsLast rest
 
--- so a token does not begin there
+-- no token begins there
 last_is_no_token : (offset : ℕ) (bytes g rest : List ℕ) (u : Token) (h y s : List ℕ) → IsGap g → bytes ≡ g ++ rest → IsLast rest → BeginsWithToken offset bytes u h y s → ⊥
 last_is_no_token offset bytes g rest u h y s gap parts last of_u =
     let same = same_gap gap of_u.skipped rest (y ++ s) last.no_piece (solid_is_no_piece y s (texts_solid y u of_u.spelled)) (sym parts ∙ of_u.parts) in
     last.no_token y s u same.1 of_u.spelled
 
--- one list of tokens, one place and one rest
+-- one list of tokens, one offset and one rest
 pub record SameTokens (E F : ℕ → List ℕ → Type 0) (ts us : List Token) : Type 0 where
   pub tokens : ts ≡ us
   pub offset : ℕ

@@ -1,5 +1,5 @@
 -- The grammar: the signs that spell each part of a document, in reading order. Above each
--- definition stands its line of the grammar.
+-- definition is its line of the grammar.
 use Rattle.std.specs.Prelude.{ℕ, List, [], ◌∷◌, ◌++◌, Option, Some, None}
 use Rattle.std.specs.List.{flat_map}
 use Rattle.bspl_parser.specs.declared.document.Adorn.{Adorn}

@@ -1,4 +1,4 @@
--- Tokens, bad bytes and places of bad tokens are each one, and no two stand together.
+-- A text has one document, one bad byte or one offset of bad syntax, and only one of the three.
 use Rattle.bspl_parser.proofs.Judgements.{one_document, syntax_unique, syntax_has_no_document, syntax_has_no_bad_byte}
 use Rattle.bspl_parser.proofs.Unique.{bad_unique, bad_has_no_tokens}
 use Rattle.bspl_parser.proofs.laws.answers_once.Goals as goal

@@ -1,4 +1,4 @@
--- Each turn reads one more phrase, and a fault is that of the whole.
+-- Each turn reads one more item, and its error is that of the whole list.
 use Rattle.std.proofs.Common.{length, ◌≤◌, sym, arith}
 use Rattle.std.proofs.lemmas.Result.{err_from_is_err_and}
 use Rattle.bspl_parser.proofs.LoopReading.{goes_further, separator_fails, phrase_fails, is_done}

@@ -1,10 +1,10 @@
--- What is read so far and what is left make the whole.
+-- The items that were read and those still to read make the whole list.
 use Rattle.std.proofs.Common.{◌≤◌, length}
 use Rattle.bspl_parser.specs.inner.GrammarParsers.{with_prefix, many_at}
 use Rattle.bspl_parser.proofs.LoopReading.{IsLoopReading}
 use Rattle.bspl_parser.proofs.list_parser.read_more.Given as goal
 
--- the phrases so far and those that are still read make the whole
+-- the items that were read and those still to read make the whole list
 abbrev pub invariant-items : goal.invariant-items
 invariant-items g l =
     IsLoopReading l.kind g.T.Parse.at (with_prefix l.fn.prefix (many_at l.kind g.T.Parse.at l.fn.stream)) l.items l.stream × (length l.stream ≤ length l.fn.stream)

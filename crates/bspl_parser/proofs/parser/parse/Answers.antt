@@ -1,4 +1,4 @@
--- A fault of the scan is a bad byte, and a fault of the reading a bad token or the end.
+-- An error of the scanner is a bad byte, and one of the grammar a bad token or the end.
 use Rattle.bspl_parser.proofs.Judgements.{token_refused, text_of}
 use Rattle.bspl_parser.proofs.parser.parse.Goals as goal
 

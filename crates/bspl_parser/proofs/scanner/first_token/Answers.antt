@@ -1,4 +1,4 @@
--- What is found at the front ends within the bytes.
+-- The token that is found ends within the bytes.
 use Rattle.bspl_parser.proofs.ScanSteps.{first_within}
 use Rattle.bspl_parser.proofs.scanner.first_token.Goals as goal
 

@@ -1,5 +1,5 @@
--- Each turn passes a gap or takes a token, and a fault is the first one.
-use Rattle.bspl_parser.proofs.ScanSteps.{gap_step, token_step, fault_step, last_step, found_first, room_left}
+-- Each turn skips a gap or takes a token, and an error is at the first bad byte.
+use Rattle.bspl_parser.proofs.ScanSteps.{gap_step, token_step, error_step, last_step, found_first, room_left}
 use Rattle.bspl_parser.proofs.scanner.tokens_of.Goals as goal
 
 pub loop-offset-preserved-then-skipped-gt0 : goal.loop-offset-preserved-then-skipped-gt0
@@ -17,7 +17,7 @@ loop-offset-preserved c =
 
 pub returns-in_default-clause-error : goal.returns-in_default-clause-error
 returns-in_default-clause-error c =
-    fault_step c.args.text.now c.loop-offset.tokens c.loop-offset.offset c.loop-offset.invariant.1 c.loop-offset-test.true c.gap_len-skipped.result c.gap_len-skipped.ensures.exact c.if-skipped-gt0.false c.in_default.ensures.exact
+    error_step c.args.text.now c.loop-offset.tokens c.loop-offset.offset c.loop-offset.invariant.1 c.loop-offset-test.true c.gap_len-skipped.result c.gap_len-skipped.ensures.exact c.if-skipped-gt0.false c.in_default.ensures.exact
 
 pub returns-clause-ok : goal.returns-clause-ok
 returns-clause-ok c = last_step c.args.text.now c.loop-offset.tokens c.loop-offset.offset c.loop-offset.invariant.1 c.loop-offset-test.false

@@ -1,9 +1,9 @@
--- What is taken so far stands before what is left.
+-- The tokens that were taken come before the rest.
 use Rattle.std.proofs.Common.{◌≤◌, ◌-◌, length, drop}
 use Rattle.bspl_parser.proofs.Scanned.{IsScanned}
 use Rattle.bspl_parser.proofs.scanner.tokens_of.Given as goal
 
--- the tokens so far were taken from the front of the text
+-- the tokens were taken from the start of the text
 abbrev pub invariant-loop-offset : goal.invariant-loop-offset
 invariant-loop-offset l = (l.offset ≤ length l.text) × IsScanned l.text l.tokens l.offset (drop l.offset l.text)
 
