@@ -6,7 +6,9 @@ use Rattle.bspl_types.specs.declared.protocol.Carried.{Carried}
 use Rattle.bspl_types.specs.declared.protocol.Message.{Message}
 use Rattle.bspl_types.specs.declared.protocol.ParamInfo.{ParamInfo}
 use Rattle.bspl_types.specs.declared.refusals.Refusal.{Refusal}
-use Rattle.bspl_types.specs.declared.refusals.Refusal.TheVariants.{NoKey, NotWholeKey, SelfMessage, RepeatedParam, NoMemory}
+use Rattle.bspl_types.specs.declared.refusals.Refusal.TheVariants.{NoKey, NotWholeKey}
+use Rattle.bspl_types.specs.declared.refusals.Refusal.TheVariants.{SelfMessage, RepeatedParam}
+use Rattle.bspl_types.specs.declared.refusals.Refusal.TheVariants.{NoMemory}
 use Rattle.bspl_types.specs.Admission.{IsAdmittedMessage}
 use Rattle.bspl_types.specs.Adornment.{Binds}
 

@@ -1,8 +1,10 @@
-ghost use Rattle.std.specs.Prelude.{◌≡◌, ◌≢◌, ◌<◌, ◌↔◌, length, IfOk, IfErr, IfSome, IfNone, OnOk, IsTrue, MatchOption};
+ghost use Rattle.std.specs.Prelude.{◌≡◌, ◌≢◌, ◌<◌, ◌↔◌, length, IfOk, IfErr, IfSome, IfNone};
+ghost use Rattle.std.specs.Prelude.{OnOk, IsTrue, MatchOption};
 ghost use Rattle.std.specs.List.{All, Any};
 ghost use Rattle.bspl_types.specs.Admission.{IsAdmittedMessage};
 ghost use Rattle.bspl_types.specs.Adornment.{Binds};
-ghost use Rattle.adornment_check.specs.Refusing.{AreApart, IsFirstRepeated, IsFirstMissing, IsMessageRefusal, IsNamed, RefusesMessage};
+ghost use Rattle.adornment_check.specs.Refusing.{AreApart, IsFirstRepeated, IsFirstMissing};
+ghost use Rattle.adornment_check.specs.Refusing.{IsMessageRefusal, IsNamed, RefusesMessage};
 
 use bspl_types::{Carried, Message, Name, NoMemory, ParamInfo, Refusal, TryClone};
 

@@ -5,7 +5,7 @@ use Rattle.std.specs.List.{All}
 use Rattle.std.proofs.lemmas.Bool.{cases_Bool, cases_lt, cond-true, cond-false, false≢true}
 use Rattle.std.proofs.Math.Seq.{get_or-append_seam}
 use Rattle.std.proofs.lemmas.List.{append_assoc, append-nil}
-use Rattle.bspl_types.specs.Spelling.{byte_spelling, is_plain}
+use Rattle.bspl_types.specs.ValueSpelling.{byte_spelling, is_plain}
 use Rattle.bspl_types.specs.inner.Spelling.{spelled_bytes, BeginsWithNone, SpellsText}
 
 -- how a digit is written

@@ -15,4 +15,5 @@ message_of x m = slice_index_or x.messages m no_message
 
 -- message `m` has parameter `p` with that adornment
 abbrev pub Adorns : Expanded → ℕ → Adornment → ℕ → Type 0
-Adorns x m adornment p = Contains (message_of x m).carried (record { param = p; adornment = adornment })
+Adorns x m adornment p =
+    Contains (message_of x m).carried (record { param = p; adornment = adornment })

@@ -12,7 +12,8 @@ use Rattle.bspl_types.specs.History.{instance_of}
 use Rattle.bspl_types.specs.Instance.{Carries}
 
 -- some event under the key carries the parameter with that value
-pub record Knows (x : Expanded) (history : List Event) (key : List Value) (p : ℕ) (v : Value) : Type 0 where
+pub record Knows (x : Expanded) (history : List Event) (key : List Value) (p : ℕ) (v : Value)
+    : Type 0 where
   pub event : Event
   pub among : Contains history event
   pub under : (instance_of event).key ≡ key
@@ -23,7 +24,8 @@ pub record Knows (x : Expanded) (history : List Event) (key : List Value) (p : �
 abbrev pub IsKnown : Expanded → List Event → List Value → ℕ → Type 0
 IsKnown x history key p = (v : Value) × Knows x history key p v
 
--- the message exists, each `in` parameter of it is known under the key, and no `out` and no `nil` parameter is
+-- the message exists, each `in` parameter of it is known under the key,
+-- and no `out` and no `nil` parameter is
 pub record CanEmit (x : Expanded) (history : List Event) (m : ℕ) (key : List Value) : Type 0 where
   pub known : m < length x.messages
   pub ins : (p : ℕ) → Adorns x m In p → IsKnown x history key p

@@ -6,7 +6,7 @@ pub mod Shape
 pub mod Parts
 pub mod Text
 pub mod Value
-pub mod Spelling
+pub mod ValueSpelling
 pub mod Expansion
 pub mod KeyAgrees
 pub mod Instance

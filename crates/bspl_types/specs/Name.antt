@@ -11,7 +11,8 @@ begins_name b = is_ascii_alphabetic b || b == 95
 -- a letter, a digit or `_`, or a `-` that a letter or a digit follows at once
 abbrev pub goes_on : ℕ → List ℕ → Bool
 goes_on b [] = is_ascii_alphanumeric b || b == 95
-goes_on b (next ∷ rest) = (is_ascii_alphanumeric b || b == 95) || (b == 45 && is_ascii_alphanumeric next)
+goes_on b (next ∷ rest) =
+    (is_ascii_alphanumeric b || b == 95) || (b == 45 && is_ascii_alphanumeric next)
 
 -- each byte goes on
 abbrev pub is_name_rest : List ℕ → Bool
@@ -26,11 +27,14 @@ is_plain_name (b ∷ rest) = begins_name b && is_name_rest rest
 -- digits, the first of them not 0
 abbrev pub is_positive_number : List ℕ → Bool
 is_positive_number [] = false
-is_positive_number (d ∷ digits) = (is_ascii_digit d && not (d == 48)) && list_all is_ascii_digit digits
+is_positive_number (d ∷ digits) =
+    (is_ascii_digit d && not (d == 48)) && list_all is_ascii_digit digits
 
 -- a number, `.` and a plain name
 abbrev pub is_group : List ℕ → Bool
-is_group text = is_positive_number (before_first (λ b. b == 46) text) && is_plain_name (after_first (λ b. b == 46) text)
+is_group text =
+    is_positive_number (before_first (λ b. b == 46) text) &&
+    is_plain_name (after_first (λ b. b == 46) text)
 
 -- a plain name, and groups after it
 abbrev pub is_grouped : List (List ℕ) → Bool

@@ -1,11 +1,14 @@
--- What holds of every expansion: roles and parameters exist, names are valid and distinct, counts are within the limits.
-use Rattle.std.specs.Prelude.{◌≡◌, ◌≢◌, ℕ, ◌<◌, ◌≤◌, Bool, false, List, map, length, take, drop, Option, Some, None, IsTrue}
+-- What holds of every expansion: roles and parameters exist, names are valid and distinct,
+-- and counts are within the limits.
+use Rattle.std.specs.Prelude.{◌≡◌, ◌≢◌, ℕ, ◌<◌, ◌≤◌, Bool, false, List, map, length, take, drop}
+use Rattle.std.specs.Prelude.{Option, Some, None, IsTrue}
 use Rattle.std.specs.List.{All, AllPairs, filter, enumerate_from}
 use Rattle.bspl_types.specs.declared.protocol.Adornment.{Adornment}
 use Rattle.bspl_types.specs.declared.protocol.Message.{Message}
 use Rattle.bspl_types.specs.declared.protocol.ParamInfo.{ParamInfo}
 use Rattle.bspl_types.specs.Adornment.{has_value}
-use Rattle.bspl_types.specs.Limits.{role_limit, param_limit, key_limit, carried_limit, message_limit}
+use Rattle.bspl_types.specs.Limits.{role_limit, param_limit, key_limit, carried_limit}
+use Rattle.bspl_types.specs.Limits.{message_limit}
 use Rattle.bspl_types.specs.Name.{is_name}
 
 -- each has a valid name, and the names are distinct
@@ -18,7 +21,8 @@ abbrev pub is_public_value : Option Adornment → Bool
 is_public_value None = false
 is_public_value (Some adornment) = has_value adornment
 
--- exactly the first `public` parameters are adorned, and only those adorned `in` or `out` are marked as keys
+-- exactly the first `public` parameters are adorned,
+-- and only those adorned `in` or `out` are marked as keys
 pub record IsDeclared (public : ℕ) (params : List ParamInfo) : Type 0 where
   pub some_public : 0 < public
   pub within : public ≤ length params

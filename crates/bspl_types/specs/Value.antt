@@ -3,7 +3,7 @@ use Rattle.std.specs.Prelude.{◌≡◌, ◌↔◌, IsTrue, Bool, false, ◌==�
 use lib.Pointwise.{pointwise}
 use Rattle.bspl_types.specs.declared.value.Value.{Value}
 use Rattle.bspl_types.specs.declared.value.Value.TheVariants.{Number, Text}
-use Rattle.bspl_types.specs.Text.{IsText}
+use Rattle.bspl_types.specs.Text.{IsTextValue}
 
 -- the same number, or the same bytes; a number is never equal to a text
 abbrev pub same_value : Value → Value → Bool
@@ -27,4 +27,4 @@ EqualValuesAreOne = (xs ys : List Value) → IsTrue (equal_values xs ys) ↔ (xs
 -- a number of 64 bits, or such a text
 abbrev pub IsValue : Value → Type 0
 IsValue (Number n) = n < 2 ^ 64
-IsValue (Text bytes) = IsText bytes
+IsValue (Text bytes) = IsTextValue bytes

@@ -1,7 +1,8 @@
-ghost use Rattle.std.specs.Prelude.{◌≡◌, ◌≢◌, ℕ, ◌<◌, ◌^◌, ◌↔◌, false, List, [], ◌∷◌, ◌++◌, min, IsTrue, MatchOption};
+ghost use Rattle.std.specs.Prelude.{◌≡◌, ◌≢◌, ℕ, ◌<◌, ◌^◌, ◌↔◌, false, List, [], ◌∷◌, ◌++◌, min};
+ghost use Rattle.std.specs.Prelude.{IsTrue, MatchOption};
 ghost use Rattle.std.specs.Fmt.{decimal, digit_glyph};
 ghost use Rattle.std.specs.Str.Parse.{digits_value};
-ghost use Rattle.bspl_types.specs.Spelling.{byte_spelling};
+ghost use Rattle.bspl_types.specs.ValueSpelling.{byte_spelling};
 ghost use Rattle.bspl_types.specs.inner.Spelling.{BeginsWithNone, IsNumeral, SpellsText};
 
 use super::buffer::Buffer;

@@ -2,7 +2,8 @@ ghost use Rattle.std.specs.Prelude.{◌≡◌, ◌<◌, ◌≤◌, ◌↔◌, le
 ghost use Rattle.std.specs.Cmp.{partial_equiv_from_equiv};
 ghost use Rattle.bspl_types.specs.Limits.{key_limit, carried_limit};
 ghost use Rattle.bspl_types.specs.Value.{equal_values};
-ghost use Rattle.bspl_types.specs.inner.Equality.{equal_values_laws, equal_values_writes, values_writes};
+ghost use Rattle.bspl_types.specs.inner.Equality.{equal_values_laws, equal_values_writes};
+ghost use Rattle.bspl_types.specs.inner.Equality.{values_writes};
 
 use super::limits::{CARRIED_LIMIT, KEY_LIMIT};
 use super::value::{Value, are_equal};
@@ -131,7 +132,10 @@ impl Model for Values {
 
     ghost invariant = { λ v. IsPadded carried_limit (Number 0) v.len v.cells };
 
-    ghost inverse = { λ xs. record { cells = padded carried_limit (Number 0) xs; len = length xs } };
+    ghost inverse = { λ xs. record {
+      cells = padded carried_limit (Number 0) xs;
+      len = length xs;
+    } };
 
     ghost inverse_ok = { λ v is_padded i. record {
       cells = padded_items carried_limit (Number 0) v.len v.cells is_padded i;

@@ -1,4 +1,4 @@
-ghost use Rattle.bspl_types.specs.Spelling.{ValuesAreSpelledOnce};
+ghost use Rattle.bspl_types.specs.ValueSpelling.{ValuesAreSpelledOnce};
 ghost use Rattle.bspl_types.specs.Value.{SameValuesAreOne, EqualValuesAreOne};
 
 /// A law: values of one spelling are equal, so a value that was written is read back.

@@ -1,5 +1,7 @@
 ghost use Rattle.std.specs.Prelude.{◌≡◌, ◌≤◌, ◌==◌, length};
-ghost use Rattle.bspl_types.specs.Name.{begins_name, goes_on, is_name_rest, is_plain_name, is_positive_number, is_group, is_grouped, is_reserved, is_name};
+ghost use Rattle.bspl_types.specs.Name.{begins_name, goes_on, is_name_rest, is_plain_name};
+ghost use Rattle.bspl_types.specs.Name.{is_positive_number, is_group, is_grouped, is_reserved};
+ghost use Rattle.bspl_types.specs.Name.{is_name};
 ghost use Rattle.std.specs.Char.{is_ascii_digit};
 ghost use Rattle.std.specs.List.{list_all, position_or_len, slice_split};
 ghost use Rattle.std.specs.Option.{option_map};

@@ -1,6 +1,7 @@
 ghost use Rattle.std.specs.Prelude.{◌≡◌, ◌≢◌, ◌↔◌, ◌<◌, ◌^◌, length, IsTrue, IfOk, None};
 ghost use Rattle.std.specs.List.{All};
-ghost use Rattle.bspl_types.specs.Shape.{IsDeclared, IsMessageOf, IsWellFormed, IsWithinLimits, key_indices, is_public_value};
+ghost use Rattle.bspl_types.specs.Shape.{IsDeclared, IsMessageOf, IsWellFormed, IsWithinLimits};
+ghost use Rattle.bspl_types.specs.Shape.{key_indices, is_public_value};
 
 use super::limits::{CARRIED_LIMIT, KEY_LIMIT, MESSAGE_LIMIT, PARAM_LIMIT, ROLE_LIMIT};
 use super::named::are_named;
@@ -20,7 +21,8 @@ pub fn is_well_formed(
     messages: &[Message],
 ) -> bool
     requires { keys.now ≡ key_indices params.now }
-    ensures { IsTrue result ↔ IsWellFormed name.now roles.now params.now public keys.now messages.now }
+    ensures { IsTrue result ↔
+        IsWellFormed name.now roles.now params.now public keys.now messages.now }
 {
     let role_count = roles.len();
     let param_count = params.len();
@@ -62,7 +64,8 @@ fn are_bare(params: &[ParamInfo]) -> bool
 
 /// Whether each key is public, and adorned `in` or `out`.
 fn are_public_values(params: &[ParamInfo]) -> bool
-    ensures { IsTrue result ↔ All (λ p. IsTrue p.key → IsTrue (is_public_value p.adornment)) params.now }
+    ensures { IsTrue result ↔
+        All (λ p. IsTrue p.key → IsTrue (is_public_value p.adornment)) params.now }
 {
     params
         .iter()

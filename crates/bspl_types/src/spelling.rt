@@ -1,7 +1,7 @@
 ghost use Rattle.std.specs.Prelude.{◌≡◌, ◌<◌, ◌≤◌, ◌+◌, false, [], ◌∷◌, ◌++◌, length};
 ghost use Rattle.std.specs.Fmt.{decimal, digit_glyph};
 ghost use Rattle.bspl_types.specs.Limits.{value_text_limit};
-ghost use Rattle.bspl_types.specs.Spelling.{byte_spelling, is_plain, spelling};
+ghost use Rattle.bspl_types.specs.ValueSpelling.{byte_spelling, is_plain, value_spelling};
 ghost use Rattle.bspl_types.specs.inner.Spelling.{spelled_bytes};
 ghost use Rattle.bspl_types.specs.Value.{IsValue};
 
@@ -10,7 +10,7 @@ use super::value::Value;
 
 /// The spelling of the value.
 pub fn spelled(value: &Value) -> Buffer
-    ensures spelling { result ≡ spelling value.now }
+    ensures spelling { result ≡ value_spelling value.now }
     ensures value { IsValue value.now }
 {
     match value {

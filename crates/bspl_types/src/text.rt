@@ -6,7 +6,7 @@ ghost use Rattle.std.proofs.Common.{rules};
 ghost use Rattle.std.proofs.lemmas.Cmp.{nat_list_eq_equiv};
 ghost use lib.Pointwise.{pointwise};
 ghost use Rattle.bspl_types.specs.Limits.{value_text_limit};
-ghost use Rattle.bspl_types.specs.Text.{IsText};
+ghost use Rattle.bspl_types.specs.Text.{IsTextValue};
 
 use std::hash::{Hash, Hasher};
 use std::marker::Model;
@@ -22,14 +22,14 @@ impl Model for Text32 {
     ghost use Rattle.std.specs.Prelude.{List, ℕ, take, length};
     ghost use Rattle.bspl_types.specs.Limits.{value_text_limit};
     ghost use Rattle.bspl_types.specs.inner.Padded.{padded, IsPadded, padded_items, length_items};
-    ghost use Rattle.bspl_types.specs.Text.{IsText};
+    ghost use Rattle.bspl_types.specs.Text.{IsTextValue};
 
     ghost Value = { List ℕ };
 
     ghost view = { λ t. take t.len t.cells };
 
     ghost invariant = { λ t.
-        IsText (take t.len t.cells) × IsPadded value_text_limit 0 t.len t.cells };
+        IsTextValue (take t.len t.cells) × IsPadded value_text_limit 0 t.len t.cells };
 
     ghost inverse = { λ bytes. record {
       cells = padded value_text_limit 0 bytes;
@@ -47,7 +47,7 @@ impl Text32 {
     pub fn of(bytes: &[u8]) -> Text32
         requires { length bytes.now ≤ value_text_limit }
         ensures bytes { result ≡ bytes.now }
-        ensures text { IsText result }
+        ensures text { IsTextValue result }
     {
         let len = bytes.len();
         let mut cells = [0; 32];
@@ -58,7 +58,7 @@ impl Text32 {
     /// The bytes, in order.
     pub fn as_slice(&self) -> &[u8]
         ensures bytes { result.now ≡ self.now }
-        ensures text { IsText self.now }
+        ensures text { IsTextValue self.now }
     {
         &self.cells[..self.len]
     }

@@ -1,7 +1,7 @@
 ghost use Rattle.std.specs.Prelude.{◌≡◌, ◌↔◌, ◌++◌, IsTrue, OnOk, OnErr, MatchOption};
 ghost use Rattle.std.specs.Cmp.{partial_equiv_from_equiv};
 ghost use Rattle.bspl_types.specs.Value.{same_value, equal_values, IsValue};
-ghost use Rattle.bspl_types.specs.Spelling.{Spells, spelling};
+ghost use Rattle.bspl_types.specs.ValueSpelling.{SpellsValue, value_spelling};
 ghost use Rattle.bspl_types.specs.inner.Equality.{same_value_laws, same_value_writes, value_writes};
 
 use super::field::{read_number, read_text};
@@ -23,7 +23,7 @@ impl Value {
     /// The value that the field spells, if it spells one.
     pub fn read(field: &[u8]) -> Option<Value>
         ensures { MatchOption result
-            ((v : Value) → ¬ Spells field.now v) (Spells field.now) }
+            ((v : Value) → ¬ SpellsValue field.now v) (SpellsValue field.now) }
     {
         match field.strip_prefix(b"\"") {
             Some(text) => match read_text(text) {
@@ -47,7 +47,7 @@ impl Value {
 
     /// Puts the spelling at the end, in one step.
     pub fn write(&self, into: &mut Bytes) -> Result<(), NoMemory>
-        ensures ok { OnOk result (into.new ≡ into.old ++ spelling self.now) }
+        ensures ok { OnOk result (into.new ≡ into.old ++ value_spelling self.now) }
         ensures err { OnErr result (into.new ≡ into.old) }
         ensures value { IsValue self.now }
     {

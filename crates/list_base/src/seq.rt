@@ -1,4 +1,5 @@
-ghost use Rattle.std.specs.Prelude.{◌≡◌, ◌<◌, ◌↔◌, [], ◌∷◌, ◌++◌, length, IsTrue, Some, IfSome, IfNone, IsNone, IfOk, OnOk, OnErr, slice_get, slice_set};
+ghost use Rattle.std.specs.Prelude.{◌≡◌, ◌<◌, ◌↔◌, [], ◌∷◌, ◌++◌, length, IsTrue, Some, IfSome};
+ghost use Rattle.std.specs.Prelude.{IfNone, IsNone, IfOk, OnOk, OnErr, slice_get, slice_set};
 ghost use Rattle.std.specs.Borrow.{sem};
 ghost use Rattle.list_base.specs.Lending.{LendsItem};
 

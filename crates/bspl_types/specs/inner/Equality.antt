@@ -1,4 +1,4 @@
--- The tests of equality decide it, and what a hash is made of: the laws of the impls of `Eq` and `Hash`.
+-- The tests of equality decide it, and what a hash is made of.
 use Rattle.std.proofs.Common.{◌≡◌, Bool, true, List, ◌++◌, ap, refl, sym}
 use Rattle.std.proofs.lemmas.Bool.Decides.{Decides-eqb, Decides-like, same_from_decides}
 use Rattle.std.proofs.lemmas.Slice.Eq.{slice_eq-Decides}
@@ -6,7 +6,7 @@ use Rattle.std.specs.Bool.{Decides}
 use Rattle.std.specs.Cmp.{IsEquivalence}
 use Rattle.std.specs.Hash as fed
 use Rattle.std.specs.Hash.{HashWrites}
-use Rattle.std.specs.Prelude.{nat_eq}
+use Rattle.std.specs.Prelude.{nat_eq, ◌==◌}
 use lib.Pointwise.{pointwise}
 use Rattle.bspl_types.specs.declared.value.Value.{Value}
 use Rattle.bspl_types.specs.declared.value.Value.TheVariants.{Number, Text}
@@ -14,8 +14,11 @@ use Rattle.bspl_types.specs.Value.{same_value, equal_values}
 
 -- two values are the same exactly if they are one
 pub same_value_decides : (a b : Value) → Decides (same_value a b) (a ≡ b)
-same_value_decides (Number a) (Number b) = Decides-like (same_value (Number a) (Number b)) (λ same. ap Number same) (λ same. cc) (Decides-eqb a b)
-same_value_decides (Text a) (Text b) = Decides-like (same_value (Text a) (Text b)) (λ same. ap Text same) (λ same. cc) (slice_eq-Decides Decides-eqb a b (pointwise nat_eq a b) refl)
+same_value_decides (Number a) (Number b) =
+    Decides-like (a == b) (λ same. ap Number same) (λ same. cc) (Decides-eqb a b)
+same_value_decides (Text a) (Text b) =
+    Decides-like (pointwise nat_eq a b) (λ same. ap Text same) (λ same. cc)
+    (slice_eq-Decides Decides-eqb a b (pointwise nat_eq a b) refl)
 same_value_decides (Number a) (Text b) = (λ no. absurd (cc), λ same. absurd (cc))
 same_value_decides (Text a) (Number b) = (λ no. absurd (cc), λ same. absurd (cc))
 
@@ -24,11 +27,13 @@ pub equal_values_decides : (xs ys : List Value) → Decides (equal_values xs ys)
 equal_values_decides xs ys = slice_eq-Decides same_value_decides xs ys (equal_values xs ys) refl
 
 -- a test that decides equality is an equivalence
-decided_laws : {X : Type 0} (E : X → X → Bool) → ((x y : X) → Decides (E x y) (x ≡ y)) → IsEquivalence E
+decided_laws : {X : Type 0} (E : X → X → Bool)
+    → ((x y : X) → Decides (E x y) (x ≡ y)) → IsEquivalence E
 decided_laws E decides =
     record {
       refl = λ x. (decides x x).1 refl;
-      symm = λ x y. same_from_decides (E x y) (E y x) (decides x y) (λ same. sym ((decides y x).0 same), λ same. (decides y x).1 (sym same));
+      symm = λ x y. same_from_decides (E x y) (E y x) (decides x y)
+          (λ same. sym ((decides y x).0 same), λ same. (decides y x).1 (sym same));
       congr = λ x y z same. ap (λ w. E w z) ((decides x y).0 same);
     }
 
@@ -51,5 +56,6 @@ values_writes values = fed.slice value_writes values
 pub same_value_writes : (v w : Value) → same_value v w ≡ true → value_writes v ≡ value_writes w
 same_value_writes v w same = ap value_writes ((same_value_decides v w).0 same)
 
-pub equal_values_writes : (vs ws : List Value) → equal_values vs ws ≡ true → values_writes vs ≡ values_writes ws
+pub equal_values_writes : (vs ws : List Value)
+    → equal_values vs ws ≡ true → values_writes vs ≡ values_writes ws
 equal_values_writes vs ws same = ap values_writes ((equal_values_decides vs ws).0 same)

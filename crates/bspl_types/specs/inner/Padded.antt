@@ -1,4 +1,4 @@
--- A list in an array of a fixed size: its items, and blank cells after them. The cells are determined by the items.
+-- A list in an array of a fixed size: its items, and blank cells after them.
 use Rattle.std.specs.Prelude.{◌≡◌, ℕ, ◌-◌, ◌≤◌, List, ◌++◌, length, take, drop, replicate}
 use Rattle.std.proofs.Common.{ap, ◌∙◌, sym, arith, length-take}
 use Rattle.std.proofs.lemmas.List.{take-append-drop}
@@ -14,11 +14,13 @@ pub record IsPadded {X : Type 0} (room : ℕ) (blank : X) (len : ℕ) (cells : L
   pub rest : drop len cells ≡ replicate (room - len) blank
 
 -- there are `len` items
-pub length_items : {X : Type 0} (room : ℕ) (blank : X) (len : ℕ) (cells : List X) → IsPadded room blank len cells → length (take len cells) ≡ len
+pub length_items : {X : Type 0} (room : ℕ) (blank : X) (len : ℕ) (cells : List X)
+    → IsPadded room blank len cells → length (take len cells) ≡ len
 length_items room blank len cells is_padded = grind (arith, length-take, is_padded.few, is_padded.all)
 
 -- the items, padded, are the cells
-pub padded_items : {X : Type 0} (room : ℕ) (blank : X) (len : ℕ) (cells : List X) → IsPadded room blank len cells → padded room blank (take len cells) ≡ cells
+pub padded_items : {X : Type 0} (room : ℕ) (blank : X) (len : ℕ) (cells : List X)
+    → IsPadded room blank len cells → padded room blank (take len cells) ≡ cells
 padded_items room blank len cells is_padded =
     ap (λ n. take len cells ++ replicate (room - n) blank) (length_items room blank len cells is_padded)
     ∙ ap (λ rest. take len cells ++ rest) (sym is_padded.rest)

@@ -5,4 +5,5 @@ use Rattle.std.specs.List.{slice_split}
 -- the first piece, and the text of the others, if there are any
 abbrev pub StartsPieces : (ℕ → Bool) → List ℕ → List ℕ → Option (List ℕ) → Type 0
 StartsPieces cuts text piece None = slice_split cuts text ≡ piece ∷ []
-StartsPieces cuts text piece (Some rest) = (slice_split cuts text ≡ piece ∷ slice_split cuts rest) × (length rest < length text)
+StartsPieces cuts text piece (Some rest) =
+    (slice_split cuts text ≡ piece ∷ slice_split cuts rest) × (length rest < length text)

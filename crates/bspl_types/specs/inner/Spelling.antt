@@ -2,8 +2,8 @@
 use Rattle.std.specs.Prelude.{◌≡◌, ◌≢◌, ℕ, ◌<◌, true, List, [], ◌∷◌, ◌++◌, length, slice_index}
 use Rattle.std.specs.Char.{is_ascii_digit}
 use Rattle.std.specs.List.{flat_map, list_all}
-use Rattle.bspl_types.specs.Spelling.{byte_spelling}
-use Rattle.bspl_types.specs.Text.{IsText}
+use Rattle.bspl_types.specs.ValueSpelling.{byte_spelling}
+use Rattle.bspl_types.specs.Text.{IsTextValue}
 
 -- the spellings of the bytes, one after another
 abbrev pub spelled_bytes : List ℕ → List ℕ
@@ -11,7 +11,7 @@ spelled_bytes bytes = flat_map byte_spelling bytes
 
 -- what follows an opening quote spells the text
 pub record SpellsText (field : List ℕ) (bytes : List ℕ) : Type 0 where
-  pub text : IsText bytes
+  pub text : IsTextValue bytes
   pub spelled : field ≡ spelled_bytes bytes ++ 34 ∷ []
 
 -- no byte's spelling begins the field
