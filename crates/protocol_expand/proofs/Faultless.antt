@@ -15,7 +15,7 @@ use Rattle.bspl_parser.specs.declared.document.Reference.{Reference as Use}
 use Rattle.bspl_parser.specs.declared.word.Word.{Word}
 use Rattle.protocol_names.specs.declared.fault.FaultKind.TheVariants.{Duplicate, Unknown, Arity, BadAdornment}
 use Rattle.protocol_names.specs.Fault.{HasNoFault, IsDuplicate, repeated, IsFaultIn, IsItemFault, IsUnsupported, other_arity}
-use Rattle.protocol_names.specs.Finding.{HasNone, stands}
+use Rattle.protocol_names.specs.FaultOrder.{HasNone, stands}
 use Rattle.protocol_names.specs.Names.{IsSameArity, names_of, param_words, params_used, protocol_of, roles_used, texts}
 use Rattle.list_base.proofs.FirstIndex.{has_index}
 use Rattle.flat_expansion.specs.Ready.{AreDistinct, IsAdorned}

@@ -8,7 +8,7 @@ use Rattle.bspl_parser.specs.declared.word.Word.{Word}
 use Rattle.protocol_names.specs.declared.fault.DocumentFault.{DocumentFault}
 use Rattle.protocol_names.specs.declared.fault.FaultKind.{FaultKind as Kind}
 use Rattle.protocol_names.specs.declared.fault.FaultKind.TheVariants.{Duplicate, Unknown, Arity, BadAdornment, ForeignKey}
-use Rattle.protocol_names.specs.Finding.{IsFirst, IsNotAfter, rank}
+use Rattle.protocol_names.specs.FaultOrder.{IsFirst, IsNotAfter, rank}
 use Rattle.protocol_names.specs.Names.{texts}
 use Rattle.reference_graph.specs.Counting.{saturated}
 use Rattle.protocol_limits.specs.Limits.{IsFirstOver, Limit}

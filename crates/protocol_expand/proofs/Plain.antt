@@ -5,7 +5,7 @@ use Rattle.bspl_types.specs.declared.expanded.Expanded.{Expanded}
 use Rattle.bspl_parser.specs.declared.document.Declaration.{Declaration}
 use Rattle.bspl_parser.specs.declared.document.Document.{Document}
 use Rattle.protocol_names.specs.Fault.{IsDuplicate, IsFaultIn}
-use Rattle.protocol_names.specs.Finding.{EitherFault, HasNone, OfSome}
+use Rattle.protocol_names.specs.FaultOrder.{EitherFault, HasNone, OfSome}
 use Rattle.protocol_names.specs.Names.{protocol_words}
 use Rattle.protocol_paths.specs.Flat.{IsFlat}
 use Rattle.protocol_limits.specs.Graph.{number_of}

@@ -21,10 +21,10 @@ use Rattle.bspl_parser.specs.declared.word.Word.{Word}
 use Rattle.protocol_names.specs.declared.fault.FaultKind.{FaultKind as Kind}
 use Rattle.protocol_names.specs.declared.fault.FaultKind.TheVariants.{BadAdornment, Unknown}
 use Rattle.protocol_names.specs.Fault.{IsDuplicate, IsFaultIn, IsForeignKey, IsItemFault, IsNamedTwice, IsParamFault, IsUnknown, IsUnsupported, IsTargetFault, repeated}
-use Rattle.protocol_names.specs.Finding.{EitherFault, HasNone, OfSome}
+use Rattle.protocol_names.specs.FaultOrder.{EitherFault, HasNone, OfSome}
 use Rattle.protocol_names.specs.Names.{message_words, names_of, param_words, protocol_words, texts}
 use Rattle.protocol_names.proofs.Faults.{no_key}
-use Rattle.protocol_names.proofs.Findings.{stands_not}
+use Rattle.protocol_names.proofs.FaultOrderLemmas.{stands_not}
 use Rattle.list_base.proofs.FirstIndex.{has_index}
 use Rattle.flat_expansion.specs.Expansion.{adornment_of, param_index, role_index, IsCarried, IsExpansionOf, IsMessageOfItem}
 use Rattle.flat_expansion.specs.Flat.{IsUnkeyed}
@@ -45,16 +45,16 @@ none_of_all {X} Fault xs each = λ kind offset some. All-contains (λ (x : X). H
 -- words that are apart have no duplicate
 none_twice : (words : List Word) → AreDistinct words → HasNone (IsDuplicate words)
 none_twice words apart kind offset (repeated w again) =
-    let k = again.before.0 in
-    let within : k < length again.front = omega (arith, again.before.1, length-map again.front (λ (v : Word). v.text)) in
-    let inside : length again.front < length (again.front ++ w ∷ again.back) = omega (arith, length-append again.front (w ∷ again.back)) in
-    let parted : AllPairs (λ v u. v.text ≢ u.text) (again.front ++ w ∷ again.back) = subst (AllPairs (λ (v u : Word). v.text ≢ u.text)) again.parts apart.apart in
+    let k = again.repeats.0 in
+    let within : k < length again.before = omega (arith, again.repeats.1, length-map again.before (λ (v : Word). v.text)) in
+    let inside : length again.before < length (again.before ++ w ∷ again.after) = omega (arith, length-append again.before (w ∷ again.after)) in
+    let parted : AllPairs (λ v u. v.text ≢ u.text) (again.before ++ w ∷ again.after) = subst (AllPairs (λ (v u : Word). v.text ≢ u.text)) again.parts apart.apart in
     let text_of = λ (v : Word). v.text in
-    parted k (length again.front) w within inside
-    (ap text_of (get_or_append_left again.front (w ∷ again.back) w k within)
-    ∙ sym (get_or-map text_of again.front k w w.text within)
-    ∙ again.before.2
-    ∙ sym (ap text_of (get_or-append_seam again.front w again.back w)))
+    parted k (length again.before) w within inside
+    (ap text_of (get_or_append_left again.before (w ∷ again.after) w k within)
+    ∙ sym (get_or-map text_of again.before k w w.text within)
+    ∙ again.repeats.2
+    ∙ sym (ap text_of (get_or-append_seam again.before w again.after w)))
 
 -- one word is apart
 one_apart : (w : Word) → AreDistinct (w ∷ [])

@@ -4,10 +4,10 @@ use Rattle.bspl_parser.specs.declared.document.Declaration.{Declaration}
 use Rattle.protocol_names.specs.declared.fault.DocumentFault.{DocumentFault}
 use Rattle.protocol_names.specs.declared.names.Names.{Names}
 use Rattle.protocol_names.specs.Fault.{IsDuplicate, IsFaultIn, IsItemFault, IsNamedTwice, IsUnsupported}
-use Rattle.protocol_names.specs.Finding.{EitherFault, FindsFirst, OfSome, earlier}
+use Rattle.protocol_names.specs.FaultOrder.{EitherFault, FindsFirst, OfSome, earlier}
 use Rattle.protocol_names.specs.Names.{key_words, message_words, names_of, param_words, texts}
-use Rattle.protocol_names.specs.DeclaredNames.{AreDeclared}
-use Rattle.protocol_names.proofs.Findings.{finds_two}
+use Rattle.protocol_names.specs.inner.DeclaredNames.{AreDeclared}
+use Rattle.protocol_names.proofs.FaultOrderLemmas.{finds_two}
 
 -- a name that is given twice
 pub twice_found : (p : Declaration) (roles params messages : List (List ℕ)) (role param message two three : Option DocumentFault) → AreDeclared p.roles roles role → AreDeclared (param_words p) params param → AreDeclared (message_words p) messages message → two ≡ earlier param message → three ≡ earlier role two → FindsFirst (IsNamedTwice p) three

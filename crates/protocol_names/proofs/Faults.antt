@@ -6,11 +6,11 @@ use Rattle.std.proofs.lemmas.Bool.{false≢true}
 use Rattle.bspl_parser.specs.declared.document.Formal.{Formal}
 use Rattle.bspl_parser.specs.declared.word.Word.{Word}
 use Rattle.protocol_names.specs.declared.fault.DocumentFault.{DocumentFault}
-use Rattle.protocol_names.specs.declared.fault.FaultKind.{FaultKind as Kind}
+use Rattle.protocol_names.specs.declared.fault.FaultKind.{FaultKind}
 use Rattle.protocol_names.specs.declared.fault.FaultKind.TheVariants.{Unknown, ForeignKey}
 use Rattle.protocol_names.specs.Fault.{IsForeignKey, foreign, IsUnknown}
-use Rattle.protocol_names.specs.Finding.{FindsFirst, FaultIf, stands, HasNone}
-use Rattle.protocol_names.proofs.Findings.{finds_same, stands_same}
+use Rattle.protocol_names.specs.FaultOrder.{FindsFirst, FaultIf, holds, HasNone}
+use Rattle.protocol_names.proofs.FaultOrderLemmas.{finds_same, holds_same}
 
 -- what the negated test says
 pub not_so : {P : Type 0} (b : Bool) → IsTrue b ↔ P → IsTrue (not b) → ¬ P
@@ -24,18 +24,18 @@ so_not false iff never = refl
 
 -- a name is unknown where the test for it fails
 pub unknown_found : (declared : List (List ℕ)) (w : Word) (known : Bool) (found : Option DocumentFault) → IsTrue known ↔ Contains declared w.text → FindsFirst (FaultIf (IsTrue (not known)) Unknown w.offset) found → FindsFirst (IsUnknown declared w) found
-unknown_found declared w known found tests finds = stands_same (IsTrue (not known)) (¬ Contains declared w.text) Unknown w.offset found (not_so known tests) (so_not known tests) finds
+unknown_found declared w known found tests finds = holds_same (IsTrue (not known)) (¬ Contains declared w.text) Unknown w.offset found (not_so known tests) (so_not known tests) finds
 
 -- without the word `key` there is no fault of it
 pub no_key : (keys : List (List ℕ)) (f : Formal) → f.key ≡ None → HasNone (IsForeignKey keys f)
-no_key keys f is kind offset (foreign place key never) = let differ : None ≡ Some place = sym is ∙ key in absurd (cc differ)
+no_key keys f is kind offset (foreign offset_of_key key never) = let differ : None ≡ Some offset_of_key = sym is ∙ key in absurd (cc differ)
 
 -- and with it there is one where the test for the key fails
-pub foreign_found : (keys : List (List ℕ)) (f : Formal) (place : ℕ) (known : Bool) (found : Option DocumentFault) → f.key ≡ Some place → IsTrue known ↔ Contains keys f.name.text → FindsFirst (FaultIf (IsTrue (not known)) ForeignKey place) found → FindsFirst (IsForeignKey keys f) found
-foreign_found keys f place known found is tests finds = finds_same (FaultIf (IsTrue (not known)) ForeignKey place) (IsForeignKey keys f) found to from finds
+pub foreign_found : (keys : List (List ℕ)) (f : Formal) (offset_of_key : ℕ) (known : Bool) (found : Option DocumentFault) → f.key ≡ Some offset_of_key → IsTrue known ↔ Contains keys f.name.text → FindsFirst (FaultIf (IsTrue (not known)) ForeignKey offset_of_key) found → FindsFirst (IsForeignKey keys f) found
+foreign_found keys f offset_of_key known found is tests finds = finds_same (FaultIf (IsTrue (not known)) ForeignKey offset_of_key) (IsForeignKey keys f) found to from finds
   where
-    to : (kind : Kind) (offset : ℕ) → FaultIf (IsTrue (not known)) ForeignKey place kind offset → IsForeignKey keys f kind offset
-    to kind offset (stands fact) = foreign place is (not_so known tests fact)
+    to : (kind : FaultKind) (offset : ℕ) → FaultIf (IsTrue (not known)) ForeignKey offset_of_key kind offset → IsForeignKey keys f kind offset
+    to kind offset (holds fact) = foreign offset_of_key is (not_so known tests fact)
 
-    from : (kind : Kind) (offset : ℕ) → IsForeignKey keys f kind offset → FaultIf (IsTrue (not known)) ForeignKey place kind offset
-    from kind offset (foreign other key never) = let same : place ≡ other = cc (is, key) in subst (λ o. FaultIf (IsTrue (not known)) ForeignKey place ForeignKey o) same (stands (so_not known tests never))
+    from : (kind : FaultKind) (offset : ℕ) → IsForeignKey keys f kind offset → FaultIf (IsTrue (not known)) ForeignKey offset_of_key kind offset
+    from kind offset (foreign other key never) = let same : offset_of_key ≡ other = cc (is, key) in subst (λ o. FaultIf (IsTrue (not known)) ForeignKey offset_of_key ForeignKey o) same (holds (so_not known tests never))

@@ -1,7 +1,7 @@
 pub mod Declared
 pub mod Duplicates
 pub mod Faults
-pub mod Findings
+pub mod FaultOrderLemmas
 pub mod Lookups
-pub mod Places
+pub mod IndexMapLemmas
 pub mod Uses

@@ -1,6 +1,6 @@
--- The definitions that the contracts cite.
-pub mod Fault
-pub mod Finding
+-- The names of a document, the faults that it may have, and the laws on them.
 pub mod Names
-pub mod DeclaredNames
-pub mod Table
+pub mod FaultOrder
+pub mod Fault
+pub mod Laws
+pub mod inner

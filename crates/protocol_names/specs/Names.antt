@@ -6,20 +6,20 @@ use Rattle.bspl_parser.specs.declared.document.Declaration.{Declaration}
 use Rattle.bspl_parser.specs.declared.document.Formal.{Formal}
 use Rattle.bspl_parser.specs.declared.document.Item.{Item}
 use Rattle.bspl_parser.specs.declared.document.Item.TheVariants.{Message, Reference}
-use Rattle.bspl_parser.specs.declared.document.Reference.{Reference as Use}
+use Rattle.bspl_parser.specs.declared.document.Reference.{Reference as SpecReference}
 use Rattle.bspl_parser.specs.declared.word.Word.{Word}
 use Rattle.protocol_names.specs.declared.names.Names.{Names}
 
--- the names that stand in the words
+-- the names of the words
 abbrev pub texts : List Word → List (List ℕ)
 texts words = map (λ w. w.text) words
 
--- an equal name stands before the word
+-- an equal name is declared before the word
 pub record IsRepeated (words : List Word) (w : Word) : Type 0 where
-  pub front : List Word
-  pub back : List Word
-  pub parts : words ≡ front ++ w ∷ back
-  pub before : Contains (texts front) w.text
+  pub before : List Word
+  pub after : List Word
+  pub parts : words ≡ before ++ w ∷ after
+  pub repeats : Contains (texts before) w.text
 
 -- the names of the protocols
 abbrev pub protocol_words : List Declaration → List Word
@@ -44,7 +44,11 @@ message_words p = flat_map declared_word p.body
 
 -- the roles, parameters and keys that a protocol declares
 abbrev pub names_of : Declaration → Names
-names_of p = record { roles = texts p.roles; params = texts (param_words p); keys = texts (key_words p) }
+names_of p = record {
+  roles = texts p.roles;
+  params = texts (param_words p);
+  keys = texts (key_words p);
+}
 
 -- sender and receiver of a message, or the roles that a reference is given
 abbrev pub roles_used : Item → List Word
@@ -61,6 +65,6 @@ abbrev pub protocol_of : List Declaration → List ℕ → Option Declaration
 protocol_of protocols name = find (λ p. bytes_eq p.name.text name) protocols
 
 -- a reference gives as many roles and parameters as the protocol declares
-pub record IsSameArity (r : Use) (q : Declaration) : Type 0 where
+pub record IsSameArity (r : SpecReference) (q : Declaration) : Type 0 where
   pub same_roles : length r.roles ≡ length q.roles
   pub same_params : length r.params ≡ length q.public

@@ -1,24 +1,27 @@
 ghost use Rattle.std.specs.Prelude.{◌≡◌, List, [], ◌∷◌, ◌++◌, map, is_some, IfOk, OnOk, OnErr};
 ghost use Rattle.std.specs.List.{filter, flat_map};
-ghost use Rattle.bspl_parser.specs.declared.word.Word.{Word as Entry};
-ghost use Rattle.protocol_names.specs.DeclaredNames.{AreDeclared};
+ghost use Rattle.bspl_parser.specs.declared.word.Word.{Word as SpecWord};
+ghost use Rattle.protocol_names.specs.inner.DeclaredNames.{AreDeclared};
 ghost use Rattle.protocol_names.specs.Names.{declared_word, protocol_words, texts};
 
 use super::fault::{DocumentFault, FaultKind};
-use super::finding::{earlier, fault_if};
+use super::fault_order::{earlier, fault_if};
 use super::name_table::NameTable;
 use bspl_parser::{Declaration, Formal, Item, Word};
 use bspl_types::NoMemory;
 use std::alloc::Global;
 
-/// Names that are declared one after the other, and the first that is a duplicate.
+/// Names that are declared one after the other, and the first duplicate among them.
 #[derive(Drop)]
 pub(crate) struct DeclaredNames {
+    /// The names, in order.
     pub names: NameTable,
+    /// The first duplicate, if there is one.
     pub first: Option<DocumentFault>,
 }
 
 impl DeclaredNames {
+    /// No names yet.
     fn new(alloc: Global) -> DeclaredNames
         ensures { AreDeclared [] result.names result.first }
     {
@@ -28,9 +31,9 @@ impl DeclaredNames {
         }
     }
 
-    // Notes a name that is declared after the others.
+    /// Notes a name that is declared after the others.
     fn add(&mut self, word: &Word) -> Result<(), NoMemory>
-        ensures { (words : List Entry) → AreDeclared words self.old.names self.old.first →
+        ensures { (words : List SpecWord) → AreDeclared words self.old.names self.old.first →
             OnOk result (AreDeclared (words ++ word.now ∷ []) self.new.names self.new.first) }
     {
         let again = self.names.has(word.text.as_slice());
@@ -39,9 +42,9 @@ impl DeclaredNames {
         self.names.push(word.text.as_slice())
     }
 
-    // Notes the name that an item declares, if it declares one.
+    /// Notes the name that an item declares, if it declares one.
     fn add_declared(&mut self, item: &Item) -> Result<(), NoMemory>
-        ensures { (words : List Entry) → AreDeclared words self.old.names self.old.first →
+        ensures { (words : List SpecWord) → AreDeclared words self.old.names self.old.first →
             OnOk result (AreDeclared (words ++ declared_word item.now) self.new.names self.new.first) }
     {
         match item {
@@ -55,11 +58,11 @@ impl DeclaredNames {
 pub(crate) fn named_roles(alloc: Global, roles: &[Word]) -> Result<DeclaredNames, NoMemory>
     ensures { IfOk result (λ n. AreDeclared roles.now n.names n.first) }
 {
-    let mut naming = DeclaredNames::new(alloc);
+    let mut declared = DeclaredNames::new(alloc);
     for role in roles {
-        naming.add(role)?;
+        declared.add(role)?;
     }
-    Ok(naming)
+    Ok(declared)
 }
 
 /// Notes the names of parameters, the public ones first.
@@ -71,25 +74,25 @@ pub(crate) fn named_params(
     ensures { IfOk result (λ n.
         AreDeclared (map (λ f. f.name) public.now ++ private.now) n.names n.first) }
 {
-    let mut naming = DeclaredNames::new(alloc);
+    let mut declared = DeclaredNames::new(alloc);
     for formal in public {
-        naming.add(&formal.name)?;
+        declared.add(&formal.name)?;
     }
     for word in private {
-        naming.add(word)?;
+        declared.add(word)?;
     }
-    Ok(naming)
+    Ok(declared)
 }
 
 /// Notes the names of messages.
 pub(crate) fn named_messages(alloc: Global, body: &[Item]) -> Result<DeclaredNames, NoMemory>
     ensures { IfOk result (λ n. AreDeclared (flat_map declared_word body.now) n.names n.first) }
 {
-    let mut naming = DeclaredNames::new(alloc);
+    let mut declared = DeclaredNames::new(alloc);
     for item in body {
-        naming.add_declared(item)?;
+        declared.add_declared(item)?;
     }
-    Ok(naming)
+    Ok(declared)
 }
 
 /// Notes the names of protocols.
@@ -99,11 +102,11 @@ pub(crate) fn named_protocols(
 ) -> Result<DeclaredNames, NoMemory>
     ensures { IfOk result (λ n. AreDeclared (protocol_words protocols.now) n.names n.first) }
 {
-    let mut naming = DeclaredNames::new(alloc);
+    let mut declared = DeclaredNames::new(alloc);
     for protocol in protocols {
-        naming.add(&protocol.name)?;
+        declared.add(&protocol.name)?;
     }
-    Ok(naming)
+    Ok(declared)
 }
 
 /// The names of the parameters that are marked as keys.

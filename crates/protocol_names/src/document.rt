@@ -1,12 +1,12 @@
 ghost use Rattle.std.specs.Prelude.{◌≡◌, IfOk, MatchOption};
 ghost use Rattle.protocol_names.specs.Fault.{HasNoFault, IsFaultIn, IsFirstFault};
-ghost use Rattle.protocol_names.specs.Finding.{FindsFirst, OfSome};
+ghost use Rattle.protocol_names.specs.FaultOrder.{FindsFirst, OfSome};
 
 use super::declared_names::{
     key_names, named_messages, named_params, named_protocols, named_roles,
 };
 use super::fault::DocumentFault;
-use super::finding::earlier;
+use super::fault_order::earlier;
 use super::items::body_fault;
 use super::names::Names;
 use super::params::public_fault;
@@ -21,36 +21,38 @@ pub fn first_fault(alloc: Global, document: &Document) -> Result<Option<Document
         MatchOption found (HasNoFault document.now) (IsFirstFault document.now)) }
 {
     let protocols = document.protocols.as_slice();
-    let naming = named_protocols(alloc, protocols)?;
-    let duplicate = naming.first;
-    let directory = ProtocolTable {
+    let declared = named_protocols(alloc, protocols)?;
+    let duplicate = declared.first;
+    let table = ProtocolTable {
         protocols,
-        names: naming.names,
+        names: declared.names,
     };
-    let inner = fault_in_some(alloc, &directory, protocols)?;
+    let inner = fault_in_some(alloc, &table, protocols)?;
     Ok(earlier(duplicate, inner))
 }
 
+/// The first fault within the protocols.
 fn fault_in_some(
     alloc: Global,
-    directory: &ProtocolTable,
+    table: &ProtocolTable,
     protocols: &[Declaration],
 ) -> Result<Option<DocumentFault>, NoMemory>
-    ensures { IfOk result (FindsFirst (OfSome (IsFaultIn directory.now.protocols.now) protocols.now)) }
+    ensures { IfOk result (FindsFirst (OfSome (IsFaultIn table.now.protocols.now) protocols.now)) }
 {
     let mut first = None;
     for protocol in protocols {
-        first = earlier(first, fault_in(alloc, directory, protocol)?);
+        first = earlier(first, fault_in(alloc, table, protocol)?);
     }
     Ok(first)
 }
 
+/// The first fault within one protocol.
 fn fault_in(
     alloc: Global,
-    directory: &ProtocolTable,
+    table: &ProtocolTable,
     p: &Declaration,
 ) -> Result<Option<DocumentFault>, NoMemory>
-    ensures { IfOk result (FindsFirst (IsFaultIn directory.now.protocols.now p.now)) }
+    ensures { IfOk result (FindsFirst (IsFaultIn table.now.protocols.now p.now)) }
 {
     let roles = named_roles(alloc, p.roles.as_slice())?;
     let params = named_params(alloc, p.public.as_slice(), p.private.as_slice())?;
@@ -62,6 +64,6 @@ fn fault_in(
         keys: key_names(alloc, p.public.as_slice())?,
     };
     let public = public_fault(p.public.as_slice());
-    let body = body_fault(directory, &names, p.body.as_slice());
+    let body = body_fault(table, &names, p.body.as_slice());
     Ok(earlier(duplicate, earlier(public, body)))
 }

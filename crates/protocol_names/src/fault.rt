@@ -1,7 +1,7 @@
-/// What is wrong with a name. Of two at one place the one that stands first here counts.
+/// What is wrong with a name. Of two faults at one offset the kind that is listed first counts.
 #[derive(Clone, Copy, Debug, PartialEq, Eq)]
 pub enum FaultKind {
-    /// An equal name stands before.
+    /// An equal name is declared before.
     Duplicate,
     /// The name is not declared.
     Unknown,
@@ -13,9 +13,11 @@ pub enum FaultKind {
     ForeignKey,
 }
 
-/// A fault, and its place in the text.
+/// A fault, and its offset in the text.
 #[derive(Clone, Copy, Debug, PartialEq, Eq)]
 pub struct DocumentFault {
+    /// What is wrong.
     pub kind: FaultKind,
+    /// Where the word at fault begins, in bytes.
     pub offset: u64,
 }

@@ -4,8 +4,9 @@
 mod declared_names;
 mod document;
 mod fault;
-mod finding;
+mod fault_order;
 mod items;
+mod laws;
 mod name_table;
 mod names;
 mod params;
@@ -14,10 +15,6 @@ mod references;
 
 pub use document::first_fault;
 pub use fault::{DocumentFault, FaultKind};
+pub use laws::{faults_have_causes, names_find_protocols};
 pub use name_table::NameTable;
 pub use protocol_table::ProtocolTable;
-
-#[cfg(test)]
-mod fault_texts;
-#[cfg(test)]
-mod tests;

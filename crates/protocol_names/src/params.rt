@@ -1,10 +1,10 @@
 ghost use Rattle.std.specs.Prelude.{◌≡◌, ◌⊎◌, ◌↔◌, IsTrue};
 ghost use Rattle.bspl_parser.specs.declared.document.Adorn.TheVariants.{Any, Opt};
 ghost use Rattle.protocol_names.specs.Fault.{IsForeignKey, IsParamFault, IsUnknown, IsUnsupported};
-ghost use Rattle.protocol_names.specs.Finding.{FindsFirst, OfSome};
+ghost use Rattle.protocol_names.specs.FaultOrder.{FindsFirst, OfSome};
 
 use super::fault::{DocumentFault, FaultKind};
-use super::finding::{earlier, fault_if};
+use super::fault_order::{earlier, fault_if};
 use super::name_table::NameTable;
 use super::names::Names;
 use bspl_parser::{Adorn, Formal, Word};
@@ -31,6 +31,7 @@ pub(crate) fn params_fault(names: &Names, formals: &[Formal]) -> Option<Document
     first
 }
 
+/// The first fault of one parameter of a message or of a reference.
 fn param_fault(names: &Names, formal: &Formal) -> Option<DocumentFault>
     ensures { FindsFirst (IsParamFault names.now formal.now) result }
 {
@@ -48,6 +49,7 @@ pub(crate) fn unknown_fault(declared: &NameTable, word: &Word) -> Option<Documen
     fault_if(!known, FaultKind::Unknown, word.offset)
 }
 
+/// The fault of an adornment that is not supported.
 fn unsupported_fault(formal: &Formal) -> Option<DocumentFault>
     ensures { FindsFirst (IsUnsupported formal.now) result }
 {
@@ -55,16 +57,18 @@ fn unsupported_fault(formal: &Formal) -> Option<DocumentFault>
     fault_if(unsupported, FaultKind::BadAdornment, formal.offset)
 }
 
+/// Whether the adornment is not supported.
 fn is_unsupported(adorn: Adorn) -> bool
     ensures { IsTrue result ↔ ((adorn ≡ Any) ⊎ (adorn ≡ Opt)) }
 {
     matches!(adorn, Adorn::Any | Adorn::Opt)
 }
 
+/// The fault of the word `key` at a parameter that is not declared as a key.
 fn foreign_key_fault(keys: &NameTable, formal: &Formal) -> Option<DocumentFault>
     ensures { FindsFirst (IsForeignKey keys.now formal.now) result }
 {
-    let place = formal.key?;
+    let offset = formal.key?;
     let known = keys.has(formal.name.text.as_slice());
-    fault_if(!known, FaultKind::ForeignKey, place)
+    fault_if(!known, FaultKind::ForeignKey, offset)
 }

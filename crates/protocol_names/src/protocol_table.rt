@@ -10,20 +10,22 @@ use std::alloc::Global;
 /// The protocols of a document, found by their names.
 #[derive(Drop)]
 pub struct ProtocolTable<'a> {
+    /// The protocols, in the order of the document.
     pub protocols: &'a [Declaration],
+    /// Their names, in the same order.
     pub names: NameTable,
     pub ghost in_order: { names ≡ texts (protocol_words protocols.now) },
 }
 
 impl<'a> ProtocolTable<'a> {
-    /// A directory of the protocols.
+    /// A table of the protocols.
     pub fn new(alloc: Global, protocols: &'a [Declaration]) -> Result<ProtocolTable<'a>, NoMemory>
         ensures { IfOk result (λ d. d.protocols.now ≡ protocols.now) }
     {
-        let naming = named_protocols(alloc, protocols)?;
+        let declared = named_protocols(alloc, protocols)?;
         Ok(ProtocolTable {
             protocols,
-            names: naming.names,
+            names: declared.names,
         })
     }
 
@@ -31,7 +33,7 @@ impl<'a> ProtocolTable<'a> {
     pub fn protocol(&self, name: &[u8]) -> Option<&'a Declaration>
         ensures { option_copied result ≡ protocol_of self.now.protocols.now name.now }
     {
-        let place = self.names.place(name)?;
-        self.protocols.get(place)
+        let index = self.names.index(name)?;
+        self.protocols.get(index)
     }
 }

@@ -1,7 +1,7 @@
 ghost use Rattle.std.specs.Prelude.{IfOk};
 ghost use Rattle.std.specs.List.{AllZip};
 ghost use Rattle.protocol_paths.specs.Flat.{IsImage, IsImageFormal};
-ghost use Rattle.protocol_paths.specs.Seen.{seen};
+ghost use Rattle.protocol_paths.specs.inner.Seen.{seen};
 
 use super::place::{param_word, role_word};
 use super::reached::Reached;

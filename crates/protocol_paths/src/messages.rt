@@ -2,7 +2,7 @@ ghost use Rattle.std.specs.Prelude.{◌<◌, ◌≤◌, length, OnOk};
 ghost use Rattle.protocol_paths.specs.Flat.{AddsEach, IsImageItem};
 ghost use Rattle.protocol_paths.specs.Skippable.{AreSkippable};
 ghost use Rattle.protocol_paths.specs.Path.{item_messages, message_paths};
-ghost use Rattle.protocol_paths.specs.Seen.{protocols_of, seen};
+ghost use Rattle.protocol_paths.specs.inner.Seen.{protocols_of, seen};
 
 use super::image::image_of;
 use super::place::next_place;

@@ -2,7 +2,7 @@ ghost use Rattle.std.specs.Prelude.{◌≡◌, ◌<◌, ◌++◌, map, IfOk, OnO
 ghost use Rattle.protocol_names.specs.Names.{texts};
 ghost use Rattle.protocol_paths.specs.Scope.{after, param_at, role_at, stands_for, start};
 ghost use Rattle.protocol_paths.specs.Renamed.{IsRenamed};
-ghost use Rattle.protocol_paths.specs.Seen.{seen};
+ghost use Rattle.protocol_paths.specs.inner.Seen.{seen};
 
 use super::copies::{copied_words, declared_params, register_of};
 use super::prefix::Prefix;

@@ -4,7 +4,7 @@ ghost use Rattle.protocol_paths.specs.Flat.{entry, private_entries, privates_at}
 ghost use Rattle.protocol_paths.specs.Skippable.{AreSkippable};
 ghost use Rattle.protocol_paths.specs.Path.{steps_at};
 ghost use Rattle.protocol_paths.specs.Scope.{after};
-ghost use Rattle.protocol_paths.specs.Seen.{protocols_of, seen};
+ghost use Rattle.protocol_paths.specs.inner.Seen.{protocols_of, seen};
 
 use super::place::next_place;
 use super::prefix::Prefix;

@@ -1,6 +1,6 @@
 -- The sender and the receiver, or the roles of a reference.
 use Rattle.protocol_names.specs.Fault.{IsUnknown}
-use Rattle.protocol_names.proofs.Findings.{finds_pair}
+use Rattle.protocol_names.proofs.FaultOrderLemmas.{finds_pair}
 use Rattle.protocol_names.proofs.items.roles_used_fault.Goals as goal
 
 pub returns-in-Message : goal.returns-in-Message

@@ -1,6 +1,6 @@
 -- One name more, and all of them.
 use Rattle.protocol_names.specs.Fault.{IsUnknown}
-use Rattle.protocol_names.proofs.Findings.{finds_all, finds_more}
+use Rattle.protocol_names.proofs.FaultOrderLemmas.{finds_all, finds_more}
 use Rattle.protocol_names.proofs.items.unknown_in.Goals as goal
 
 pub loop-word-preserved : goal.loop-word-preserved

@@ -1,7 +1,7 @@
 -- What has been found of the names.
 use Rattle.std.proofs.Common.{take}
 use Rattle.protocol_names.specs.Fault.{IsUnknown}
-use Rattle.protocol_names.specs.Finding.{FindsFirst, OfSome}
+use Rattle.protocol_names.specs.FaultOrder.{FindsFirst, OfSome}
 use Rattle.protocol_names.proofs.items.unknown_in.Given as goal
 
 -- the first fault of those so far

@@ -1,7 +1,7 @@
 -- The first of the three faults that a parameter can have.
-use Rattle.protocol_names.specs.Finding.{EitherFault}
+use Rattle.protocol_names.specs.FaultOrder.{EitherFault}
 use Rattle.protocol_names.specs.Fault.{IsUnknown, IsUnsupported, IsForeignKey}
-use Rattle.protocol_names.proofs.Findings.{finds_two}
+use Rattle.protocol_names.proofs.FaultOrderLemmas.{finds_two}
 use Rattle.protocol_names.proofs.params.param_fault.Goals as goal
 
 pub returns : goal.returns

@@ -1,6 +1,6 @@
 -- One parameter more, and all of them.
 use Rattle.protocol_names.specs.Fault.{IsParamFault}
-use Rattle.protocol_names.proofs.Findings.{finds_all, finds_more}
+use Rattle.protocol_names.proofs.FaultOrderLemmas.{finds_all, finds_more}
 use Rattle.protocol_names.proofs.params.params_fault.Goals as goal
 
 pub loop-formal-preserved : goal.loop-formal-preserved

@@ -1,7 +1,7 @@
 -- What has been found of the parameters.
 use Rattle.std.proofs.Common.{take}
 use Rattle.protocol_names.specs.Fault.{IsUnsupported}
-use Rattle.protocol_names.specs.Finding.{FindsFirst, OfSome}
+use Rattle.protocol_names.specs.FaultOrder.{FindsFirst, OfSome}
 use Rattle.protocol_names.proofs.params.public_fault.Given as goal
 
 -- the first fault of those so far

@@ -1,4 +1,4 @@
--- The register says whether the name is declared.
+-- The table says whether the name is declared.
 use Rattle.protocol_names.proofs.Faults.{unknown_found}
 use Rattle.protocol_names.proofs.params.unknown_fault.Goals as goal
 

@@ -2,9 +2,9 @@
 use Rattle.std.proofs.Common.{take}
 use Rattle.std.specs.List.{zip}
 use Rattle.protocol_names.specs.Fault.{AdornmentDiffers}
-use Rattle.protocol_names.specs.Finding.{FindsFirst, OfSome}
+use Rattle.protocol_names.specs.FaultOrder.{FindsFirst, OfSome}
 use Rattle.protocol_names.proofs.references.other_adornment.Given as goal
 
 -- the first fault of those so far
-abbrev pub invariant-loop-place : goal.invariant-loop-place
-invariant-loop-place l = FindsFirst (OfSome AdornmentDiffers (take l.place (zip l.given l.declared))) l.first
+abbrev pub invariant-loop-index : goal.invariant-loop-index
+invariant-loop-index l = FindsFirst (OfSome AdornmentDiffers (take l.index (zip l.given l.declared))) l.first

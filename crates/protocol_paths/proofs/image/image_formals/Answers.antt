@@ -1,6 +1,6 @@
 -- One parameter more.
 use Rattle.protocol_paths.specs.Flat.{IsImageFormal}
-use Rattle.protocol_paths.specs.Seen.{seen}
+use Rattle.protocol_paths.specs.inner.Seen.{seen}
 use Rattle.list_base.proofs.Zipped.{paired_more}
 use Rattle.protocol_paths.proofs.image.image_formals.Goals as goal
 

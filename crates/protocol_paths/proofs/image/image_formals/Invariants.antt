@@ -2,7 +2,7 @@
 use Rattle.std.proofs.Common.{take}
 use Rattle.std.specs.List.{AllZip}
 use Rattle.protocol_paths.specs.Flat.{IsImageFormal}
-use Rattle.protocol_paths.specs.Seen.{seen}
+use Rattle.protocol_paths.specs.inner.Seen.{seen}
 use Rattle.protocol_paths.proofs.image.image_formals.Given as goal
 
 -- one for each parameter so far

@@ -3,7 +3,7 @@ use Rattle.std.proofs.Common.{◌∙◌, refl, ap, arith}
 use Rattle.bspl_parser.specs.declared.document.Item.{Item}
 use Rattle.protocol_paths.specs.Flat.{IsImageItem}
 use Rattle.protocol_paths.specs.Path.{item_messages}
-use Rattle.protocol_paths.specs.Seen.{protocols_of, seen}
+use Rattle.protocol_paths.specs.inner.Seen.{protocols_of, seen}
 use Rattle.protocol_paths.proofs.Adding.{adds_all, adds_more, adds_none}
 use Rattle.protocol_paths.proofs.Opened.{added_behind, messages_closed}
 use Rattle.protocol_paths.proofs.messages.+messages.Goals as goal

@@ -3,7 +3,7 @@ use Rattle.std.proofs.Common.{◌+◌, ◌*◌, take}
 use Rattle.std.specs.List.{flat_map}
 use Rattle.protocol_paths.specs.Flat.{AddsEach, IsImageItem}
 use Rattle.protocol_paths.specs.Path.{item_messages, numbered}
-use Rattle.protocol_paths.specs.Seen.{protocols_of, seen}
+use Rattle.protocol_paths.specs.inner.Seen.{protocols_of, seen}
 use Rattle.protocol_paths.proofs.messages.+messages.Given as goal
 
 abbrev pub decreases-add_messages : goal.decreases-add_messages

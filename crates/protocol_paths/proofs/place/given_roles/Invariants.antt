@@ -2,7 +2,7 @@
 use Rattle.std.proofs.Common.{◌≡◌, map, take}
 use Rattle.protocol_names.specs.Names.{texts}
 use Rattle.protocol_paths.specs.Scope.{role_at}
-use Rattle.protocol_paths.specs.Seen.{seen}
+use Rattle.protocol_paths.specs.inner.Seen.{seen}
 use Rattle.protocol_paths.proofs.place.given_roles.Given as goal
 
 -- for each so far

@@ -2,7 +2,7 @@
 use Rattle.std.proofs.Common.{◌-◌, ◌∙◌, map, ap, arith}
 use Rattle.bspl_parser.specs.declared.document.Item.{Item}
 use Rattle.protocol_paths.specs.Flat.{entry, privates_at}
-use Rattle.protocol_paths.specs.Seen.{protocols_of, seen}
+use Rattle.protocol_paths.specs.inner.Seen.{protocols_of, seen}
 use Rattle.protocol_paths.proofs.Entries.{behind_all, behind_more, behind_none, entries_behind, entries_closed}
 use Rattle.protocol_paths.proofs.privates.+privates.Goals as goal
 

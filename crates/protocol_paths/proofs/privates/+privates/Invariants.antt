@@ -3,7 +3,7 @@ use Rattle.std.proofs.Common.{◌≡◌, ◌+◌, ◌-◌, ◌*◌, ◌++◌, ma
 use Rattle.std.specs.List.{flat_map}
 use Rattle.protocol_paths.specs.Flat.{entry, privates_at}
 use Rattle.protocol_paths.specs.Path.{numbered}
-use Rattle.protocol_paths.specs.Seen.{protocols_of, seen}
+use Rattle.protocol_paths.specs.inner.Seen.{protocols_of, seen}
 use Rattle.protocol_paths.proofs.Entries.{entries_behind}
 use Rattle.protocol_paths.proofs.privates.+privates.Given as goal
 

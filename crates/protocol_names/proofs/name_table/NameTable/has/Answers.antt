@@ -1,5 +1,5 @@
 -- A name is in the table exactly if it is among the names.
-use Rattle.protocol_names.proofs.Places.{is_held}
+use Rattle.protocol_names.proofs.IndexMapLemmas.{is_held}
 use Rattle.protocol_names.proofs.name_table.NameTable.has.Goals as goal
 
 pub returns : goal.returns

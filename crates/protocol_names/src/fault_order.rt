@@ -1,5 +1,5 @@
 ghost use Rattle.std.specs.Prelude.{◌≡◌, IsTrue, cond};
-ghost use Rattle.protocol_names.specs.Finding.{earlier, FindsFirst, FaultIf, rank, comes_before};
+ghost use Rattle.protocol_names.specs.FaultOrder.{earlier, FindsFirst, FaultIf, kind_rank, comes_before};
 
 use super::fault::{DocumentFault, FaultKind};
 
@@ -17,30 +17,33 @@ pub(crate) fn earlier(
     }
 }
 
-/// The fault, if it stands.
-pub(crate) fn fault_if(stands: bool, kind: FaultKind, offset: u64) -> Option<DocumentFault>
-    ensures { FindsFirst (FaultIf (IsTrue stands) kind offset) result }
+/// The fault of the kind at the offset, if the fact holds.
+pub(crate) fn fault_if(holds: bool, kind: FaultKind, offset: u64) -> Option<DocumentFault>
+    ensures { FindsFirst (FaultIf (IsTrue holds) kind offset) result }
 {
-    if stands {
+    if holds {
         return Some(DocumentFault { kind, offset });
     }
     None
 }
 
+/// The one of two faults that comes first.
 fn first_of(f: DocumentFault, g: DocumentFault) -> DocumentFault
     ensures { result ≡ cond (comes_before g f) g f }
 {
     if comes_before(g, f) { g } else { f }
 }
 
+/// Whether the first of two faults comes before the second.
 fn comes_before(f: DocumentFault, g: DocumentFault) -> bool
     ensures { result ≡ comes_before f g }
 {
-    f.offset < g.offset || f.offset == g.offset && rank(f.kind) < rank(g.kind)
+    f.offset < g.offset || f.offset == g.offset && kind_rank(f.kind) < kind_rank(g.kind)
 }
 
-fn rank(kind: FaultKind) -> u8
-    ensures { result ≡ rank kind }
+/// The position of the kind in the order of kinds.
+fn kind_rank(kind: FaultKind) -> u8
+    ensures { result ≡ kind_rank kind }
 {
     kind as u8
 }

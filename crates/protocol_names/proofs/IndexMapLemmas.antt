@@ -1,4 +1,4 @@
--- The first place of a name, and what a table of places finds.
+-- What a map of first indices finds.
 use Rattle.std.proofs.Common.{◌≡◌, ℕ, zero, suc, ◌+◌, ◌<◌, ◌≤◌, Bool, true, false, cond, List, [], ◌∷◌, ◌++◌, length, get_or, Option, Some, None, refl, sym, ◌∙◌, ap, subst, arith, inl, inr, ⊎_elim, eqb}
 use Rattle.std.specs.Prelude.{◌↔◌, IsTrue, is_some, nat_lt, not, Vec}
 use Rattle.std.specs.Option.{option_or}
@@ -18,7 +18,7 @@ use Rattle.std.proofs.lemmas.Bool.Decides.{nat_tests}
 use Rattle.std.proofs.lemmas.Map.Text.{is_eq-slice_cmp}
 use Rattle.std.proofs.lemmas.Slice.Eq.{bytes_eq-Decides}
 use Rattle.list_base.proofs.FirstIndex.{has_index, is_name_at, position_push}
-use Rattle.protocol_names.specs.Table.{IsTable}
+use Rattle.protocol_names.specs.inner.IndexMap.{IsIndexMap}
 
 -- what a lookup by bytes finds
 abbrev pub found : {Z : Type 0} → BTreeMap (Vec ℕ Z) ℕ → List ℕ → Option ℕ
@@ -45,15 +45,15 @@ found_after {Z} bs old new w updates cs =
 same_name : (xs ys : List ℕ) → bytes_eq xs ys ≡ true → xs ≡ ys
 same_name xs ys = (bytes_eq-Decides xs ys).0
 
--- a name that is there keeps its first place
-pub kept : {Z : Type 0} (names : List (List ℕ)) (name : List ℕ) (table : BTreeMap (Vec ℕ Z) ℕ) → IsTable names table → IsTrue (is_some (found table name)) → IsTable (names ++ name ∷ []) table
-kept names name table is_table there = record {
+-- a name that is there keeps its first index
+pub kept : {Z : Type 0} (names : List (List ℕ)) (name : List ℕ) (table : BTreeMap (Vec ℕ Z) ℕ) → IsIndexMap names table → IsTrue (is_some (found table name)) → IsIndexMap (names ++ name ∷ []) table
+kept names name table is_map there = record {
   finds = λ other.
-      let before = is_table.finds other in
+      let before = is_map.finds other in
       let pushed = position_push (is_name_at other) names name in
       ⊎_elim
       (λ yes. let same = same_name name other yes in
-      let some : IsTrue (is_some (position (is_name_at other) names)) = subst (λ (n : List ℕ). IsTrue (is_some (position (is_name_at n) names))) same (subst (λ o. IsTrue (is_some o)) (is_table.finds name) there) in
+      let some : IsTrue (is_some (position (is_name_at other) names)) = subst (λ (n : List ℕ). IsTrue (is_some (position (is_name_at n) names))) same (subst (λ o. IsTrue (is_some o)) (is_map.finds name) there) in
       before ∙ still (position (is_name_at other) names) _ some ∙ sym pushed)
       (λ differ. before ∙ without (position (is_name_at other) names) ∙ ap (λ b. option_or (position (is_name_at other) names) (cond b (Some (length names)) None)) (sym differ) ∙ sym pushed)
       (cases_Bool (bytes_eq name other));
@@ -67,15 +67,15 @@ kept names name table is_table there = record {
     without None = refl
     without (Some k) = refl
 
--- a name that is new gets the last place
-pub placed : {Z : Type 0} (names : List (List ℕ)) (name bytes : List ℕ) (place : ℕ) (old new : BTreeMap (Vec ℕ Z) ℕ) → bytes ≡ name → length names ≡ place → IsTable names old → is_some (found old name) ≡ false → UpdatesBy (λ x y. slice_cmp nat_cmp x.items y.items) (λ k. slice_cmp nat_cmp bytes k.items) old new (Some place) → IsTable (names ++ name ∷ []) new
-placed {Z} names name bytes place old new is_name is_last is_table absent updates = record {
+-- a name that is new gets the last index
+pub placed : {Z : Type 0} (names : List (List ℕ)) (name bytes : List ℕ) (index : ℕ) (old new : BTreeMap (Vec ℕ Z) ℕ) → bytes ≡ name → length names ≡ index → IsIndexMap names old → is_some (found old name) ≡ false → UpdatesBy (λ x y. slice_cmp nat_cmp x.items y.items) (λ k. slice_cmp nat_cmp bytes k.items) old new (Some index) → IsIndexMap (names ++ name ∷ []) new
+placed {Z} names name bytes index old new is_name is_last is_map absent updates = record {
   finds = λ other.
-      let after : found new other ≡ cond (bytes_eq name other) (Some place) (found old other) = subst (λ (b : List ℕ). found new other ≡ cond (bytes_eq b other) (Some place) (found old other)) is_name (found_after bytes old new (Some place) updates other) in
-      let before = is_table.finds other in
+      let after : found new other ≡ cond (bytes_eq name other) (Some index) (found old other) = subst (λ (b : List ℕ). found new other ≡ cond (bytes_eq b other) (Some index) (found old other)) is_name (found_after bytes old new (Some index) updates other) in
+      let before = is_map.finds other in
       let pushed = position_push (is_name_at other) names name in
-      let none : bytes_eq name other ≡ true → is_some (position (is_name_at other) names) ≡ false = λ yes. subst (λ (n : List ℕ). is_some (position (is_name_at n) names) ≡ false) (same_name name other yes) (subst (λ o. is_some o ≡ false) (is_table.finds name) absent) in
-      after ∙ ap (cond (bytes_eq name other) (Some place)) before ∙ ap (λ l. cond (bytes_eq name other) (Some l) (position (is_name_at other) names)) (sym is_last) ∙ joined (bytes_eq name other) (length names) (position (is_name_at other) names) none ∙ sym pushed;
+      let none : bytes_eq name other ≡ true → is_some (position (is_name_at other) names) ≡ false = λ yes. subst (λ (n : List ℕ). is_some (position (is_name_at n) names) ≡ false) (same_name name other yes) (subst (λ o. is_some o ≡ false) (is_map.finds name) absent) in
+      after ∙ ap (cond (bytes_eq name other) (Some index)) before ∙ ap (λ l. cond (bytes_eq name other) (Some l) (position (is_name_at other) names)) (sym is_last) ∙ joined (bytes_eq name other) (length names) (position (is_name_at other) names) none ∙ sym pushed;
 }
   where
     joined : (b : Bool) (l : ℕ) (o : Option ℕ) → (b ≡ true → is_some o ≡ false) → cond b (Some l) o ≡ option_or o (cond b (Some l) None)
@@ -83,7 +83,7 @@ placed {Z} names name bytes place old new is_name is_last is_table absent update
     joined b l None none = refl
 
 -- so the test of the table is the test of the names
-pub is_held : {Z : Type 0} (names value : List (List ℕ)) (table : BTreeMap (Vec ℕ Z) ℕ) (name : List ℕ) (held : Bool) → names ≡ value → IsTable names table → held ≡ is_some (found table name) → IsTrue held ↔ Contains value name
-is_held names value table name held same is_table is_found =
+pub is_held : {Z : Type 0} (names value : List (List ℕ)) (table : BTreeMap (Vec ℕ Z) ℕ) (name : List ℕ) (held : Bool) → names ≡ value → IsIndexMap names table → held ≡ is_some (found table name) → IsTrue held ↔ Contains value name
+is_held names value table name held same is_map is_found =
     subst (λ ns. IsTrue held ↔ Contains ns name) same
-    (subst (λ b. IsTrue b ↔ Contains names name) (sym (is_found ∙ ap is_some (is_table.finds name))) (has_index names name))
+    (subst (λ b. IsTrue b ↔ Contains names name) (sym (is_found ∙ ap is_some (is_map.finds name))) (has_index names name))
