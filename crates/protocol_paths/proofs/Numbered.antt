@@ -9,9 +9,9 @@ use Rattle.std.proofs.lemmas.List.FromFn.{get_or-enumerate_from, length-enumerat
 numbered_more : {X : Type 0} (xs : List X) (i : ℕ) (x : X) → i < length xs → x ≡ get_or xs i x → take (i + 1) (enumerate_from 1 xs) ≡ take i (enumerate_from 1 xs) ++ (i + 1, x) ∷ []
 numbered_more {X} xs i x within stands =
     let inside : i < length (enumerate_from 1 xs) = omega (arith, within, length-enumerate_from 1 xs) in
-    let place : 1 + i ≡ i + 1 = omega arith in
+    let scope : 1 + i ≡ i + 1 = omega arith in
     take_more (enumerate_from 1 xs) i (i + 1, x) inside
-    ∙ ap (λ (pair : ℕ × X). take i (enumerate_from 1 xs) ++ pair ∷ []) (get_or-enumerate_from 1 xs i (i + 1, x) within ∙ ap {B = ℕ × X} (λ n. (n, get_or xs i x)) place ∙ ap {B = ℕ × X} (λ y. (i + 1, y)) (sym stands))
+    ∙ ap (λ (pair : ℕ × X). take i (enumerate_from 1 xs) ++ pair ∷ []) (get_or-enumerate_from 1 xs i (i + 1, x) within ∙ ap {B = ℕ × X} (λ n. (n, get_or xs i x)) scope ∙ ap {B = ℕ × X} (λ y. (i + 1, y)) (sym stands))
 
 -- what comes of the items so far, and of one more
 pub made_more : {X Y : Type 0} (f : ℕ × X → List Y) (xs : List X) (i : ℕ) (x : X) → i < length xs → x ≡ get_or xs i x → flat_map f (take (i + 1) (enumerate_from 1 xs)) ≡ flat_map f (take i (enumerate_from 1 xs)) ++ f (i + 1, x)

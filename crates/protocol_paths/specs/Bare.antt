@@ -7,7 +7,7 @@ use Rattle.bspl_parser.specs.declared.document.Item.{Item}
 use Rattle.bspl_parser.specs.declared.document.Item.TheVariants.{Message, Reference}
 use Rattle.bspl_parser.specs.declared.document.Schema.{Schema}
 use Rattle.protocol_paths.specs.Flat.{entry}
-use Rattle.protocol_paths.specs.Renamed.{IsRenamed}
+use Rattle.protocol_paths.specs.Substituted.{IsSubstituted}
 
 -- a message, and no reference
 abbrev pub IsMessage : Item → Type 0
@@ -16,16 +16,16 @@ IsMessage (Reference r) = ⊥
 
 -- the same parameter, without the word `key`
 pub record IsBareFormal (f f' : Formal) : Type 0 where
-  pub name : IsRenamed f.name.text f.name f'.name
+  pub name : IsSubstituted f.name.text f.name f'.name
   pub adorn : f'.adorn ≡ f.adorn
   pub offset : f'.offset ≡ f.offset
   pub bare : f'.key ≡ None
 
 -- the same message, its parameters without the word `key`
 pub record IsBareMessage (m m' : Schema) : Type 0 where
-  pub named : IsRenamed m.name.text m.name m'.name
-  pub sent : IsRenamed m.sender.text m.sender m'.sender
-  pub received : IsRenamed m.receiver.text m.receiver m'.receiver
+  pub named : IsSubstituted m.name.text m.name m'.name
+  pub sent : IsSubstituted m.sender.text m.sender m'.sender
+  pub received : IsSubstituted m.receiver.text m.receiver m'.receiver
   pub carries : AllZip IsBareFormal m.params m'.params
 
 -- both are messages

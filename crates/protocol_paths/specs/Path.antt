@@ -5,7 +5,7 @@ use Rattle.std.specs.Option.{option_map_or}
 use Rattle.bspl_parser.specs.declared.document.Declaration.{Declaration}
 use Rattle.bspl_parser.specs.declared.document.Item.{Item}
 use Rattle.bspl_parser.specs.declared.document.Item.TheVariants.{Message, Reference}
-use Rattle.bspl_parser.specs.declared.document.Reference.{Reference as Use}
+use Rattle.bspl_parser.specs.declared.document.Reference.{Reference as SpecReference}
 use Rattle.bspl_parser.specs.declared.document.Schema.{Schema}
 use Rattle.bspl_parser.specs.declared.word.Word.{Word}
 use Rattle.protocol_names.specs.Names.{protocol_of}
@@ -13,7 +13,7 @@ use Rattle.protocol_names.specs.Names.{protocol_of}
 -- one reference that is passed: its position in the body, counted from 1, what it gives, and the protocol that it leads to
 pub record Step : Type 0 where
   pub position : ℕ
-  pub reference : Use
+  pub reference : SpecReference
   pub target : Declaration
 
 -- the items of a body with their positions
@@ -43,16 +43,16 @@ end_of p (s ∷ path) = end_of s.target path
 abbrev pub private_words : ℕ → List Declaration → Declaration → List Word
 private_words n protocols p = flat_map (λ path. (end_of p path).private) (paths n protocols p)
 
--- a message behind one more reference
-abbrev pub behind : Step → List Step × Schema → List Step × Schema
-behind s (path, m) = (s ∷ path, m)
+-- a message through one more reference
+abbrev pub through : Step → List Step × Schema → List Step × Schema
+through s (path, m) = (s ∷ path, m)
 
 -- a message of a body, or the messages at the ends of the paths by a reference, each with the references passed
 abbrev pub item_messages : ℕ → List Declaration → ℕ × Item → List (List Step × Schema)
 item_messages zero protocols (position, Message m) = ([], m) ∷ []
 item_messages zero protocols (position, Reference r) = []
 item_messages (suc n) protocols (position, Message m) = ([], m) ∷ []
-item_messages (suc n) protocols (position, Reference r) = flat_map (λ s. map (behind s) (flat_map (item_messages n protocols) (numbered s.target))) (steps_at protocols (position, Reference r))
+item_messages (suc n) protocols (position, Reference r) = flat_map (λ s. map (through s) (flat_map (item_messages n protocols) (numbered s.target))) (steps_at protocols (position, Reference r))
 
 -- the messages at the ends of the paths of at most `n` references, in lexicographic order of positions
 abbrev pub message_paths : ℕ → List Declaration → Declaration → List (List Step × Schema)

@@ -15,35 +15,35 @@ pub record Scope : Type 0 where
   pub roles : List (List ℕ)
   pub params : List (List ℕ)
 
--- what stands at the place of a declared name; another name stands for itself
-abbrev pub stands_for : List (List ℕ) → List (List ℕ) → List ℕ → List ℕ
-stands_for declared names name = option_map_or (λ k. slice_index_or names k name) (position (λ n. bytes_eq n name) declared) name
+-- what stands at the scope of a declared name; another name stands for itself
+abbrev pub substituted : List (List ℕ) → List (List ℕ) → List ℕ → List ℕ
+substituted declared names name = option_map_or (λ k. slice_index_or names k name) (position (λ n. bytes_eq n name) declared) name
 
 -- what stands for a role
 abbrev pub role_at : Scope → List ℕ → List ℕ
-role_at place name = stands_for (texts place.protocol.roles) place.roles name
+role_at scope name = substituted (texts scope.protocol.roles) scope.roles name
 
 -- what stands for a parameter
 abbrev pub param_at : Scope → List ℕ → List ℕ
-param_at place name = stands_for (texts (param_words place.protocol)) place.params name
+param_at scope name = substituted (texts (param_words scope.protocol)) scope.params name
 
 -- in the top protocol each name stands for itself
 abbrev pub start : Declaration → Scope
 start top = record { protocol = top; prefix = []; roles = texts top.roles; params = texts (param_words top) }
 
--- the prefix behind one more reference
+-- the prefix through one more reference
 abbrev pub prefix_after : Scope → Step → List ℕ
-prefix_after place s = place.prefix ++ numbered_name s.target.name.text s.position
+prefix_after scope s = scope.prefix ++ numbered_name s.target.name.text s.position
 
--- after one more reference: by position, what stands for the names that it gives; private parameters behind the prefix
+-- after one more reference: by position, what stands for the names that it gives; private parameters through the prefix
 abbrev pub after : Scope → Step → Scope
-after place s = record {
+after scope s = record {
   protocol = s.target;
-  prefix = prefix_after place s;
-  roles = map (λ w. role_at place w.text) s.reference.roles;
-  params = map (λ f. param_at place f.name.text) s.reference.params ++ map (λ w. prefix_after place s ++ w.text) s.target.private;
+  prefix = prefix_after scope s;
+  roles = map (λ w. role_at scope w.text) s.reference.roles;
+  params = map (λ f. param_at scope f.name.text) s.reference.params ++ map (λ w. prefix_after scope s ++ w.text) s.target.private;
 }
 
 -- after the references of a path
 abbrev pub scope_at : Scope → List Step → Scope
-scope_at place path = fold after place path
+scope_at scope path = fold after scope path

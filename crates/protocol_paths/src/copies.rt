@@ -27,6 +27,7 @@ pub(crate) fn copied_words(alloc: Global, words: &[Word]) -> Result<WordList, No
     Ok(copies)
 }
 
+/// A copy of the parameter.
 fn copied_formal(formal: &Formal) -> Result<Formal, NoMemory>
     ensures { IfOk result (λ f. f ≡ formal.now) }
 {
@@ -63,8 +64,8 @@ pub(crate) fn declared_params(alloc: Global, p: &Declaration) -> Result<WordList
     Ok(words)
 }
 
-/// A register of the words' names, in order.
-pub(crate) fn register_of(alloc: Global, words: &[Word]) -> Result<NameTable, NoMemory>
+/// A table of the words' names, in order.
+pub(crate) fn name_table_of(alloc: Global, words: &[Word]) -> Result<NameTable, NoMemory>
     ensures { IfOk result (λ names. names ≡ texts words.now) }
 {
     let mut names = NameTable::new(alloc);

@@ -1,43 +1,45 @@
 ghost use Rattle.std.specs.Prelude.{IfOk};
 ghost use Rattle.std.specs.List.{AllZip};
 ghost use Rattle.protocol_paths.specs.Flat.{IsImage, IsImageFormal};
-ghost use Rattle.protocol_paths.specs.inner.Seen.{seen};
+ghost use Rattle.protocol_paths.specs.inner.ScopeOf.{scope_of};
 
-use super::place::{param_word, role_word};
-use super::reached::Reached;
+use super::scope::Scope;
+use super::substitution::{param_word, role_word};
 use bspl_parser::{Formal, FormalList, Schema};
 use bspl_types::{NoMemory, Seq};
 use std::alloc::Global;
 
-/// The message as it stands in the flat protocol.
-pub(crate) fn image_of(alloc: Global, place: &Reached, schema: &Schema) -> Result<Schema, NoMemory>
-    ensures { IfOk result (IsImage (seen place.now) schema.now) }
+/// The image of the message in the flat protocol.
+pub(crate) fn image_of(alloc: Global, scope: &Scope, schema: &Schema) -> Result<Schema, NoMemory>
+    ensures { IfOk result (IsImage (scope_of scope.now) schema.now) }
 {
     Ok(Schema {
-        sender: role_word(place, &schema.sender)?,
-        receiver: role_word(place, &schema.receiver)?,
-        name: place.prefix.word(&schema.name)?,
-        params: image_formals(alloc, place, schema.params.as_slice())?,
+        sender: role_word(scope, &schema.sender)?,
+        receiver: role_word(scope, &schema.receiver)?,
+        name: scope.prefix.word(&schema.name)?,
+        params: image_formals(alloc, scope, schema.params.as_slice())?,
     })
 }
 
-fn image_formals(alloc: Global, place: &Reached, formals: &[Formal]) -> Result<FormalList, NoMemory>
-    ensures { IfOk result (AllZip (IsImageFormal (seen place.now)) formals.now) }
+/// The images of a message's parameters.
+fn image_formals(alloc: Global, scope: &Scope, formals: &[Formal]) -> Result<FormalList, NoMemory>
+    ensures { IfOk result (AllZip (IsImageFormal (scope_of scope.now)) formals.now) }
 {
     let mut images = Seq::new(alloc);
     for formal in formals {
-        images.push(image_formal(place, formal)?)?;
+        images.push(image_formal(scope, formal)?)?;
     }
     Ok(images)
 }
 
-fn image_formal(place: &Reached, formal: &Formal) -> Result<Formal, NoMemory>
-    ensures { IfOk result (IsImageFormal (seen place.now) formal.now) }
+/// The image of one parameter.
+fn image_formal(scope: &Scope, formal: &Formal) -> Result<Formal, NoMemory>
+    ensures { IfOk result (IsImageFormal (scope_of scope.now) formal.now) }
 {
     Ok(Formal {
         adorn: formal.adorn,
         offset: formal.offset,
-        name: param_word(place, &formal.name)?,
+        name: param_word(scope, &formal.name)?,
         key: None,
     })
 }

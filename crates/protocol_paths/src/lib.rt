@@ -2,18 +2,19 @@
 #![tactic(auto)]
 
 mod copies;
-mod flattening;
+mod flat_protocol;
 mod image;
-mod marks;
+mod skippable;
 mod messages;
-mod place;
+mod descent
+mod substitution;
 mod prefix;
 mod privates;
-mod reached;
-mod walk;
+mod scope;
+mod context;
 
-pub use flattening::flatten;
-pub use marks::Skippable;
+pub use flat_protocol::flatten;
+pub use skippable::Skippable;
 
 #[cfg(test)]
 mod tests;

@@ -1,14 +1,15 @@
 ghost use Rattle.std.specs.Prelude.{◌≡◌, ◌<◌, ◌++◌, [], IfOk};
 ghost use Rattle.protocol_paths.specs.Prefix.{IsPrefix, numbered_name};
-ghost use Rattle.protocol_paths.specs.Renamed.{IsRenamed};
+ghost use Rattle.protocol_paths.specs.Substituted.{IsSubstituted};
 
 use bspl_parser::Word;
 use bspl_types::{Bytes, NoMemory, Seq, TryClone};
 use std::alloc::Global;
 
-/// What stands before the private names of a protocol that was reached.
+/// The prefix of the private names and message names of a protocol at the end of a path.
 #[derive(Drop)]
 pub(crate) struct Prefix {
+    /// Its bytes.
     pub text: Bytes,
     pub ghost before_names: { IsPrefix text },
 }
@@ -23,7 +24,7 @@ impl Prefix {
         }
     }
 
-    /// The prefix behind one more reference, which stands at the position.
+    /// The prefix after one more reference, at the position, to the target.
     pub fn longer(&self, alloc: Global, target: &Word, position: usize) -> Result<Prefix, NoMemory>
         requires { 0 < position }
         ensures { IfOk result (λ p.
@@ -40,7 +41,7 @@ impl Prefix {
 
     /// The word with the prefix.
     pub fn word(&self, word: &Word) -> Result<Word, NoMemory>
-        ensures { IfOk result (IsRenamed (self.now.text ++ word.now.text) word.now) }
+        ensures { IfOk result (IsSubstituted (self.now.text ++ word.now.text) word.now) }
     {
         let mut text = self.text.try_clone()?;
         text.append(word.text.as_slice())?;

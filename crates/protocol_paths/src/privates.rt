@@ -4,64 +4,64 @@ ghost use Rattle.protocol_paths.specs.Flat.{entry, private_entries, privates_at}
 ghost use Rattle.protocol_paths.specs.Skippable.{AreSkippable};
 ghost use Rattle.protocol_paths.specs.Path.{steps_at};
 ghost use Rattle.protocol_paths.specs.Scope.{after};
-ghost use Rattle.protocol_paths.specs.inner.Seen.{protocols_of, seen};
+ghost use Rattle.protocol_paths.specs.inner.ScopeOf.{protocols_of, scope_of};
 
-use super::place::next_place;
+use super::descent::next_scope;
 use super::prefix::Prefix;
-use super::reached::Reached;
-use super::walk::{Context, kept_target};
+use super::scope::Scope;
+use super::context::{Context, kept_target};
 use bspl_parser::{Item, Word, WordList};
 use bspl_types::NoMemory;
 
 /// AddsEach the private parameters at the ends of the paths of at most so many references.
 #[cycle(privates)]
 pub(crate) fn add_privates(
-    walk: &Context,
+    context: &Context,
     limit: usize,
-    place: &Reached,
+    scope: &Scope,
     private: &mut WordList,
 ) -> Result<(), NoMemory>
-    requires within { limit ≤ length (protocols_of walk.now) }
-    requires marked { AreSkippable (protocols_of walk.now) walk.now.marks.now }
+    requires within { limit ≤ length (protocols_of context.now) }
+    requires skippable { AreSkippable (protocols_of context.now) context.now.skippable.now }
     ensures { OnOk result (map entry private.new ≡ map entry private.old
-        ++ private_entries limit (protocols_of walk.now) (seen place.now)) }
+        ++ private_entries limit (protocols_of context.now) (scope_of scope.now)) }
 {
-    add_own(&place.prefix, place.protocol.private.as_slice(), private)?;
+    add_own(&scope.prefix, scope.protocol.private.as_slice(), private)?;
     if limit == 0 {
         return Ok(());
     }
-    let items = place.protocol.body.as_slice();
+    let items = scope.protocol.body.as_slice();
     for (index, item) in items.iter().enumerate() {
-        add_behind(walk, limit - 1, place, index + 1, item, private)?;
+        add_after(context, limit - 1, scope, index + 1, item, private)?;
     }
     Ok(())
 }
 
-// AddsEach those behind a reference, at the ends of the paths of at most so many further references.
+// AddsEach those through a reference, at the ends of the paths of at most so many further references.
 #[cycle(privates)]
-fn add_behind(
-    walk: &Context,
+fn add_after(
+    context: &Context,
     limit: usize,
-    place: &Reached,
+    scope: &Scope,
     position: usize,
     item: &Item,
     private: &mut WordList,
 ) -> Result<(), NoMemory>
     requires counted { 0 < position }
-    requires within { limit ≤ length (protocols_of walk.now) }
-    requires marked { AreSkippable (protocols_of walk.now) walk.now.marks.now }
+    requires within { limit ≤ length (protocols_of context.now) }
+    requires skippable { AreSkippable (protocols_of context.now) context.now.skippable.now }
     ensures { OnOk result (map entry private.new ≡ map entry private.old
-        ++ flat_map (λ s. private_entries limit (protocols_of walk.now) (after (seen place.now) s))
-        (steps_at (protocols_of walk.now) (position, item.now))) }
+        ++ flat_map (λ s. private_entries limit (protocols_of context.now) (after (scope_of scope.now) s))
+        (steps_at (protocols_of context.now) (position, item.now))) }
 {
     let Item::Reference(reference) = item else {
         return Ok(());
     };
-    let Some(target) = kept_target(walk.directory, walk.marks.privates, reference) else {
+    let Some(target) = kept_target(context.table, context.skippable.privates, reference) else {
         return Ok(());
     };
-    let next = next_place(walk.alloc, place, position, reference, target)?;
-    add_privates(walk, limit, &next, private)
+    let next = next_scope(context.alloc, scope, position, reference, target)?;
+    add_privates(context, limit, &next, private)
 }
 
 // AddsEach the private parameters of one protocol.

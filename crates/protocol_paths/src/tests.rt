@@ -75,8 +75,8 @@ fn flat_text(alloc: Global, document: &Document) -> Result<Option<Bytes>, NoMemo
     let [top, ..] = protocols else {
         return Ok(None);
     };
-    let directory = ProtocolTable::new(alloc, protocols)?;
-    let flat = flatten(alloc, &directory, top, &Skippable::none())?;
+    let table = ProtocolTable::new(alloc, protocols)?;
+    let flat = flatten(alloc, &table, top, &Skippable::none())?;
     Ok(Some(show(alloc, &flat)?))
 }
 

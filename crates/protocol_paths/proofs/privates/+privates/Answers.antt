@@ -2,24 +2,24 @@
 use Rattle.std.proofs.Common.{◌-◌, ◌∙◌, map, ap, arith}
 use Rattle.bspl_parser.specs.declared.document.Item.{Item}
 use Rattle.protocol_paths.specs.Flat.{entry, privates_at}
-use Rattle.protocol_paths.specs.inner.Seen.{protocols_of, seen}
-use Rattle.protocol_paths.proofs.Entries.{behind_all, behind_more, behind_none, entries_behind, entries_closed}
+use Rattle.protocol_paths.specs.inner.ScopeOf.{protocols_of, scope_of}
+use Rattle.protocol_paths.proofs.EntryLemmas.{after_all, after_more, after_none, entries_after, entries_skipped}
 use Rattle.protocol_paths.proofs.privates.+privates.Goals as goal
 
-pub add_behind-returns-in_default-kept_target : goal.add_behind-returns-in_default-kept_target
-add_behind-returns-in_default-kept_target t c =
-    let protocols = protocols_of c.args.walk.now in
-    let place = seen c.args.place.now in
-    behind_none (entries_behind c.args.limit protocols place (c.args.position, c.args.item.now)) (map entry c.args.private.now)
-    (ap (λ (i : Item). entries_behind c.args.limit protocols place (c.args.position, i)) c.in-Reference.is ∙ entries_closed c.args.limit protocols c.args.walk.now.marks.now place c.args.position c.in-Reference.reference c.requires.within c.requires.marked c.in_default-kept_target.ensures)
+pub add_after-returns-in_default-kept_target : goal.add_after-returns-in_default-kept_target
+add_after-returns-in_default-kept_target t c =
+    let protocols = protocols_of c.args.context.now in
+    let scope = scope_of c.args.scope.now in
+    after_none (entries_after c.args.limit protocols scope (c.args.position, c.args.item.now)) (map entry c.args.private.now)
+    (ap (λ (i : Item). entries_after c.args.limit protocols scope (c.args.position, i)) c.in-Reference.is ∙ entries_skipped c.args.limit protocols c.args.context.now.skippable.now scope c.args.position c.in-Reference.reference c.requires.within c.requires.skippable c.in_default-kept_target.ensures)
 
 pub add_privates-loop-index-preserved : goal.add_privates-loop-index-preserved
 add_privates-loop-index-preserved t c =
-    let place = seen c.args.place.now in
-    behind_more (entries_behind (c.args.limit - 1) (protocols_of c.args.walk.now) place) c.args.place.now.protocol.now.body c.loop-index.index c.index-items-index.result (privates_at place) (map entry c.args.private.now) (map entry c.loop-index.private) (map entry c.add_behind.new.private)
-    (rw c.as_slice-items.ensures at c.loop-index-test.true) (rw c.as_slice-items.ensures at c.index-items-index.is) c.loop-index.invariant c.in_ok-add_behind.ensures
+    let scope = scope_of c.args.scope.now in
+    after_more (entries_after (c.args.limit - 1) (protocols_of c.args.context.now) scope) c.args.scope.now.protocol.now.body c.loop-index.index c.index-items-index.result (privates_at scope) (map entry c.args.private.now) (map entry c.loop-index.private) (map entry c.add_after.new.private)
+    (rw c.as_slice-items.ensures at c.loop-index-test.true) (rw c.as_slice-items.ensures at c.index-items-index.is) c.loop-index.invariant c.in_ok-add_after.ensures
 
 pub add_privates-returns : goal.add_privates-returns
 add_privates-returns t c =
-    behind_all c.args.limit c.loop-index.index (protocols_of c.args.walk.now) (seen c.args.place.now) (map entry c.args.private.now) (map entry c.loop-index.private)
+    after_all c.args.limit c.loop-index.index (protocols_of c.args.context.now) (scope_of c.args.scope.now) (map entry c.args.private.now) (map entry c.loop-index.private)
     (omega arith) (rw c.as_slice-items.ensures at c.loop-index-test.false) c.loop-index.invariant

@@ -1,18 +1,18 @@
--- How far the walk may go, and what has been added.
+-- How far the context may go, and what has been added.
 use Rattle.std.proofs.Common.{◌≡◌, ◌+◌, ◌-◌, ◌*◌, ◌++◌, map, take}
 use Rattle.std.specs.List.{flat_map}
 use Rattle.protocol_paths.specs.Flat.{entry, privates_at}
 use Rattle.protocol_paths.specs.Path.{numbered}
-use Rattle.protocol_paths.specs.inner.Seen.{protocols_of, seen}
-use Rattle.protocol_paths.proofs.Entries.{entries_behind}
+use Rattle.protocol_paths.specs.inner.ScopeOf.{protocols_of, scope_of}
+use Rattle.protocol_paths.proofs.EntryLemmas.{entries_after}
 use Rattle.protocol_paths.proofs.privates.+privates.Given as goal
 
 abbrev pub decreases-add_privates : goal.decreases-add_privates
 decreases-add_privates l = 2 * l.limit
 
-abbrev pub decreases-add_behind : goal.decreases-add_behind
-decreases-add_behind l = 2 * l.limit + 1
+abbrev pub decreases-add_after : goal.decreases-add_after
+decreases-add_after l = 2 * l.limit + 1
 
--- those of the protocol itself, and those behind the items so far
+-- those of the protocol itself, and those through the items so far
 abbrev pub invariant-add_privates-loop-index : goal.invariant-add_privates-loop-index
-invariant-add_privates-loop-index l = map entry l.private ≡ map entry l.fn.private ++ (privates_at (seen l.place) ++ flat_map (entries_behind (l.limit - 1) (protocols_of l.walk) (seen l.place)) (take l.index (numbered l.place.protocol.now)))
+invariant-add_privates-loop-index l = map entry l.private ≡ map entry l.fn.private ++ (privates_at (scope_of l.scope) ++ flat_map (entries_after (l.limit - 1) (protocols_of l.context) (scope_of l.scope)) (take l.index (numbered l.scope.protocol.now)))

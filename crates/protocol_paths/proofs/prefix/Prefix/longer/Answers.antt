@@ -2,7 +2,7 @@
 use Rattle.std.proofs.Common.{◌≡◌, ◌++◌, ◌∙◌, sym, subst, arith}
 use Rattle.std.specs.Prelude.{codes, decimal}
 use Rattle.protocol_paths.specs.Prefix.{IsPrefix}
-use Rattle.protocol_paths.proofs.Named.{grown, longer_prefix}
+use Rattle.protocol_paths.proofs.PrefixLemmas.{grown, longer_prefix}
 use Rattle.protocol_paths.proofs.prefix.Prefix.longer.Goals as goal
 
 pub invariant_of-result : goal.invariant_of-result

@@ -1,0 +1,72 @@
+-- The private parameters at the ends of paths, by the references of a body.
+use Rattle.std.proofs.Common.{◌≡◌, ℕ, zero, suc, ◌+◌, ◌-◌, ◌<◌, ◌≤◌, List, [], ◌∷◌, ◌++◌, length, get_or, map, take, refl, sym, ap, ◌∙◌, arith}
+use Rattle.std.specs.List.{enumerate_from, flat_map}
+use Rattle.std.proofs.lemmas.List.{append-nil, append_assoc}
+use Rattle.bspl_parser.specs.declared.document.Declaration.{Declaration}
+use Rattle.bspl_parser.specs.declared.document.Item.{Item}
+use Rattle.bspl_parser.specs.declared.document.Item.TheVariants.{Reference}
+use Rattle.bspl_parser.specs.declared.document.Reference.{Reference as SpecReference}
+use Rattle.bspl_parser.specs.declared.word.Word.{Word}
+use Rattle.protocol_paths.specs.declared.skippable.Skippable.{Skippable}
+use Rattle.protocol_paths.specs.Flat.{private_entries, privates_at}
+use Rattle.protocol_paths.specs.Skippable.{AreSkippable, IsSkipped}
+use Rattle.protocol_paths.specs.Path.{Step, end_of, numbered, paths, private_words, steps, steps_at}
+use Rattle.protocol_paths.specs.Scope.{Scope, after, scope_at}
+use Rattle.protocol_paths.proofs.EmptyBelow.{fewer_words, flat_map-flat_map, flat_map-map, flat_map-same, flat_map_empty}
+use Rattle.protocol_paths.proofs.Numbered.{made_all, made_more}
+use Rattle.protocol_paths.proofs.ReferenceLemmas.{no_step, step_by}
+
+-- a name and an offset
+abbrev Entry : Type 0
+Entry = List ℕ × ℕ
+
+-- a path leads to the protocol at its end
+pub same_end : (scope : Scope) (path : List Step) → (scope_at scope path).protocol ≡ end_of scope.protocol path
+same_end scope [] = refl
+same_end scope (s ∷ path) = same_end (after scope s) path
+
+-- without private parameters at the ends there are no entries
+none_at_end : (scope : Scope) (path : List Step) → (end_of scope.protocol path).private ≡ [] → privates_at (scope_at scope path) ≡ []
+none_at_end scope path none =
+    let here : (scope_at scope path).protocol.private ≡ [] = ap (λ (p : Declaration). p.private) (same_end scope path) ∙ none in
+    ap (map (λ (w : Word). ((scope_at scope path).prefix ++ w.text, w.offset))) here
+
+pub no_entries : (n : ℕ) (protocols : List Declaration) (scope : Scope) → private_words n protocols scope.protocol ≡ [] → private_entries n protocols scope ≡ []
+no_entries n protocols scope none = flat_map_empty (λ path. (end_of scope.protocol path).private) (λ path. privates_at (scope_at scope path)) (none_at_end scope) (paths n protocols scope.protocol) none
+
+-- the entries through an item
+abbrev pub entries_after : ℕ → List Declaration → Scope → ℕ × Item → List (List ℕ × ℕ)
+entries_after n protocols scope i = flat_map (λ s. private_entries n protocols (after scope s)) (steps_at protocols i)
+
+-- of one protocol its own, and then those through each item
+entries_more : (n : ℕ) (protocols : List Declaration) (scope : Scope) → private_entries (suc n) protocols scope ≡ privates_at scope ++ flat_map (entries_after n protocols scope) (numbered scope.protocol)
+entries_more n protocols scope = ap (λ (list : List Entry). privates_at scope ++ list) (
+    flat_map-flat_map (λ path. privates_at (scope_at scope path)) (λ s. map (λ path. s ∷ path) (paths n protocols s.target)) (steps protocols scope.protocol)
+    ∙ flat_map-same (λ s. flat_map (λ path. privates_at (scope_at scope path)) (map (λ path. s ∷ path) (paths n protocols s.target))) (λ s. private_entries n protocols (after scope s)) (λ s. flat_map-map (λ path. privates_at (scope_at scope path)) (λ path. s ∷ path) (paths n protocols s.target)) (steps protocols scope.protocol)
+    ∙ flat_map-flat_map (λ s. private_entries n protocols (after scope s)) (steps_at protocols) (numbered scope.protocol))
+
+pub after_more : (f : ℕ × Item → List Entry) (body : List Item) (i : ℕ) (item : Item) (own old mid new : List Entry) → i < length body → item ≡ get_or body i item → mid ≡ old ++ (own ++ flat_map f (take i (enumerate_from 1 body))) → new ≡ mid ++ f (i + 1, item) → new ≡ old ++ (own ++ flat_map f (take (i + 1) (enumerate_from 1 body)))
+after_more f body i item own old mid new within stands so_far one =
+    one ∙ ap (λ (list : List Entry). list ++ f (i + 1, item)) so_far
+    ∙ append_assoc old (own ++ flat_map f (take i (enumerate_from 1 body))) (f (i + 1, item))
+    ∙ ap (λ (list : List Entry). old ++ list) (append_assoc own (flat_map f (take i (enumerate_from 1 body))) (f (i + 1, item)))
+    ∙ ap (λ (list : List Entry). old ++ (own ++ list)) (sym (made_more f body i item within stands))
+
+pub after_all : (n i : ℕ) (protocols : List Declaration) (scope : Scope) (old new : List Entry) → 0 < n → length scope.protocol.body ≤ i → new ≡ old ++ (privates_at scope ++ flat_map (entries_after (n - 1) protocols scope) (take i (numbered scope.protocol))) → new ≡ old ++ private_entries n protocols scope
+after_all zero i protocols scope old new some past so_far = absurd (omega (arith, some))
+after_all (suc n) i protocols scope old new some past so_far =
+    let less : suc n - 1 ≡ n = omega arith in
+    so_far
+    ∙ ap (λ m. old ++ (privates_at scope ++ flat_map (entries_after m protocols scope) (take i (numbered scope.protocol)))) less
+    ∙ ap (λ (list : List Entry). old ++ (privates_at scope ++ list)) (made_all (entries_after n protocols scope) scope.protocol.body i past)
+    ∙ ap (λ (list : List Entry). old ++ list) (sym (entries_more n protocols scope))
+
+-- through a message there is nothing
+pub after_none : (list old : List Entry) → list ≡ [] → old ≡ old ++ list
+after_none list old none = sym (append-nil old) ∙ ap (λ (more : List Entry). old ++ more) (sym none)
+
+-- nor through a reference that is passed over
+pub entries_skipped : (n : ℕ) (protocols : List Declaration) (skippable : Skippable) (scope : Scope) (position : ℕ) (r : SpecReference) → n ≤ length protocols → AreSkippable protocols skippable → IsSkipped protocols skippable.privates.now r.protocol.text → entries_after n protocols scope (position, Reference r) ≡ []
+entries_skipped n protocols skippable scope position r within skippable closed =
+    no_step (λ s. private_entries n protocols (after scope s)) protocols position r
+    (λ q found. no_entries n protocols (after scope (step_by position r q)) (fewer_words n (length protocols) protocols q within (skippable.privates q (closed q found))))

@@ -1,8 +1,0 @@
--- A word under another name.
-use Rattle.std.specs.Prelude.{◌≡◌, ℕ, List}
-use Rattle.bspl_parser.specs.declared.word.Word.{Word}
-
--- it has the name, and the offset of the word that it stands for
-pub record IsRenamed (name : List ℕ) (w w' : Word) : Type 0 where
-  pub text : w'.text ≡ name
-  pub offset : w'.offset ≡ w.offset
