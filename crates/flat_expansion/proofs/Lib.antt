@@ -1,6 +1,6 @@
-pub mod Expanding
-pub mod Flattened
-pub mod Pieces
-pub mod Readiness
-pub mod Same
-pub mod Shaped
+pub mod DeclarationLemmas
+pub mod ExpansionIsUnique
+pub mod ExpansionLemmas
+pub mod SchemaLemmas
+pub mod ShapeLemmas
+pub mod WellScopedLemmas

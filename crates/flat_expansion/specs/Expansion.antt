@@ -1,4 +1,4 @@
--- The expansion of a protocol of messages alone is the protocol itself, its names replaced by places.
+-- The expansion of a protocol of messages alone: its names replaced by their indices.
 use Rattle.std.specs.Prelude.{◌≡◌, ℕ, false, List, ◌++◌, length, map, Option, Some, None}
 use Rattle.std.specs.Prelude.{is_some}
 use Rattle.std.specs.List.{AllZip, position}
@@ -28,7 +28,11 @@ adornment_of Opt = None
 
 -- a public parameter, with its adornment and whether it is marked as a key
 abbrev pub public_param : Formal → ParamInfo
-public_param f = record { name = f.name.text; adornment = adornment_of f.adorn; key = is_some f.key }
+public_param f = record {
+  name = f.name.text;
+  adornment = adornment_of f.adorn;
+  key = is_some f.key;
+}
 
 -- a private parameter has neither
 abbrev pub private_param : Word → ParamInfo
@@ -38,21 +42,22 @@ private_param w = record { name = w.text; adornment = None; key = false }
 abbrev pub params_of : Declaration → List ParamInfo
 params_of d = map public_param d.public ++ map private_param d.private
 
--- the first place of the role's name
+-- the first index of the role's name
 abbrev pub role_index : List (List ℕ) → List ℕ → Option ℕ
 role_index roles name = position (λ role. bytes_eq role name) roles
 
--- the first place of the parameter's name
+-- the first index of the parameter's name
 abbrev pub param_index : List ParamInfo → List ℕ → Option ℕ
 param_index params name = position (λ p. bytes_eq p.name name) params
 
--- the parameter's place and its adornment
+-- the parameter's index and its adornment
 pub record IsCarried (params : List ParamInfo) (f : Formal) (c : Carried) : Type 0 where
-  pub place : param_index params f.name.text ≡ Some c.param
+  pub indexed : param_index params f.name.text ≡ Some c.param
   pub adorned : adornment_of f.adorn ≡ Some c.adornment
 
--- the message of a schema: its roles and parameters by their places
-pub record IsMessageFor (roles : List (List ℕ)) (params : List ParamInfo) (s : Schema) (m : Message) : Type 0 where
+-- the message of a schema: its roles and parameters by their indices
+pub record IsMessageFor (roles : List (List ℕ)) (params : List ParamInfo) (s : Schema) (m : Message)
+    : Type 0 where
   pub named : m.name ≡ s.name.text
   pub sent : role_index roles s.sender.text ≡ Some m.sender
   pub received : role_index roles s.receiver.text ≡ Some m.receiver

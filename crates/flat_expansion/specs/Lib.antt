@@ -1,4 +1,6 @@
+-- Expansions of protocols of messages alone, and the protocols of expansions.
 pub mod Expansion
-pub mod Flat
-pub mod Ready
+pub mod WellScoped
+pub mod Canonical
+pub mod Laws
 pub use Rattle.protocol_names.specs.Names

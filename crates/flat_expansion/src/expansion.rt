@@ -1,8 +1,9 @@
 ghost use Rattle.std.specs.Prelude.{◌≡◌, ◌++◌, map, IfOk, MatchOption};
-ghost use Rattle.bspl_types.specs.declared.expanded.Expanded.{Expanded as Protocol};
-ghost use Rattle.flat_expansion.specs.Expansion.{adornment_of, public_param, private_param, IsExpansionOf};
+ghost use Rattle.bspl_types.specs.declared.expanded.Expanded.{Expanded as SpecExpanded};
+ghost use Rattle.flat_expansion.specs.Expansion.{adornment_of, public_param, private_param};
+ghost use Rattle.flat_expansion.specs.Expansion.{IsExpansionOf};
 
-use super::images::messages_of;
+use super::messages::messages_of;
 use bspl_parser::{Adorn, Declaration, Formal, Word};
 use bspl_types::{
     Adornment, Expanded, NameList, NoMemory, PARAM_LIMIT, ParamInfo, ParamInfoList, ROLE_LIMIT,
@@ -13,7 +14,7 @@ use std::alloc::Global;
 /// The expansion of a protocol whose body has messages alone, if it has one.
 pub fn expansion_of(alloc: Global, d: &Declaration) -> Result<Option<Expanded>, NoMemory>
     ensures { IfOk result (λ found. MatchOption found
-        ((x : Protocol) → ¬ IsExpansionOf d.now x) (IsExpansionOf d.now)) }
+        ((x : SpecExpanded) → ¬ IsExpansionOf d.now x) (IsExpansionOf d.now)) }
 {
     let roles = role_names(alloc, d.roles.as_slice())?;
     let params = declared_params(alloc, d.public.as_slice(), d.private.as_slice())?;
@@ -40,6 +41,7 @@ pub fn expansion_of(alloc: Global, d: &Declaration) -> Result<Option<Expanded>, 
     )
 }
 
+/// The names of the roles.
 fn role_names(alloc: Global, words: &[Word]) -> Result<NameList, NoMemory>
     ensures { IfOk result (λ names. names ≡ map (λ w. w.text) words.now) }
 {
@@ -50,6 +52,7 @@ fn role_names(alloc: Global, words: &[Word]) -> Result<NameList, NoMemory>
     Ok(names)
 }
 
+/// The parameters, the public ones first.
 fn declared_params(
     alloc: Global,
     public: &[Formal],
@@ -68,6 +71,7 @@ fn declared_params(
     Ok(params)
 }
 
+/// A public parameter.
 fn public_param(f: &Formal) -> Result<ParamInfo, NoMemory>
     ensures { IfOk result (λ p. p ≡ public_param f.now) }
 {
@@ -78,6 +82,7 @@ fn public_param(f: &Formal) -> Result<ParamInfo, NoMemory>
     })
 }
 
+/// A private parameter.
 fn private_param(w: &Word) -> Result<ParamInfo, NoMemory>
     ensures { IfOk result (λ p. p ≡ private_param w.now) }
 {
@@ -88,6 +93,7 @@ fn private_param(w: &Word) -> Result<ParamInfo, NoMemory>
     })
 }
 
+/// The adornment in an expansion, if it is supported.
 pub(crate) fn adornment_of(adorn: Adorn) -> Option<Adornment>
     ensures { result ≡ adornment_of adorn }
 {

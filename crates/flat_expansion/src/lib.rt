@@ -1,17 +1,15 @@
-//! Protocols of messages alone: their names replaced by places, and when that works.
+//! Protocols of messages alone: their expansions, and the protocols of expansions.
 #![tactic(auto)]
 
+mod declaration;
 mod expansion;
-mod flattening;
-mod images;
-mod ready;
+mod laws;
+mod messages;
 mod schemas;
 
+pub use declaration::declaration_of;
 pub use expansion::expansion_of;
-pub use flattening::declaration_of;
-pub use ready::{expansion_of_well_scoped, expansions_are_unique, well_scoped_protocols_expand};
-
-#[cfg(test)]
-mod limit_tests;
-#[cfg(test)]
-mod tests;
+pub use laws::{
+    expansion_of_well_scoped, expansions_are_unique, expansions_keep_names,
+    well_scoped_protocols_expand,
+};

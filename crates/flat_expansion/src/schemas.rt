@@ -2,9 +2,9 @@ ghost use Rattle.std.specs.Prelude.{◌≡◌, ◌<◌, length, IsTrue, IfOk, No
 ghost use Rattle.std.specs.List.{All, AllZip};
 ghost use Rattle.bspl_types.specs.Name.{is_name};
 ghost use Rattle.bspl_types.specs.Shape.{AreNamed, IsMessageOf};
-ghost use Rattle.flat_expansion.specs.Flat.{IsFormalOf, IsItemOf, IsSchemaOf};
+ghost use Rattle.flat_expansion.specs.Canonical.{IsFormalOf, IsItemOf, IsSchemaOf};
 
-use super::flattening::{adorn_of, word_of};
+use super::declaration::{adorn_of, word_of};
 use bspl_parser::{Formal, FormalList, Item, ItemList, Schema};
 use bspl_types::{Carried, Message, Name, NoMemory, ParamInfo, Seq};
 use std::alloc::Global;
@@ -30,6 +30,7 @@ pub fn items_of(
     Ok(items)
 }
 
+/// The schema of a message.
 fn schema_of(
     alloc: Global,
     roles: &[Name],
@@ -50,6 +51,7 @@ fn schema_of(
     })
 }
 
+/// The parameters of a message.
 fn formals_of(
     alloc: Global,
     params: &[ParamInfo],
@@ -66,6 +68,7 @@ fn formals_of(
     Ok(formals)
 }
 
+/// One parameter of a message.
 fn formal_of(params: &[ParamInfo], c: Carried) -> Result<Formal, NoMemory>
     requires params { AreNamed (λ p. p.name) params.now }
     requires placed { c.param < length params.now }

@@ -47,7 +47,8 @@ abbrev pub AdornmentDiffers : Formal × Formal → FaultKind → ℕ → Type 0
 AdornmentDiffers pair = FaultIf (pair.0.adorn ≢ pair.1.adorn) BadAdornment pair.0.offset
 
 -- a fault of a reference against the protocol that it names
-pub data IsReferenceFault (protocols : List Declaration) (r : SpecReference) : FaultKind → ℕ → Type 0 where
+pub data IsReferenceFault (protocols : List Declaration) (r : SpecReference)
+    : FaultKind → ℕ → Type 0 where
   -- there is no protocol of that name
   unknown_protocol : protocol_of protocols r.protocol.text ≡ None →
     IsReferenceFault protocols r Unknown r.protocol.offset
@@ -81,7 +82,8 @@ IsNamedTwice p =
 abbrev pub IsFaultIn : List Declaration → Declaration → FaultKind → ℕ → Type 0
 IsFaultIn protocols p =
     EitherFault (IsNamedTwice p)
-    (EitherFault (OfSome IsUnsupported p.public) (OfSome (IsItemFault protocols (names_of p)) p.body))
+    (EitherFault (OfSome IsUnsupported p.public)
+    (OfSome (IsItemFault protocols (names_of p)) p.body))
 
 -- a document: two protocols have one name, or a protocol is at fault
 abbrev pub IsFault : Document → FaultKind → ℕ → Type 0

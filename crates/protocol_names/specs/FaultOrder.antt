@@ -1,4 +1,5 @@
--- The order of faults, and the first fault of some sort. A sort of faults says which kinds stand at which offsets.
+-- The order of faults, and the first fault of a sort. A sort of faults has for each kind and offset
+-- the fact that there is a fault of the kind at the offset.
 use Rattle.std.specs.Prelude.{◌≡◌, ℕ, ◌<◌, ◌≤◌, ◌⊎◌, ◌==◌, ◌&&◌, ◌||◌, List, Option, Some, None}
 use Rattle.std.specs.Prelude.{Bool, cond, nat_lt, MatchOption}
 use Rattle.std.specs.List.{Contains}

@@ -45,7 +45,8 @@ impl DeclaredNames {
     /// Notes the name that an item declares, if it declares one.
     fn add_declared(&mut self, item: &Item) -> Result<(), NoMemory>
         ensures { (words : List SpecWord) → AreDeclared words self.old.names self.old.first →
-            OnOk result (AreDeclared (words ++ declared_word item.now) self.new.names self.new.first) }
+            OnOk result
+            (AreDeclared (words ++ declared_word item.now) self.new.names self.new.first) }
     {
         match item {
             Item::Message(schema) => self.add(&schema.name),

@@ -1,5 +1,6 @@
 ghost use Rattle.std.specs.Prelude.{◌≡◌, IsTrue, cond};
-ghost use Rattle.protocol_names.specs.FaultOrder.{earlier, FindsFirst, FaultIf, kind_rank, comes_before};
+ghost use Rattle.protocol_names.specs.FaultOrder.{earlier, FindsFirst, FaultIf, kind_rank};
+ghost use Rattle.protocol_names.specs.FaultOrder.{comes_before};
 
 use super::fault::{DocumentFault, FaultKind};
 

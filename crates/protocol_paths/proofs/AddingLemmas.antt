@@ -6,7 +6,8 @@ use Rattle.std.proofs.lemmas.List.{append-nil, append_assoc}
 use Rattle.bspl_parser.specs.declared.document.Item.{Item}
 use Rattle.bspl_parser.specs.declared.document.Item.TheVariants.{Message, Reference}
 use Rattle.bspl_parser.specs.declared.document.Schema.{Schema}
-use Rattle.protocol_paths.specs.Flat.{AddsEach, IsImageItem}
+use Rattle.protocol_paths.specs.inner.AddsEach.{AddsEach}
+use Rattle.protocol_paths.specs.Flat.{IsImageItem}
 use Rattle.protocol_paths.specs.Path.{Step, through}
 use Rattle.protocol_paths.specs.Scope.{Scope, after}
 use Rattle.protocol_paths.proofs.Numbered.{made_all, made_more}
@@ -26,8 +27,8 @@ adds_both R xs xs' old mid new one other = record {
 
 -- for one item more
 pub adds_more : {X Y Z : Type 0} (R : Z → Y → Type 0) (f : ℕ × X → List Z) (xs : List X) (i : ℕ) (x : X) (old mid new : List Y) → i < length xs → x ≡ get_or xs i x → AddsEach R (flat_map f (take i (enumerate_from 1 xs))) old mid → AddsEach R (f (i + 1, x)) mid new → AddsEach R (flat_map f (take (i + 1) (enumerate_from 1 xs))) old new
-adds_more {X} {Y} {Z} R f xs i x old mid new within stands one other =
-    subst (λ (list : List Z). AddsEach R list old new) (sym (made_more f xs i x within stands)) (adds_both R (flat_map f (take i (enumerate_from 1 xs))) (f (i + 1, x)) old mid new one other)
+adds_more {X} {Y} {Z} R f xs i x old mid new within is_item one other =
+    subst (λ (list : List Z). AddsEach R list old new) (sym (made_more f xs i x within is_item)) (adds_both R (flat_map f (take i (enumerate_from 1 xs))) (f (i + 1, x)) old mid new one other)
 
 -- for all items
 pub adds_all : {X Y Z : Type 0} (R : Z → Y → Type 0) (f : ℕ × X → List Z) (xs : List X) (i : ℕ) (old new : List Y) → length xs ≤ i → AddsEach R (flat_map f (take i (enumerate_from 1 xs))) old new → AddsEach R (flat_map f (enumerate_from 1 xs)) old new

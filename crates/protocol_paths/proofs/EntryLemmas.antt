@@ -9,6 +9,7 @@ use Rattle.bspl_parser.specs.declared.document.Reference.{Reference as SpecRefer
 use Rattle.bspl_parser.specs.declared.word.Word.{Word}
 use Rattle.protocol_paths.specs.declared.skippable.Skippable.{Skippable}
 use Rattle.protocol_paths.specs.Flat.{private_entries, privates_at}
+use Rattle.protocol_paths.specs.inner.AddsEach.{entries_after}
 use Rattle.protocol_paths.specs.Skippable.{AreSkippable, IsSkipped}
 use Rattle.protocol_paths.specs.Path.{Step, end_of, numbered, paths, private_words, steps, steps_at}
 use Rattle.protocol_paths.specs.Scope.{Scope, after, scope_at}
@@ -34,10 +35,6 @@ none_at_end scope path none =
 pub no_entries : (n : ℕ) (protocols : List Declaration) (scope : Scope) → private_words n protocols scope.protocol ≡ [] → private_entries n protocols scope ≡ []
 no_entries n protocols scope none = flat_map_empty (λ path. (end_of scope.protocol path).private) (λ path. privates_at (scope_at scope path)) (none_at_end scope) (paths n protocols scope.protocol) none
 
--- the entries through an item
-abbrev pub entries_after : ℕ → List Declaration → Scope → ℕ × Item → List (List ℕ × ℕ)
-entries_after n protocols scope i = flat_map (λ s. private_entries n protocols (after scope s)) (steps_at protocols i)
-
 -- of one protocol its own, and then those through each item
 entries_more : (n : ℕ) (protocols : List Declaration) (scope : Scope) → private_entries (suc n) protocols scope ≡ privates_at scope ++ flat_map (entries_after n protocols scope) (numbered scope.protocol)
 entries_more n protocols scope = ap (λ (list : List Entry). privates_at scope ++ list) (
@@ -46,11 +43,11 @@ entries_more n protocols scope = ap (λ (list : List Entry). privates_at scope +
     ∙ flat_map-flat_map (λ s. private_entries n protocols (after scope s)) (steps_at protocols) (numbered scope.protocol))
 
 pub after_more : (f : ℕ × Item → List Entry) (body : List Item) (i : ℕ) (item : Item) (own old mid new : List Entry) → i < length body → item ≡ get_or body i item → mid ≡ old ++ (own ++ flat_map f (take i (enumerate_from 1 body))) → new ≡ mid ++ f (i + 1, item) → new ≡ old ++ (own ++ flat_map f (take (i + 1) (enumerate_from 1 body)))
-after_more f body i item own old mid new within stands so_far one =
+after_more f body i item own old mid new within is_item so_far one =
     one ∙ ap (λ (list : List Entry). list ++ f (i + 1, item)) so_far
     ∙ append_assoc old (own ++ flat_map f (take i (enumerate_from 1 body))) (f (i + 1, item))
     ∙ ap (λ (list : List Entry). old ++ list) (append_assoc own (flat_map f (take i (enumerate_from 1 body))) (f (i + 1, item)))
-    ∙ ap (λ (list : List Entry). old ++ (own ++ list)) (sym (made_more f body i item within stands))
+    ∙ ap (λ (list : List Entry). old ++ (own ++ list)) (sym (made_more f body i item within is_item))
 
 pub after_all : (n i : ℕ) (protocols : List Declaration) (scope : Scope) (old new : List Entry) → 0 < n → length scope.protocol.body ≤ i → new ≡ old ++ (privates_at scope ++ flat_map (entries_after (n - 1) protocols scope) (take i (numbered scope.protocol))) → new ≡ old ++ private_entries n protocols scope
 after_all zero i protocols scope old new some past so_far = absurd (omega (arith, some))
@@ -67,6 +64,6 @@ after_none list old none = sym (append-nil old) ∙ ap (λ (more : List Entry). 
 
 -- nor through a reference that is passed over
 pub entries_skipped : (n : ℕ) (protocols : List Declaration) (skippable : Skippable) (scope : Scope) (position : ℕ) (r : SpecReference) → n ≤ length protocols → AreSkippable protocols skippable → IsSkipped protocols skippable.privates.now r.protocol.text → entries_after n protocols scope (position, Reference r) ≡ []
-entries_skipped n protocols skippable scope position r within skippable closed =
+entries_skipped n protocols skippable scope position r within allowed skipped =
     no_step (λ s. private_entries n protocols (after scope s)) protocols position r
-    (λ q found. no_entries n protocols (after scope (step_by position r q)) (fewer_words n (length protocols) protocols q within (skippable.privates q (closed q found))))
+    (λ q found. no_entries n protocols (after scope (step_by position r q)) (fewer_words n (length protocols) protocols q within (allowed.privates q (skipped q found))))

@@ -7,16 +7,16 @@ use Rattle.std.proofs.lemmas.List.FromFn.{get_or-enumerate_from, length-enumerat
 
 -- one item more
 numbered_more : {X : Type 0} (xs : List X) (i : ℕ) (x : X) → i < length xs → x ≡ get_or xs i x → take (i + 1) (enumerate_from 1 xs) ≡ take i (enumerate_from 1 xs) ++ (i + 1, x) ∷ []
-numbered_more {X} xs i x within stands =
+numbered_more {X} xs i x within is_item =
     let inside : i < length (enumerate_from 1 xs) = omega (arith, within, length-enumerate_from 1 xs) in
-    let scope : 1 + i ≡ i + 1 = omega arith in
+    let counted : 1 + i ≡ i + 1 = omega arith in
     take_more (enumerate_from 1 xs) i (i + 1, x) inside
-    ∙ ap (λ (pair : ℕ × X). take i (enumerate_from 1 xs) ++ pair ∷ []) (get_or-enumerate_from 1 xs i (i + 1, x) within ∙ ap {B = ℕ × X} (λ n. (n, get_or xs i x)) scope ∙ ap {B = ℕ × X} (λ y. (i + 1, y)) (sym stands))
+    ∙ ap (λ (pair : ℕ × X). take i (enumerate_from 1 xs) ++ pair ∷ []) (get_or-enumerate_from 1 xs i (i + 1, x) within ∙ ap {B = ℕ × X} (λ n. (n, get_or xs i x)) counted ∙ ap {B = ℕ × X} (λ y. (i + 1, y)) (sym is_item))
 
 -- what comes of the items so far, and of one more
 pub made_more : {X Y : Type 0} (f : ℕ × X → List Y) (xs : List X) (i : ℕ) (x : X) → i < length xs → x ≡ get_or xs i x → flat_map f (take (i + 1) (enumerate_from 1 xs)) ≡ flat_map f (take i (enumerate_from 1 xs)) ++ f (i + 1, x)
-made_more {X} {Y} f xs i x within stands =
-    ap (flat_map f) (numbered_more xs i x within stands)
+made_more {X} {Y} f xs i x within is_item =
+    ap (flat_map f) (numbered_more xs i x within is_item)
     ∙ flat_map-append f (take i (enumerate_from 1 xs)) ((i + 1, x) ∷ [])
     ∙ ap (λ (more : List Y). flat_map f (take i (enumerate_from 1 xs)) ++ more) (append-nil (f (i + 1, x)))
 

@@ -34,7 +34,7 @@ onto_front : (b : ℕ) (parts others : List (List ℕ)) (p : List ℕ) (ps : Lis
 onto_front b [] others p ps some = cc
 onto_front b (q ∷ qs) others p ps some = refl
 
--- what stands before a `#` and what stands through it are cut apart
+-- a text is cut at a `#`
 pub pieces_join : (front rest : List ℕ) → pieces (front ++ 35 ∷ rest) ≡ pieces front ++ pieces rest
 pieces_join [] rest = refl
 pieces_join (b ∷ bs) rest =
@@ -64,7 +64,7 @@ pieces_number (d ∷ ds) text p ps digits are =
     let both = and_parts (is_ascii_digit d) (list_all is_ascii_digit ds) digits in
     slice_split-cons_no is_hash d (ds ++ 46 ∷ text) (digit_no_hash d both.0) ∙ ap (onto_first d) (pieces_number ds text p ps both.1 are)
 
--- what stands before the `.` and through it
+-- the pieces before and after the `.`
 before_more : (b : ℕ) (p : List ℕ) → is_dot b ≡ false → before_first is_dot (b ∷ p) ≡ b ∷ before_first is_dot p
 before_more b p other = rw (other, one-add) refl
 

@@ -11,7 +11,8 @@ use Rattle.bspl_parser.specs.declared.document.Reference.{Reference as SpecRefer
 use Rattle.bspl_parser.specs.declared.document.Schema.{Schema}
 use Rattle.protocol_names.specs.Names.{protocol_of}
 use Rattle.protocol_paths.specs.declared.skippable.Skippable.{Skippable}
-use Rattle.protocol_paths.specs.Flat.{AddsEach, IsImageItem}
+use Rattle.protocol_paths.specs.inner.AddsEach.{AddsEach}
+use Rattle.protocol_paths.specs.Flat.{IsImageItem}
 use Rattle.protocol_paths.specs.Skippable.{AreSkippable, IsSkipped}
 use Rattle.protocol_paths.specs.Path.{Step, through, item_messages, message_paths, steps_at}
 use Rattle.protocol_paths.specs.Scope.{Scope, after}
@@ -34,7 +35,7 @@ no_step {X} f protocols position r none =
       | Some q ↦ λ found. ap (λ (list : List X). list ++ []) (none q found)
     ]) refl
 
--- a message of the body stands for itself
+-- a message of the body is the end of the empty path
 pub message_alone : (n : ℕ) (protocols : List Declaration) (position : ℕ) (m : Schema) → item_messages n protocols (position, Message m) ≡ ([], m) ∷ []
 message_alone zero protocols position m = refl
 message_alone (suc n) protocols position m = refl
@@ -50,12 +51,12 @@ messages_after (suc n) protocols position r q some found =
 
 -- there are none through one that is passed over
 pub messages_skipped : (n : ℕ) (protocols : List Declaration) (skippable : Skippable) (position : ℕ) (r : SpecReference) → n ≤ length protocols → AreSkippable protocols skippable → IsSkipped protocols skippable.messages.now r.protocol.text → item_messages n protocols (position, Reference r) ≡ []
-messages_skipped zero protocols skippable position r within skippable closed = refl
-messages_skipped (suc n) protocols skippable position r within skippable closed =
+messages_skipped zero protocols skippable position r within allowed skipped = refl
+messages_skipped (suc n) protocols skippable position r within allowed skipped =
     no_step (λ s. map (through s) (message_paths n protocols s.target)) protocols position r
-    (λ q found. ap (map (through (step_by position r q))) (fewer_messages n (length protocols) protocols q (omega (arith, within)) (skippable.messages q (closed q found))))
+    (λ q found. ap (map (through (step_by position r q))) (fewer_messages n (length protocols) protocols q (omega (arith, within)) (allowed.messages q (skipped q found))))
 
--- what has been added from the next scope stands through the reference
+-- what has been added from the next scope has been added through the reference
 pub added_after : {T E : Type 0} (protocols : List Declaration) (scope next : Scope) (n position : ℕ) (r : SpecReference) (q : Declaration) (i : Item) (old new : List Item) (result : Result T E) → i ≡ Reference r → 0 < n → protocol_of protocols r.protocol.text ≡ Some q → next ≡ after scope (step_by position r q) → OnOk result (AddsEach (IsImageItem next) (message_paths (n - 1) protocols next.protocol) old new) → OnOk result (AddsEach (IsImageItem scope) (item_messages n protocols (position, i)) old new)
 added_after protocols scope next n position r q i old new result is some found leads added = on_ok result to added
   where

@@ -1,4 +1,4 @@
--- What stands at the scope of a name.
+-- The word at the index of a declared name.
 use Rattle.std.proofs.Common.{◌≡◌, ℕ, zero, suc, List, [], ◌∷◌, get_or, Option, Some, None, refl, sym, ap, ◌∙◌}
 use Rattle.std.specs.Prelude.{option_copied}
 use Rattle.std.specs.List.{position}
@@ -23,7 +23,7 @@ text_at [] k word = refl
 text_at (w ∷ ws) zero word = refl
 text_at (w ∷ ws) (suc k) word = text_at ws k word
 
-pub stood : (declared : List (List ℕ)) (words : List Word) (word result : Bor Word) (found : Option (Bor Word)) (k : ℕ) → position (λ n. bytes_eq n word.now.text) declared ≡ Some k → IsItemAt words k found → result ≡ unwrap_or found word → result.now.text ≡ substituted declared (texts words) word.now.text
-stood declared words word result found k scope lends is =
+pub found_word : (declared : List (List ℕ)) (words : List Word) (word result : Bor Word) (found : Option (Bor Word)) (k : ℕ) → position (λ n. bytes_eq n word.now.text) declared ≡ Some k → IsItemAt words k found → result ≡ unwrap_or found word → result.now.text ≡ substituted declared (texts words) word.now.text
+found_word declared words word result found k scope lends is =
     let here : result.now ≡ get_or words k word.now = ap (λ (b : Bor Word). b.now) is ∙ lent found word ∙ ap (λ (o : Option Word). unwrap_or o word.now) (item_at words k found lends) ∙ unwrap_or-slice_get words k word.now in
     ap (λ (w : Word). w.text) here ∙ text_at words k word.now ∙ ap (λ (o : Option ℕ). option_map_or (λ n. get_or (texts words) n word.now.text) o word.now.text) (sym scope)

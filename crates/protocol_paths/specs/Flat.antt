@@ -1,4 +1,4 @@
--- The protocol without references that a protocol stands for.
+-- The flat protocol of a protocol: each reference replaced by what it leads to.
 use Rattle.std.specs.Prelude.{◌≡◌, ℕ, List, ◌++◌, length, map, None}
 use Rattle.std.specs.List.{AllZip, flat_map}
 use Rattle.bspl_parser.specs.declared.document.Declaration.{Declaration}
@@ -11,14 +11,14 @@ use Rattle.protocol_paths.specs.Path.{Step, message_paths, paths}
 use Rattle.protocol_paths.specs.Scope.{Scope, param_at, scope_at, role_at, start}
 use Rattle.protocol_paths.specs.Substituted.{IsSubstituted}
 
--- a parameter of a message, under what stands for its name, and without the word `key`
+-- a parameter of a message, under the name that is substituted for its own, without `key`
 pub record IsImageFormal (scope : Scope) (f f' : Formal) : Type 0 where
   pub name : IsSubstituted (param_at scope f.name.text) f.name f'.name
   pub adorn : f'.adorn ≡ f.adorn
   pub offset : f'.offset ≡ f.offset
   pub bare : f'.key ≡ None
 
--- a message of the protocol at the scope: its name through the prefix, and what stands for its roles and parameters
+-- a message of the scope's protocol: its name with the prefix, its roles and parameters substituted
 pub record IsImage (scope : Scope) (m m' : Schema) : Type 0 where
   pub named : IsSubstituted (scope.prefix ++ m.name.text) m.name m'.name
   pub sent : IsSubstituted (role_at scope m.sender.text) m.sender m'.sender
@@ -34,24 +34,23 @@ IsImageItem scope (path, m) (Reference r) = ⊥
 abbrev pub entry : Word → List ℕ × ℕ
 entry w = (w.text, w.offset)
 
--- the private parameters of the protocol at the scope, their names through the prefix
+-- the private parameters of the scope's protocol, their names with the prefix
 abbrev pub privates_at : Scope → List (List ℕ × ℕ)
 privates_at scope = map (λ w. (scope.prefix ++ w.text, w.offset)) scope.protocol.private
 
 -- those at the ends of the paths of at most `n` references from the scope
 abbrev pub private_entries : ℕ → List Declaration → Scope → List (List ℕ × ℕ)
-private_entries n protocols scope = flat_map (λ path. privates_at (scope_at scope path)) (paths n protocols scope.protocol)
+private_entries n protocols scope =
+    flat_map (λ path. privates_at (scope_at scope path)) (paths n protocols scope.protocol)
 
--- the top protocol with the messages and private parameters at the ends of its paths, through no more references than there are protocols
-pub record IsFlat (protocols : List Declaration) (top p : Declaration) : Type 0 where
+-- the top protocol with what is at the ends of its paths of at most `n` references
+pub record IsFlatTo (n : ℕ) (protocols : List Declaration) (top p : Declaration) : Type 0 where
   pub name : p.name ≡ top.name
   pub roles : p.roles ≡ top.roles
   pub public : p.public ≡ top.public
-  pub private : map entry p.private ≡ private_entries (length protocols) protocols (start top)
-  pub body : AllZip (IsImageItem (start top)) (message_paths (length protocols) protocols top) p.body
+  pub private : map entry p.private ≡ private_entries n protocols (start top)
+  pub body : AllZip (IsImageItem (start top)) (message_paths n protocols top) p.body
 
--- items were put at the end, one for each `x`
-pub record AddsEach {X Y : Type 0} (R : X → Y → Type 0) (xs : List X) (old new : List Y) : Type 0 where
-  pub more : List Y
-  pub parts : new ≡ old ++ more
-  pub each : AllZip R xs more
+-- where no path closes, a path has at most as many references as there are protocols
+abbrev pub IsFlat : List Declaration → Declaration → Declaration → Type 0
+IsFlat protocols top p = IsFlatTo (length protocols) protocols top p

@@ -1,6 +1,7 @@
 -- Facts on paths and flat protocols, each the contract of a law.
 use Rattle.std.specs.Prelude.{◌≡◌, ℕ, ◌≤◌, List, [], ◌∷◌, length, Some}
-use Rattle.std.specs.List.{All, reverse}
+use Rattle.std.specs.Prelude.{reverse}
+use Rattle.std.specs.List.{All}
 use Rattle.bspl_parser.specs.declared.document.Declaration.{Declaration}
 use Rattle.bspl_parser.specs.declared.document.Item.TheVariants.{Message, Reference}
 use Rattle.bspl_parser.specs.declared.document.Reference.{Reference as SpecReference}

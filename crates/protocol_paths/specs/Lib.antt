@@ -1,9 +1,12 @@
--- The definitions that the contracts cite.
-pub mod Bare
+-- Paths along references, the flat protocol of a protocol, and the laws on them.
+pub mod Path
+pub mod Prefix
+pub mod Scope
+pub mod Substituted
 pub mod Flat
 pub mod Skippable
-pub mod Path
-pub mod Scope
-pub mod Prefix
-pub mod Renamed
-pub mod Seen
+pub mod ReferencePath
+pub mod Position
+pub mod Composition
+pub mod Laws
+pub mod inner

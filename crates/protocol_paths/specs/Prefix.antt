@@ -1,8 +1,8 @@
--- What may stand before a name.
+-- Prefixes of names.
 use Rattle.std.specs.Prelude.{ℕ, List, ◌++◌, codes, decimal, IsTrue}
 use Rattle.bspl_types.specs.Name.{is_name}
 
--- with a name through it, it is a name
+-- a name after it makes a name
 pub record IsPrefix (prefix : List ℕ) : Type 0 where
   pub keeps : (name : List ℕ) → IsTrue (is_name name) → IsTrue (is_name (prefix ++ name))
 

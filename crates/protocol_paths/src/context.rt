@@ -4,7 +4,7 @@ ghost use Rattle.protocol_paths.specs.Skippable.{IsSkipped};
 
 use super::skippable::Skippable;
 use bspl_parser::{Declaration, Reference};
-use protocol_names::ProtocolTable;
+use protocol_names::{ProtocolTable, names_find_protocols};
 use std::alloc::Global;
 
 /// What is the same for all paths.
@@ -28,6 +28,8 @@ pub(crate) fn kept_target<'a>(
         (IsSkipped table.now.protocols.now flags.now reference.now.protocol.text)
         (λ q. protocol_of table.now.protocols.now reference.now.protocol.text ≡ Some q.now) }
 {
+    // law: the first protocol of a name is at the first index of the name
+    names_find_protocols();
     let name = reference.protocol.text.as_slice();
     let number = table.names.index(name)?;
     if is_skipped(flags, number) {

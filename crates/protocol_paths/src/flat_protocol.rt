@@ -1,47 +1,57 @@
-ghost use Rattle.std.specs.Prelude.{IfOk};
-ghost use Rattle.std.specs.List.{All};
-ghost use Rattle.protocol_paths.specs.Bare.{IsBare, IsMessage};
-ghost use Rattle.protocol_paths.specs.Flat.{IsFlat};
+ghost use Rattle.std.specs.Prelude.{◌≤◌, length, IfOk};
+ghost use Rattle.protocol_paths.specs.Flat.{IsFlat, IsFlatTo};
+ghost use Rattle.protocol_paths.specs.ReferencePath.{IsWithinDepth};
 ghost use Rattle.protocol_paths.specs.Skippable.{AreSkippable};
+ghost use Rattle.protocol_paths.specs.inner.ScopeOf.{protocols_of};
 
-use super::copies::{copied_formals, copied_word, copied_words};
-use super::skippable::Skippable;
-use super::messages::add_messages;
-use super::descent::top_scope;
-use super::privates::add_privates;
 use super::context::Context;
+use super::copies::{copied_formals, copied_word, copied_words};
+use super::descent::top_scope;
+use super::messages::add_messages;
+use super::privates::add_privates;
+use super::skippable::Skippable;
 use bspl_parser::Declaration;
 use bspl_types::{NoMemory, Seq};
 use protocol_names::ProtocolTable;
 use std::alloc::Global;
 
-/// The top protocol with each reference replaced by what it refers to, through no more references
-/// than there are protocols.
+/// The top protocol with each reference replaced by what it leads to. No path from it has more
+/// than `depth` references, so the recursion is no deeper.
 pub fn flatten(
     alloc: Global,
     table: &ProtocolTable,
     top: &Declaration,
+    depth: usize,
     skippable: &Skippable,
 ) -> Result<Declaration, NoMemory>
     requires skippable { AreSkippable table.now.protocols.now skippable.now }
-    ensures flat { IfOk result (IsFlat table.now.protocols.now top.now) }
-    ensures bare { All IsMessage top.now.body → IfOk result (IsBare top.now) }
+    requires within_depth { IsWithinDepth table.now.protocols.now top.now depth }
+    ensures { IfOk result (IsFlat table.now.protocols.now top.now) }
 {
     let context = Context {
         alloc,
         table,
         skippable,
     };
-    let limit = table.protocols.len();
-    let scope = top_scope(alloc, top)?;
-    let mut private = Seq::new(alloc);
-    add_privates(&context, limit, &scope, &mut private)?;
-    let mut body = Seq::new(alloc);
-    add_messages(&context, limit, &scope, &mut body)?;
+    let limit = depth.min(table.protocols.len());
+    flat_to(&context, limit, top)
+}
+
+/// The top protocol with what is at the ends of the paths of at most `limit` references.
+fn flat_to(context: &Context, limit: usize, top: &Declaration) -> Result<Declaration, NoMemory>
+    requires within { limit ≤ length (protocols_of context.now) }
+    requires skippable { AreSkippable (protocols_of context.now) context.now.skippable.now }
+    ensures { IfOk result (IsFlatTo limit (protocols_of context.now) top.now) }
+{
+    let scope = top_scope(context.alloc, top)?;
+    let mut private = Seq::new(context.alloc);
+    add_privates(context, limit, &scope, &mut private)?;
+    let mut body = Seq::new(context.alloc);
+    add_messages(context, limit, &scope, &mut body)?;
     Ok(Declaration {
         name: copied_word(&top.name)?,
-        roles: copied_words(alloc, top.roles.as_slice())?,
-        public: copied_formals(alloc, top.public.as_slice())?,
+        roles: copied_words(context.alloc, top.roles.as_slice())?,
+        public: copied_formals(context.alloc, top.public.as_slice())?,
         private,
         body,
     })

@@ -1,20 +1,22 @@
 //! A protocol with references, flattened to one whose body has messages alone.
 #![tactic(auto)]
 
+mod context;
 mod copies;
+mod descent;
 mod flat_protocol;
 mod image;
-mod skippable;
+mod laws;
 mod messages;
-mod descent
-mod substitution;
 mod prefix;
 mod privates;
 mod scope;
-mod context;
+mod skippable;
+mod substitution;
 
 pub use flat_protocol::flatten;
+pub use laws::{
+    longer_bounds_add_nothing, messages_are_complete, no_cycle_bounds_depth, paths_by_items,
+    plain_protocols_are_flat, scopes_compose,
+};
 pub use skippable::Skippable;
-
-#[cfg(test)]
-mod tests;

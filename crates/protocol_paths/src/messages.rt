@@ -1,17 +1,18 @@
 ghost use Rattle.std.specs.Prelude.{◌<◌, ◌≤◌, length, OnOk};
-ghost use Rattle.protocol_paths.specs.Flat.{AddsEach, IsImageItem};
+ghost use Rattle.protocol_paths.specs.inner.AddsEach.{AddsEach};
+ghost use Rattle.protocol_paths.specs.Flat.{IsImageItem};
 ghost use Rattle.protocol_paths.specs.Skippable.{AreSkippable};
 ghost use Rattle.protocol_paths.specs.Path.{item_messages, message_paths};
 ghost use Rattle.protocol_paths.specs.inner.ScopeOf.{protocols_of, scope_of};
 
-use super::image::image_of;
-use super::descent::next_scope;
-use super::scope::Scope;
 use super::context::{Context, kept_target};
+use super::descent::next_scope;
+use super::image::image_of;
+use super::scope::Scope;
 use bspl_parser::{Item, ItemList};
 use bspl_types::NoMemory;
 
-/// AddsEach the messages at the ends of the paths of at most so many references.
+/// Adds the messages at the ends of the paths of at most `limit` references.
 #[cycle(messages)]
 pub(crate) fn add_messages(
     context: &Context,
@@ -31,7 +32,7 @@ pub(crate) fn add_messages(
     Ok(())
 }
 
-// AddsEach a message of the body, or those that a reference leads to.
+/// Adds a message of the body, or those that a reference leads to.
 #[cycle(messages)]
 fn add_item(
     context: &Context,
@@ -56,7 +57,8 @@ fn add_item(
             if limit == 0 {
                 return Ok(());
             }
-            let Some(target) = kept_target(context.table, context.skippable.messages, reference) else {
+            let flags = context.skippable.messages;
+            let Some(target) = kept_target(context.table, flags, reference) else {
                 return Ok(());
             };
             let next = next_scope(context.alloc, scope, position, reference, target)?;

@@ -1,19 +1,17 @@
 ghost use Rattle.std.specs.Prelude.{◌≡◌, ◌<◌, ◌≤◌, ◌++◌, length, map, OnOk};
-ghost use Rattle.std.specs.List.{flat_map};
-ghost use Rattle.protocol_paths.specs.Flat.{entry, private_entries, privates_at};
+ghost use Rattle.protocol_paths.specs.Flat.{entry, private_entries};
 ghost use Rattle.protocol_paths.specs.Skippable.{AreSkippable};
-ghost use Rattle.protocol_paths.specs.Path.{steps_at};
-ghost use Rattle.protocol_paths.specs.Scope.{after};
+ghost use Rattle.protocol_paths.specs.inner.AddsEach.{entries_after};
 ghost use Rattle.protocol_paths.specs.inner.ScopeOf.{protocols_of, scope_of};
 
+use super::context::{Context, kept_target};
 use super::descent::next_scope;
 use super::prefix::Prefix;
 use super::scope::Scope;
-use super::context::{Context, kept_target};
 use bspl_parser::{Item, Word, WordList};
 use bspl_types::NoMemory;
 
-/// AddsEach the private parameters at the ends of the paths of at most so many references.
+/// Adds the private parameters at the ends of the paths of at most `limit` references.
 #[cycle(privates)]
 pub(crate) fn add_privates(
     context: &Context,
@@ -37,7 +35,7 @@ pub(crate) fn add_privates(
     Ok(())
 }
 
-// AddsEach those through a reference, at the ends of the paths of at most so many further references.
+/// Adds the private parameters to which a reference leads, by at most `limit` further references.
 #[cycle(privates)]
 fn add_after(
     context: &Context,
@@ -51,8 +49,8 @@ fn add_after(
     requires within { limit ≤ length (protocols_of context.now) }
     requires skippable { AreSkippable (protocols_of context.now) context.now.skippable.now }
     ensures { OnOk result (map entry private.new ≡ map entry private.old
-        ++ flat_map (λ s. private_entries limit (protocols_of context.now) (after (scope_of scope.now) s))
-        (steps_at (protocols_of context.now) (position, item.now))) }
+        ++ entries_after limit (protocols_of context.now) (scope_of scope.now)
+        (position, item.now)) }
 {
     let Item::Reference(reference) = item else {
         return Ok(());
@@ -64,7 +62,7 @@ fn add_after(
     add_privates(context, limit, &next, private)
 }
 
-// AddsEach the private parameters of one protocol.
+/// Adds the private parameters of one protocol.
 fn add_own(prefix: &Prefix, own: &[Word], private: &mut WordList) -> Result<(), NoMemory>
     ensures { OnOk result (map entry private.new ≡ map entry private.old
         ++ map (λ w. (prefix.now.text ++ w.text, w.offset)) own.now) }

@@ -7,7 +7,7 @@ use Rattle.bspl_parser.specs.declared.document.Formal.{Formal}
 use Rattle.bspl_parser.specs.declared.document.Item.{Item}
 use Rattle.bspl_parser.specs.declared.word.Word.{Word}
 use Rattle.flat_expansion.specs.Expansion.{public_param, private_param, IsMessageOfItem}
-use Rattle.flat_expansion.proofs.Expanding.{none_without_images, assembled}
+use Rattle.flat_expansion.proofs.ExpansionLemmas.{none_without_images, assembled}
 use Rattle.flat_expansion.proofs.expansion.expansion_of.Goals as goal
 
 -- the parameters that were made are the declared ones

@@ -1,8 +1,8 @@
 -- The parameter that was made.
 use Rattle.std.proofs.Common.{sym, subst}
 use Rattle.bspl_types.specs.declared.protocol.ParamInfo.{ParamInfo}
-use Rattle.flat_expansion.specs.Flat.{IsWordOf}
-use Rattle.flat_expansion.proofs.Pieces.{formal_made}
+use Rattle.flat_expansion.specs.Canonical.{IsWordOf}
+use Rattle.flat_expansion.proofs.SchemaLemmas.{formal_made}
 use Rattle.flat_expansion.proofs.schemas.formal_of.Goals as goal
 
 pub returns : goal.returns

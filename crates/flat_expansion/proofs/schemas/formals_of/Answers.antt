@@ -4,7 +4,7 @@ use Rattle.std.specs.List.{AllZip}
 use Rattle.std.proofs.lemmas.List.{get_or_default}
 use Rattle.bspl_types.specs.declared.protocol.Adornment.TheVariants.{In}
 use Rattle.bspl_types.specs.declared.protocol.Carried.{Carried}
-use Rattle.flat_expansion.specs.Flat.{IsFormalOf}
+use Rattle.flat_expansion.specs.Canonical.{IsFormalOf}
 use Rattle.list_base.proofs.Zipped.{paired_push}
 use Rattle.flat_expansion.proofs.schemas.formals_of.Goals as goal
 

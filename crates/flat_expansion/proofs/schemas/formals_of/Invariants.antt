@@ -1,7 +1,7 @@
 -- What has been made of the parameters.
 use Rattle.std.proofs.Common.{take}
 use Rattle.std.specs.List.{AllZip}
-use Rattle.flat_expansion.specs.Flat.{IsFormalOf}
+use Rattle.flat_expansion.specs.Canonical.{IsFormalOf}
 use Rattle.flat_expansion.proofs.schemas.formals_of.Given as goal
 
 -- one for each so far

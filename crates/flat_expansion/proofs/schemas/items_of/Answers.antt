@@ -2,7 +2,7 @@
 use Rattle.std.proofs.Common.{take, ◌+◌, sym, subst}
 use Rattle.std.specs.List.{AllZip}
 use Rattle.bspl_parser.specs.declared.document.Item.TheVariants as item
-use Rattle.flat_expansion.specs.Flat.{IsItemOf}
+use Rattle.flat_expansion.specs.Canonical.{IsItemOf}
 use Rattle.list_base.proofs.Zipped.{paired_push}
 use Rattle.flat_expansion.proofs.schemas.items_of.Goals as goal
 

@@ -1,7 +1,7 @@
 -- What has been made of the messages.
 use Rattle.std.proofs.Common.{take}
 use Rattle.std.specs.List.{AllZip}
-use Rattle.flat_expansion.specs.Flat.{IsItemOf}
+use Rattle.flat_expansion.specs.Canonical.{IsItemOf}
 use Rattle.flat_expansion.proofs.schemas.items_of.Given as goal
 
 -- one item for each so far

@@ -1,8 +1,8 @@
 -- The message that was made.
 use Rattle.std.proofs.Common.{subst}
 use Rattle.std.specs.List.{AllZip}
-use Rattle.flat_expansion.specs.Flat.{IsFormalOf}
-use Rattle.flat_expansion.proofs.Pieces.{schema_made}
+use Rattle.flat_expansion.specs.Canonical.{IsFormalOf}
+use Rattle.flat_expansion.proofs.SchemaLemmas.{schema_made}
 use Rattle.flat_expansion.proofs.schemas.schema_of.Goals as goal
 
 pub returns : goal.returns

@@ -8,5 +8,5 @@ returns-then-contains_key-clause-ok c = λ names is_last is_map. kept names c.ar
 
 pub returns-clause-ok : goal.returns-clause-ok
 returns-clause-ok c = λ names is_last is_map.
-    placed names c.args.name.now c.in_ok-try_clone.copy.items c.args.index c.args.indices.now c.insert.new.self
-    c.in_ok-try_clone.ensures.items is_last is_map (sym c.contains_key.ensures ∙ c.if-contains_key.false) c.in_ok-insert.ensures.updates
+    placed names c.args.name.now c.in_ok-copy.copy.items c.args.index c.args.indices.now c.insert.new.self
+    c.in_ok-copy.ensures.items is_last is_map (sym c.contains_key.ensures ∙ c.if-contains_key.false) c.in_ok-insert.ensures.updates

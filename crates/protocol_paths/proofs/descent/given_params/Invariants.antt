@@ -1,4 +1,4 @@
--- What stands for the parameters.
+-- What becomes of the parameters.
 use Rattle.std.proofs.Common.{◌≡◌, map, take}
 use Rattle.protocol_names.specs.Names.{texts}
 use Rattle.protocol_paths.specs.Scope.{param_at}

@@ -1,4 +1,4 @@
--- What stands for the roles.
+-- What becomes of the roles.
 use Rattle.std.proofs.Common.{◌≡◌, map, take}
 use Rattle.protocol_names.specs.Names.{texts}
 use Rattle.protocol_paths.specs.Scope.{role_at}

@@ -1,10 +1,6 @@
--- Without references the protocol stands for itself.
-use Rattle.std.proofs.Common.{rules}
-use Rattle.protocol_paths.proofs.PlainLemmas.{bare_flat}
+-- No path is cut off by the depth.
+use Rattle.protocol_paths.proofs.FlatLemmas.{flat_answer}
 use Rattle.protocol_paths.proofs.flat_protocol.flatten.Goals as goal
 
-pub returns-clause-bare : goal.returns-clause-bare
-returns-clause-bare c = λ alone.
-    bare_flat c.args.table.now.protocols.now c.args.top.now
-    (record { name = c.in_ok-copied_word.field-0; roles = c.in_ok-copied_words.field-0; public = c.in_ok-copied_formals.field-0; private = c.add_privates.new.private; body = c.add_messages.new.body })
-    alone (search rules)
+pub returns : goal.returns
+returns c = flat_answer c.min-limit.result c.args.depth c.args.table.now.protocols.now c.args.top.now c.flat_to.result c.min-limit.ensures c.requires.within_depth c.flat_to.ensures

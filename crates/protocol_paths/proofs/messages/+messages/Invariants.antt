@@ -1,7 +1,8 @@
 -- How far the context may go, and what has been added.
 use Rattle.std.proofs.Common.{◌+◌, ◌*◌, take}
 use Rattle.std.specs.List.{flat_map}
-use Rattle.protocol_paths.specs.Flat.{AddsEach, IsImageItem}
+use Rattle.protocol_paths.specs.inner.AddsEach.{AddsEach}
+use Rattle.protocol_paths.specs.Flat.{IsImageItem}
 use Rattle.protocol_paths.specs.Path.{item_messages, numbered}
 use Rattle.protocol_paths.specs.inner.ScopeOf.{protocols_of, scope_of}
 use Rattle.protocol_paths.proofs.messages.+messages.Given as goal

@@ -3,7 +3,8 @@ use Rattle.std.proofs.Common.{◌-◌, ◌∙◌, map, ap, arith}
 use Rattle.bspl_parser.specs.declared.document.Item.{Item}
 use Rattle.protocol_paths.specs.Flat.{entry, privates_at}
 use Rattle.protocol_paths.specs.inner.ScopeOf.{protocols_of, scope_of}
-use Rattle.protocol_paths.proofs.EntryLemmas.{after_all, after_more, after_none, entries_after, entries_skipped}
+use Rattle.protocol_paths.specs.inner.AddsEach.{entries_after}
+use Rattle.protocol_paths.proofs.EntryLemmas.{after_all, after_more, after_none, entries_skipped}
 use Rattle.protocol_paths.proofs.privates.+privates.Goals as goal
 
 pub add_after-returns-in_default-kept_target : goal.add_after-returns-in_default-kept_target

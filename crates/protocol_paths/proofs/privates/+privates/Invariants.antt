@@ -4,7 +4,7 @@ use Rattle.std.specs.List.{flat_map}
 use Rattle.protocol_paths.specs.Flat.{entry, privates_at}
 use Rattle.protocol_paths.specs.Path.{numbered}
 use Rattle.protocol_paths.specs.inner.ScopeOf.{protocols_of, scope_of}
-use Rattle.protocol_paths.proofs.EntryLemmas.{entries_after}
+use Rattle.protocol_paths.specs.inner.AddsEach.{entries_after}
 use Rattle.protocol_paths.proofs.privates.+privates.Given as goal
 
 abbrev pub decreases-add_privates : goal.decreases-add_privates
