@@ -31,8 +31,8 @@ pub record LongerBoundsAddNothing : Type 0 where
     IsWithinDepth protocols p n → n ≤ m → private_words m protocols p ≡ private_words n protocols p
 
 -- within a bound that no path exceeds, the messages listed are those at the ends of all paths
-abbrev pub MessagesAreComplete : Type 0
-MessagesAreComplete = (n : ℕ) (protocols : List Declaration) (top : Declaration) →
+abbrev pub MessagePathsAreAll : Type 0
+MessagePathsAreAll = (n : ℕ) (protocols : List Declaration) (top : Declaration) →
     IsWithinDepth protocols top n → ListsMessages protocols top (message_paths n protocols top)
 
 -- in the scope at the end of a path, a name is what the composed maps of its references give

@@ -1,4 +1,4 @@
-ghost use Rattle.protocol_paths.specs.Laws.{LongerBoundsAddNothing, MessagesAreComplete};
+ghost use Rattle.protocol_paths.specs.Laws.{LongerBoundsAddNothing, MessagePathsAreAll};
 ghost use Rattle.protocol_paths.specs.Laws.{NoCycleBoundsDepth, PathsByItems};
 ghost use Rattle.protocol_paths.specs.Laws.{PlainProtocolsAreFlat, ScopesCompose};
 
@@ -16,8 +16,8 @@ pub fn longer_bounds_add_nothing()
 
 /// A law: the messages listed are those to which a path of positions leads, each once, in
 /// lexicographic order.
-pub fn messages_are_complete()
-    ensures { MessagesAreComplete }
+pub fn message_paths_are_all()
+    ensures { MessagePathsAreAll }
 {}
 
 /// A law: what becomes of a name at the end of a path is the composition of the maps of the

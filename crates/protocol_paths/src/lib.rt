@@ -16,7 +16,7 @@ mod substitution;
 
 pub use flat_protocol::flatten;
 pub use laws::{
-    longer_bounds_add_nothing, messages_are_complete, no_cycle_bounds_depth, paths_by_items,
+    longer_bounds_add_nothing, message_paths_are_all, no_cycle_bounds_depth, paths_by_items,
     plain_protocols_are_flat, scopes_compose,
 };
 pub use skippable::Skippable;
