@@ -9,7 +9,7 @@ use Rattle.bspl_parser.specs.declared.list_kind.ListKind.{ListKind}
 use Rattle.bspl_parser.specs.declared.token.Token.{Token}
 use Rattle.bspl_parser.specs.inner.ParseResult.{ParseResult, ◌>>=◌}
 use Rattle.bspl_parser.specs.Sign.{Sign}
-use Rattle.bspl_parser.specs.inner.GrammarParsers.{has_more, with_prefix, many_within, many_at}
+use Rattle.bspl_parser.specs.inner.GrammarParsers.{has_more, with_prefix, parse_many_within, parse_many}
 use Rattle.bspl_parser.proofs.Spelled.{Spelled, Spelled-then}
 use Rattle.bspl_parser.proofs.Lists.{separator, repeated}
 use Rattle.bspl_parser.proofs.PrefixStable.{PrefixStable, StableSuccess, Alike, alike_first, alike_after, position_of}
@@ -28,15 +28,15 @@ module _ {X : Type 0} (kind : ListKind) (one : List Token → ParseResult X) (si
     left : List Token
     parts : ts ≡ prefix ++ left
     position : f ≡ position_of left
-    again : (t : Token) (after : List Token) → left ≡ t ∷ after → (more : List Token) (m : ℕ) → length (prefix ++ t ∷ more) ≤ m → many_within kind one m (prefix ++ t ∷ more) ≡ Err f
+    again : (t : Token) (after : List Token) → left ≡ t ∷ after → (more : List Token) (m : ℕ) → length (prefix ++ t ∷ more) ≤ m → parse_many_within kind one m (prefix ++ t ∷ more) ≡ Err f
     value : List X
     more : List Token
     good : All Good value
     spelled : Spelled (repeated kind signs value) (prefix ++ more) []
 
   first_failure : (n : ℕ) (ts : List Token) (f : ErrorPosition) → has_more kind ts ≡ true → (first : ParseResult X) → step kind one ts ≡ first
-      → ((mid : List Token) → length mid < length ts → many_within kind one n mid ≡ Err f → ManyViableFailure mid f)
-      → (first >>= λ x. with_prefix (x.0 ∷ []) (many_within kind one n x.1)) ≡ Err f → ManyViableFailure ts f
+      → ((mid : List Token) → length mid < length ts → parse_many_within kind one n mid ≡ Err f → ManyViableFailure mid f)
+      → (first >>= λ x. with_prefix (x.0 ∷ []) (parse_many_within kind one n x.1)) ≡ Err f → ManyViableFailure ts f
   first_failure n ts f goes (Err g) read others e =
       let same : g ≡ f = cc in
       let failed : step kind one ts ≡ Err f = read ∙ ap (λ (h : ErrorPosition). Err h) same in
@@ -51,13 +51,13 @@ module _ {X : Type 0} (kind : ListKind) (one : List Token → ParseResult X) (si
             let long = length-append a.prefix (t ∷ more) in
             let room : m ≡ suc (pred m) = omega arith in
             let goes' = keeps_failure kind one stable shortens notes ts f a.prefix a.left failed a.parts goes t after is more in
-            ap (λ k. many_within kind one k (a.prefix ++ t ∷ more)) room ∙ turned kind one (pred m) (a.prefix ++ t ∷ more) goes' ∙ rw (a.again t after is more) refl;
+            ap (λ k. parse_many_within kind one k (a.prefix ++ t ∷ more)) room ∙ turned kind one (pred m) (a.prefix ++ t ∷ more) goes' ∙ rw (a.again t after is more) refl;
         value = b.value ∷ [];
         more = b.more;
         good = All-cons Good b.value [] b.good (All-nil Good);
         spelled = subst (λ s. Spelled s (a.prefix ++ b.more) []) (sym (append-nil (separator kind ++ signs b.value))) b.spelled;
       }
-  first_failure n ts f goes (Ok x) read others e = following (many_within kind one n x.1) refl e
+  first_failure n ts f goes (Ok x) read others e = following (parse_many_within kind one n x.1) refl e
     where
       a : StableSuccess (step kind one) ts x.1 x.0
       a = (step_stable kind one stable).success ts x.1 x.0 read
@@ -65,7 +65,7 @@ module _ {X : Type 0} (kind : ListKind) (one : List Token → ParseResult X) (si
       known : Spelled (separator kind ++ signs x.0) ts x.1 × Good x.0
       known = sound ts x.1 x.0 read
 
-      following : (others_read : ParseResult (List X)) → many_within kind one n x.1 ≡ others_read → with_prefix (x.0 ∷ []) others_read ≡ Err f → ManyViableFailure ts f
+      following : (others_read : ParseResult (List X)) → parse_many_within kind one n x.1 ≡ others_read → with_prefix (x.0 ∷ []) others_read ≡ Err f → ManyViableFailure ts f
       following (Ok ys) is made = absurd cc
       following (Err g) is made =
           let same : g ≡ f = cc in
@@ -84,7 +84,7 @@ module _ {X : Type 0} (kind : ListKind) (one : List Token → ParseResult X) (si
                 let room : m ≡ suc (pred m) = omega arith in
                 let goes' = keeps_one kind one stable shortens notes ts x.1 x.0 a.used read a.parts goes (b.prefix ++ t ∷ more) in
                 let rest_again = b.again t after first more (pred m) (omega arith) in
-                ap (λ k. many_within kind one k ((a.used ++ b.prefix) ++ t ∷ more)) room ∙ ap (many_within kind one (suc (pred m))) list ∙ turned kind one (pred m) (a.used ++ (b.prefix ++ t ∷ more)) goes' ∙ rw (again, rest_again) refl;
+                ap (λ k. parse_many_within kind one k ((a.used ++ b.prefix) ++ t ∷ more)) room ∙ ap (parse_many_within kind one (suc (pred m))) list ∙ turned kind one (pred m) (a.used ++ (b.prefix ++ t ∷ more)) goes' ∙ rw (again, rest_again) refl;
             value = x.0 ∷ b.value;
             more = b.more;
             good = All-cons Good x.0 b.value known.1 b.good;
@@ -92,8 +92,8 @@ module _ {X : Type 0} (kind : ListKind) (one : List Token → ParseResult X) (si
                 (Spelled-then (separator kind ++ signs x.0) (repeated kind signs b.value) (a.used ++ (b.prefix ++ b.more)) (b.prefix ++ b.more) [] (Spelled-prefix (separator kind ++ signs x.0) ts x.1 a.used known.0 a.parts (b.prefix ++ b.more)) b.spelled);
           }
 
-  many_failure : (n : ℕ) (ts : List Token) (f : ErrorPosition) → length ts ≤ n → many_within kind one n ts ≡ Err f → ManyViableFailure ts f
-  unfolding many_within
+  many_failure : (n : ℕ) (ts : List Token) (f : ErrorPosition) → length ts ≤ n → parse_many_within kind one n ts ≡ Err f → ManyViableFailure ts f
+  unfolding parse_many_within
   many_failure zero ts f enough e = absurd cc
   many_failure (suc n) ts f enough e =
       elim (cases_Bool (has_more kind ts)) [
@@ -102,7 +102,7 @@ module _ {X : Type 0} (kind : ListKind) (one : List Token → ParseResult X) (si
       ]
 
   -- items one after another
-  pub many_viable : FailsViably (many_at kind one) (repeated kind signs) (All Good)
+  pub many_viable : FailsViably (parse_many kind one) (repeated kind signs) (All Good)
   many_viable ts f e =
       let b = many_failure (length ts) ts f (omega arith) e in
       record {

@@ -10,8 +10,8 @@ use Rattle.bspl_parser.specs.Sign.{Named, Located}
 use Rattle.bspl_parser.specs.Grammar.{symbol_of, signs_of_key, signs_of_formal}
 use Rattle.bspl_parser.specs.Spelling.{IsFormal}
 use Rattle.bspl_parser.specs.inner.ParseResult.{◌>>=◌, ParseResult}
-use Rattle.bspl_parser.specs.inner.TokenParsers.{begins_with, word_at, symbol_at, adorn_at, takes_key, key_at}
-use Rattle.bspl_parser.specs.inner.GrammarParsers.{formal_at}
+use Rattle.bspl_parser.specs.inner.TokenParsers.{begins_with, parse_word, parse_symbol, parse_adorn, takes_key, parse_key}
+use Rattle.bspl_parser.specs.inner.GrammarParsers.{parse_formal}
 use Rattle.bspl_parser.proofs.Spelled.{Spelled, Spelled-then, Reads, bind_then, split_then, took}
 use Rattle.bspl_parser.proofs.Primitives.{word_sound, word_complete, symbol_sound, symbol_complete, adorn_sound, adorn_complete}
 
@@ -37,20 +37,20 @@ takes_some_key adorn.Any o may = refl
 takes_some_key adorn.Opt o may = refl
 
 -- the key that is read is spelled by its sign, by the test for it
-key_found : (a : Adorn) (ts rest : List Token) (k : Option ℕ) (goes : Bool) → takes_key a && begins_with Key ts ≡ goes → ◌≡◌ {A = ParseResult (Option ℕ)} (cond goes (◌>>=◌ {B = Option ℕ × List Token} (symbol_at Key ts) (λ key. Ok (Some key.0, key.1))) (Ok (None, ts))) (Ok (k, rest)) → Spelled (signs_of_key k) ts rest × MayHave a k
+key_found : (a : Adorn) (ts rest : List Token) (k : Option ℕ) (goes : Bool) → takes_key a && begins_with Key ts ≡ goes → ◌≡◌ {A = ParseResult (Option ℕ)} (cond goes (◌>>=◌ {B = Option ℕ × List Token} (parse_symbol Key ts) (λ key. Ok (Some key.0, key.1))) (Ok (None, ts))) (Ok (k, rest)) → Spelled (signs_of_key k) ts rest × MayHave a k
 key_found a ts rest k true goes e =
-    bind_then (symbol_at Key ts) _ (k, rest) e (λ key read made.
+    bind_then (parse_symbol Key ts) _ (k, rest) e (λ key read made.
     took signs_of_key (MayHave a) ts (Some key.0, key.1) (k, rest) made (symbol_sound Key ts key.1 key.0 read) (λ is. takes_no_key a _ (and_parts (takes_key a) (begins_with Key ts) goes).0 is))
 key_found a ts rest k false goes e = took signs_of_key (MayHave a) ts (None, ts) (k, rest) e refl (λ is. refl)
 
 -- the key that is read is spelled by its sign
-key_sound : (a : Adorn) (ts rest : List Token) (k : Option ℕ) → key_at a ts ≡ Ok (k, rest) → Spelled (signs_of_key k) ts rest × MayHave a k
-unfolding key_at
+key_sound : (a : Adorn) (ts rest : List Token) (k : Option ℕ) → parse_key a ts ≡ Ok (k, rest) → Spelled (signs_of_key k) ts rest × MayHave a k
+unfolding parse_key
 key_sound a ts rest k e = key_found a ts rest k (takes_key a && begins_with Key ts) refl e
 
 -- and the one that its sign spells is read
-key_complete : (a : Adorn) (ts rest : List Token) (k : Option ℕ) → Spelled (signs_of_key k) ts rest → MayHave a k → Keyless rest → key_at a ts ≡ Ok (k, rest)
-unfolding key_at
+key_complete : (a : Adorn) (ts rest : List Token) (k : Option ℕ) → Spelled (signs_of_key k) ts rest → MayHave a k → Keyless rest → parse_key a ts ≡ Ok (k, rest)
+unfolding parse_key
 key_complete a ts rest None spelled may keyless = rw spelled (rw (and_right (takes_key a) (begins_with Key rest) keyless) refl)
 key_complete a ts rest (Some o) spelled may keyless =
     let read = symbol_complete Key ts rest o spelled in
@@ -58,24 +58,24 @@ key_complete a ts rest (Some o) spelled may keyless =
     rw (takes_some_key a o may, begins, read) refl
 
 -- a parameter that is read is spelled by its signs
-formal_sound : (ts rest : List Token) (f : Formal) → formal_at ts ≡ Ok (f, rest) → Spelled (signs_of_formal f) ts rest × IsFormal f
-unfolding formal_at
+formal_sound : (ts rest : List Token) (f : Formal) → parse_formal ts ≡ Ok (f, rest) → Spelled (signs_of_formal f) ts rest × IsFormal f
+unfolding parse_formal
 formal_sound ts rest f e =
-    bind_then (adorn_at ts) _ (f, rest) e (λ adorned read_adorned then_name.
-    bind_then (word_at adorned.1) _ (f, rest) then_name (λ name read_name then_key.
-    bind_then (key_at adorned.0.0 name.1) _ (f, rest) then_key (λ key read_key made.
+    bind_then (parse_adorn ts) _ (f, rest) e (λ adorned read_adorned then_name.
+    bind_then (parse_word adorned.1) _ (f, rest) then_name (λ name read_name then_key.
+    bind_then (parse_key adorned.0.0 name.1) _ (f, rest) then_key (λ key read_key made.
     let keyed = key_sound adorned.0.0 name.1 key.1 key.0 read_key in
     let named = Spelled-then (Named name.0 ∷ []) (signs_of_key key.0) adorned.1 name.1 key.1 (word_sound adorned.1 name.1 name.0 read_name) keyed.0 in
     let whole = Spelled-then (Located (symbol_of adorned.0.0) adorned.0.1 ∷ []) (Named name.0 ∷ signs_of_key key.0) ts adorned.1 key.1 (adorn_sound ts adorned.1 adorned.0.0 adorned.0.1 read_adorned) named in
     took signs_of_formal IsFormal ts (record { adorn = adorned.0.0; offset = adorned.0.1; name = name.0; key = key.0 }, key.1) (f, rest) made whole keyed.1)))
 
 -- and one that its signs spell is read
-formal_complete : (ts rest : List Token) (f : Formal) → Spelled (signs_of_formal f) ts rest → IsFormal f → Keyless rest → formal_at ts ≡ Ok (f, rest)
-unfolding formal_at
+formal_complete : (ts rest : List Token) (f : Formal) → Spelled (signs_of_formal f) ts rest → IsFormal f → Keyless rest → parse_formal ts ≡ Ok (f, rest)
+unfolding parse_formal
 formal_complete ts rest f spelled good keyless =
     split_then (Located (symbol_of f.adorn) f.offset ∷ []) (Named f.name ∷ signs_of_key f.key) ts rest spelled (λ named adorned then_name.
     split_then (Named f.name ∷ []) (signs_of_key f.key) named rest then_name (λ keyed name then_key.
     rw (adorn_complete ts named f.adorn f.offset adorned, word_complete named keyed f.name name, key_complete f.adorn keyed rest f.key then_key good keyless) refl))
 
-pub formal_reads : Reads formal_at signs_of_formal IsFormal Keyless
+pub formal_reads : Reads parse_formal signs_of_formal IsFormal Keyless
 formal_reads = record { sound = formal_sound; complete = formal_complete }

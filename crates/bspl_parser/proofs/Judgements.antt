@@ -10,7 +10,7 @@ use Rattle.bspl_parser.specs.declared.token.Token.{Token}
 use Rattle.bspl_parser.specs.Grammar.{signs_of_document}
 use Rattle.bspl_parser.specs.Judgement.{IsText, IsViable, IsBadSyntax, IsRefusedFor}
 use Rattle.bspl_parser.specs.inner.ParseResult.{error_offset}
-use Rattle.bspl_parser.specs.inner.GrammarParsers.{document_at}
+use Rattle.bspl_parser.specs.inner.GrammarParsers.{parse_document}
 use Rattle.bspl_parser.specs.inner.Scanner.{IsScanError}
 use Rattle.bspl_parser.specs.Spelling.{IsDocument, Spells}
 use Rattle.bspl_parser.specs.Token.{offset_of}
@@ -32,7 +32,7 @@ viable_of : (prefix : List Token) (more : List Token) (d : Document) → IsDocum
 viable_of prefix more d formed spelled = (more, d, record { formed = formed; signed = whole_from_Spelled (signs_of_document d) (prefix ++ more) spelled })
 
 -- no document begins with the tokens up to an error
-stopped_at : (text : List ℕ) (ts : List Token) (f : ErrorPosition) → Tokens text ts → (failure : StableFailure document_at ts f) → IsViable failure.prefix → (left : List Token) → failure.left ≡ left → document_at ts ≡ Err f → (offset : ℕ) → offset ≡ error_offset f (length text) → IsRefusedFor text (Syntax offset)
+stopped_at : (text : List ℕ) (ts : List Token) (f : ErrorPosition) → Tokens text ts → (failure : StableFailure parse_document ts f) → IsViable failure.prefix → (left : List Token) → failure.left ≡ left → parse_document ts ≡ Err f → (offset : ℕ) → offset ≡ error_offset f (length text) → IsRefusedFor text (Syntax offset)
 stopped_at text ts f of_text failure viable [] is read offset at_offset =
     let end : f ≡ End = failure.position ∙ ap position_of is in
     inr (record {
@@ -55,18 +55,18 @@ stopped_at text ts f of_text failure viable (t ∷ rest) is read offset at_offse
           let again = document_complete ((failure.prefix ++ t ∷ []) ++ viable.0) viable.1 viable.2 in
           let list : (failure.prefix ++ t ∷ []) ++ viable.0 ≡ failure.prefix ++ t ∷ viable.0 = append_assoc failure.prefix (t ∷ []) viable.0 in
           let fails = failure.again t rest is viable.0 in
-          let reads : document_at (failure.prefix ++ t ∷ viable.0) ≡ Ok (viable.1, []) = ap document_at (sym list) ∙ again in
+          let reads : parse_document (failure.prefix ++ t ∷ viable.0) ≡ Ok (viable.1, []) = ap parse_document (sym list) ∙ again in
           cc;
     })
 
 -- an error at a token, or at the end
-pub token_refused : (text : List ℕ) (ts : List Token) (f : ErrorPosition) (offset : ℕ) → Tokens text ts → document_at ts ≡ Err f → offset ≡ error_offset f (length text) → IsRefusedFor text (Syntax offset)
+pub token_refused : (text : List ℕ) (ts : List Token) (f : ErrorPosition) (offset : ℕ) → Tokens text ts → parse_document ts ≡ Err f → offset ≡ error_offset f (length text) → IsRefusedFor text (Syntax offset)
 token_refused text ts f offset of_text read at_offset =
     let b = document_viable ts f read in
     stopped_at text ts f of_text b.failure (viable_of b.failure.prefix b.more b.value b.good b.spelled) b.failure.left refl read offset at_offset
 
 -- the document that was read
-pub text_of : (text : List ℕ) (ts left : List Token) (d : Document) → Tokens text ts → document_at ts ≡ Ok (d, left) → left ≡ [] → IsText text d
+pub text_of : (text : List ℕ) (ts left : List Token) (d : Document) → Tokens text ts → parse_document ts ≡ Ok (d, left) → left ≡ [] → IsText text d
 text_of text ts left d of_text read all = record { tokens = ts; scanned = of_text; spelled = document_sound ts d (read ∙ ap (λ r. Ok (d, r)) all) }
 
 -- a prefix of viable tokens is viable
@@ -119,4 +119,4 @@ syntax_has_no_bad_byte text a b (inr x) bad = bad_has_no_tokens text b x.tokens 
 pub one_document : (text : List ℕ) (d e : Document) → IsText text d → IsText text e → d ≡ e
 one_document text d e of_d of_e =
     let tokens = Tokens_unique text of_d.tokens of_e.tokens of_d.scanned of_e.scanned in
-    first_of_same d e (sym (document_complete of_d.tokens d of_d.spelled) ∙ ap document_at tokens ∙ document_complete of_e.tokens e of_e.spelled)
+    first_of_same d e (sym (document_complete of_d.tokens d of_d.spelled) ∙ ap parse_document tokens ∙ document_complete of_e.tokens e of_e.spelled)

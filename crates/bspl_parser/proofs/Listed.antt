@@ -12,7 +12,7 @@ use Rattle.bspl_parser.specs.Sign.{Sign, Named, Plain, OneOf, after_commas, list
 use Rattle.bspl_parser.specs.Grammar.{signs_of_word, signs_of_formal}
 use Rattle.bspl_parser.specs.inner.ParseResult.{ParseResult}
 use Rattle.bspl_parser.specs.inner.TokenParsers.{begins_with, begins_with_name}
-use Rattle.bspl_parser.specs.inner.GrammarParsers.{many_at, listed_at}
+use Rattle.bspl_parser.specs.inner.GrammarParsers.{parse_many, parse_list}
 use Rattle.bspl_parser.proofs.Spelled.{Spelled, Spelled-then, Spelled-shorter, Reads, bind_then, split_then, took}
 use Rattle.bspl_parser.proofs.Formals.{Keyless}
 use Rattle.bspl_parser.proofs.Lists.{Repeats, many-sound, many-complete}
@@ -62,19 +62,19 @@ pub record GoodList {X : Type 0} (Good : X → Type 0) (xs : List X) : Type 0 wh
   pub each : All Good xs
 
 module _ {X : Type 0} (one : List Token → ParseResult X) (signs : X → List Sign) (Good : X → Type 0) (May : List Token → Type 0) (reads : Reads one signs Good May) where
-  pub listed-sound : (ts rest : List Token) (xs : List X) → listed_at one ts ≡ Ok (xs, rest) → Spelled (listed signs xs) ts rest × GoodList Good xs
-  unfolding listed_at
+  pub listed-sound : (ts rest : List Token) (xs : List X) → parse_list one ts ≡ Ok (xs, rest) → Spelled (listed signs xs) ts rest × GoodList Good xs
+  unfolding parse_list
   listed-sound ts rest xs e =
       bind_then (one ts) _ (xs, rest) e (λ first first_read then_more.
-      bind_then (many_at list_kind.Comma one first.1) _ (xs, rest) then_more (λ more more_read made.
+      bind_then (parse_many list_kind.Comma one first.1) _ (xs, rest) then_more (λ more more_read made.
       let phrase = reads.sound ts first.1 first.0 first_read in
       let further = many-sound list_kind.Comma one signs Good May reads first.1 more.1 more.0 more_read in
       took (listed signs) (GoodList Good) ts (first.0 ∷ more.0, more.1) (xs, rest) made
       (Spelled-then (signs first.0) (after_commas signs more.0) ts first.1 more.1 phrase.0 further.0)
       (record { some = λ is. cc; each = All-cons Good first.0 more.0 phrase.1 further.1 })))
 
-  pub listed-complete : Repeats list_kind.Comma signs May → (ts rest : List Token) (xs : List X) → Spelled (listed signs xs) ts rest → GoodList Good xs → begins_with Comma rest ≡ false → May rest → listed_at one ts ≡ Ok (xs, rest)
-  unfolding listed_at
+  pub listed-complete : Repeats list_kind.Comma signs May → (ts rest : List Token) (xs : List X) → Spelled (listed signs xs) ts rest → GoodList Good xs → begins_with Comma rest ≡ false → May rest → parse_list one ts ≡ Ok (xs, rest)
+  unfolding parse_list
   listed-complete repeats ts rest [] spelled good ends may = absurd (good.some refl)
   listed-complete repeats ts rest (x ∷ xs) spelled good ends may =
       split_then (signs x) (after_commas signs xs) ts rest spelled (λ mid first further.

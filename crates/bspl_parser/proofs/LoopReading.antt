@@ -8,13 +8,13 @@ use Rattle.bspl_parser.specs.declared.list_kind.ListKind.{ListKind}
 use Rattle.bspl_parser.specs.declared.list_kind.ListKind.TheVariants as list_kind
 use Rattle.bspl_parser.specs.declared.token.Token.{Token}
 use Rattle.bspl_parser.specs.inner.ParseResult.{ParseResult, Fails}
-use Rattle.bspl_parser.specs.inner.GrammarParsers.{has_more, separator_at, with_prefix, many_within}
+use Rattle.bspl_parser.specs.inner.GrammarParsers.{has_more, parse_separator, with_prefix, parse_many_within}
 
 -- what was read and what is still read from here on make the whole reading; there is room for the tokens that are left
 pub record IsLoopReading {X : Type 0} (kind : ListKind) (one : List Token → ParseResult X) (whole : ParseResult (List X)) (prefix : List X) (ts : List Token) : Type 0 where
   pub room : ℕ
   pub enough : length ts ≤ room
-  pub rest : with_prefix prefix (many_within kind one room ts) ≡ whole
+  pub rest : with_prefix prefix (parse_many_within kind one room ts) ≡ whole
 
 -- a list has no more items without tokens
 pub has_more-nil : (kind : ListKind) → has_more kind [] ≡ false
@@ -35,28 +35,28 @@ regroup prefix x (Err position) = refl
 
 module _ {X : Type 0} (kind : ListKind) (one : List Token → ParseResult X) (n : ℕ) (ts : List Token) (goes : has_more kind ts ≡ true) where
   -- one turn of the reading
-  turn : (after left : List Token) (x : X) → separator_at kind ts ≡ Ok after → one after ≡ Ok (x, left) → many_within kind one (suc n) ts ≡ with_prefix (x ∷ []) (many_within kind one n left)
-  unfolding many_within
+  turn : (after left : List Token) (x : X) → parse_separator kind ts ≡ Ok after → one after ≡ Ok (x, left) → parse_many_within kind one (suc n) ts ≡ with_prefix (x ∷ []) (parse_many_within kind one n left)
+  unfolding parse_many_within
   turn after left x separator read = rw (goes, separator, read) refl
 
   -- a turn without a separator
-  turn_without_separator : (position : ErrorPosition) → separator_at kind ts ≡ Err position → many_within kind one (suc n) ts ≡ Err position
-  unfolding many_within
+  turn_without_separator : (position : ErrorPosition) → parse_separator kind ts ≡ Err position → parse_many_within kind one (suc n) ts ≡ Err position
+  unfolding parse_many_within
   turn_without_separator position separator = rw (goes, separator) refl
 
   -- a turn whose item fails
-  turn_phraseless : (after : List Token) (position : ErrorPosition) → separator_at kind ts ≡ Ok after → one after ≡ Err position → many_within kind one (suc n) ts ≡ Err position
-  unfolding many_within
+  turn_phraseless : (after : List Token) (position : ErrorPosition) → parse_separator kind ts ≡ Ok after → one after ≡ Err position → parse_many_within kind one (suc n) ts ≡ Err position
+  unfolding parse_many_within
   turn_phraseless after position separator read = rw (goes, separator, read) refl
 
 -- no turn is left
-pub no_turn : {X : Type 0} (kind : ListKind) (one : List Token → ParseResult X) (n : ℕ) (ts : List Token) → has_more kind ts ≡ false → many_within kind one n ts ≡ Ok ([], ts)
-unfolding many_within
+pub no_turn : {X : Type 0} (kind : ListKind) (one : List Token → ParseResult X) (n : ℕ) (ts : List Token) → has_more kind ts ≡ false → parse_many_within kind one n ts ≡ Ok ([], ts)
+unfolding parse_many_within
 no_turn kind one zero ts goes = refl
 no_turn kind one (suc n) ts goes = rw goes refl
 
 -- an item was read
-pub goes_further : {X : Type 0} (kind : ListKind) (one : List Token → ParseResult X) (whole : ParseResult (List X)) (prefix : List X) (ts : List Token) → IsLoopReading kind one whole prefix ts → (after left : List Token) (x : X) → has_more kind ts ≡ true → separator_at kind ts ≡ Ok after → length after ≤ length ts → one after ≡ Ok (x, left) → length left < length after → IsLoopReading kind one whole (prefix ++ x ∷ []) left
+pub goes_further : {X : Type 0} (kind : ListKind) (one : List Token → ParseResult X) (whole : ParseResult (List X)) (prefix : List X) (ts : List Token) → IsLoopReading kind one whole prefix ts → (after left : List Token) (x : X) → has_more kind ts ≡ true → parse_separator kind ts ≡ Ok after → length after ≤ length ts → one after ≡ Ok (x, left) → length left < length after → IsLoopReading kind one whole (prefix ++ x ∷ []) left
 goes_further kind one whole prefix ts loop_reading after left x goes separator no_longer read shorter =
     let some = some_token kind ts goes in
     let n : ℕ = pred loop_reading.room in
@@ -64,25 +64,25 @@ goes_further kind one whole prefix ts loop_reading after left x goes separator n
     record {
       room = n;
       enough = omega (arith, loop_reading.enough);
-      rest = sym (regroup prefix x (many_within kind one n left)) ∙ ap (with_prefix prefix) (sym (turn kind one n ts goes after left x separator read)) ∙ ap (λ r. with_prefix prefix (many_within kind one r ts)) (sym room) ∙ loop_reading.rest;
+      rest = sym (regroup prefix x (parse_many_within kind one n left)) ∙ ap (with_prefix prefix) (sym (turn kind one n ts goes after left x separator read)) ∙ ap (λ r. with_prefix prefix (parse_many_within kind one r ts)) (sym room) ∙ loop_reading.rest;
     }
 
 -- a separator was not read
-pub separator_fails : {X : Type 0} (kind : ListKind) (one : List Token → ParseResult X) (whole : ParseResult (List X)) (prefix : List X) (ts : List Token) → IsLoopReading kind one whole prefix ts → (position : ErrorPosition) → has_more kind ts ≡ true → separator_at kind ts ≡ Err position → whole ≡ Err position
+pub separator_fails : {X : Type 0} (kind : ListKind) (one : List Token → ParseResult X) (whole : ParseResult (List X)) (prefix : List X) (ts : List Token) → IsLoopReading kind one whole prefix ts → (position : ErrorPosition) → has_more kind ts ≡ true → parse_separator kind ts ≡ Err position → whole ≡ Err position
 separator_fails kind one whole prefix ts loop_reading position goes fails =
     let some = some_token kind ts goes in
     let n : ℕ = pred loop_reading.room in
     let room : loop_reading.room ≡ suc n = omega (arith, loop_reading.enough) in
-    sym loop_reading.rest ∙ ap (λ r. with_prefix prefix (many_within kind one r ts)) room ∙ ap (with_prefix prefix) (turn_without_separator kind one n ts goes position fails)
+    sym loop_reading.rest ∙ ap (λ r. with_prefix prefix (parse_many_within kind one r ts)) room ∙ ap (with_prefix prefix) (turn_without_separator kind one n ts goes position fails)
 
 -- an item was not read
-pub phrase_fails : {X : Type 0} (kind : ListKind) (one : List Token → ParseResult X) (whole : ParseResult (List X)) (prefix : List X) (ts : List Token) → IsLoopReading kind one whole prefix ts → (stopped : ParseError) (after : List Token) → has_more kind ts ≡ true → separator_at kind ts ≡ Ok after → Fails stopped (one after) → Fails stopped whole
+pub phrase_fails : {X : Type 0} (kind : ListKind) (one : List Token → ParseResult X) (whole : ParseResult (List X)) (prefix : List X) (ts : List Token) → IsLoopReading kind one whole prefix ts → (stopped : ParseError) (after : List Token) → has_more kind ts ≡ true → parse_separator kind ts ≡ Ok after → Fails stopped (one after) → Fails stopped whole
 phrase_fails kind one whole prefix ts loop_reading error.NoMemory after goes separator fails = tt
 phrase_fails kind one whole prefix ts loop_reading (error.Invalid position) after goes separator fails =
     let some = some_token kind ts goes in
     let n : ℕ = pred loop_reading.room in
     let room : loop_reading.room ≡ suc n = omega (arith, loop_reading.enough) in
-    sym loop_reading.rest ∙ ap (λ r. with_prefix prefix (many_within kind one r ts)) room ∙ ap (with_prefix prefix) (turn_phraseless kind one n ts goes after position separator fails)
+    sym loop_reading.rest ∙ ap (λ r. with_prefix prefix (parse_many_within kind one r ts)) room ∙ ap (with_prefix prefix) (turn_phraseless kind one n ts goes after position separator fails)
 
 -- no further item comes
 pub is_done : {X : Type 0} (kind : ListKind) (one : List Token → ParseResult X) (whole : ParseResult (List X)) (prefix : List X) (ts : List Token) → IsLoopReading kind one whole prefix ts → has_more kind ts ≡ false → whole ≡ Ok (prefix, ts)

@@ -7,8 +7,8 @@ use Rattle.bspl_parser.specs.declared.list_kind.ListKind.TheVariants as list_kin
 use Rattle.bspl_parser.specs.declared.symbol.Symbol.TheVariants.{Comma}
 use Rattle.bspl_parser.specs.declared.token.Token.{Token}
 use Rattle.bspl_parser.specs.inner.ParseResult.{ParseResult, ◌>>=◌}
-use Rattle.bspl_parser.specs.inner.TokenParsers.{symbol_at}
-use Rattle.bspl_parser.specs.inner.GrammarParsers.{has_more, has_comma, separator_at, with_prefix, many_within, many_at}
+use Rattle.bspl_parser.specs.inner.TokenParsers.{parse_symbol}
+use Rattle.bspl_parser.specs.inner.GrammarParsers.{has_more, has_comma, parse_separator, with_prefix, parse_many_within, parse_many}
 use Rattle.bspl_parser.proofs.Spelled.{ok_is}
 use Rattle.bspl_parser.proofs.PrefixStable.{PrefixStable, StableSuccess, Alike, alike_first, alike_after, then_stable}
 use Rattle.bspl_parser.proofs.PrefixStableTokens.{symbol_stable}
@@ -24,25 +24,25 @@ stable_same one other same stable =
 
 -- a separator and an item
 abbrev pub step : {X : Type 0} → ListKind → (List Token → ParseResult X) → List Token → ParseResult X
-step kind one ts = separator_at kind ts >>= λ after. one after
+step kind one ts = parse_separator kind ts >>= λ after. one after
 
 pub comma_step : {X : Type 0} (one : List Token → ParseResult X) (first : ParseResult ℕ) → (first >>= λ p. one p.1) ≡ ((first >>= λ c. Ok c.1) >>= λ after. one after)
 comma_step one (Ok p) = refl
 comma_step one (Err f) = refl
 
-step_by : {X : Type 0} (one : List Token → ParseResult X) → PrefixStable one → (comma : Bool) → PrefixStable (λ ts. cond comma (symbol_at Comma ts >>= λ c. Ok c.1) (Ok ts) >>= λ after. one after)
-step_by one stable true = stable_same (λ ts. symbol_at Comma ts >>= λ p. one p.1) (λ ts. (symbol_at Comma ts >>= λ c. Ok c.1) >>= λ after. one after) (λ ts. comma_step one (symbol_at Comma ts)) (then_stable (symbol_at Comma) (λ o. one) (symbol_stable Comma) (λ o. stable))
+step_by : {X : Type 0} (one : List Token → ParseResult X) → PrefixStable one → (comma : Bool) → PrefixStable (λ ts. cond comma (parse_symbol Comma ts >>= λ c. Ok c.1) (Ok ts) >>= λ after. one after)
+step_by one stable true = stable_same (λ ts. parse_symbol Comma ts >>= λ p. one p.1) (λ ts. (parse_symbol Comma ts >>= λ c. Ok c.1) >>= λ after. one after) (λ ts. comma_step one (parse_symbol Comma ts)) (then_stable (parse_symbol Comma) (λ o. one) (symbol_stable Comma) (λ o. stable))
 step_by one stable false = stable
 
 pub step_stable : {X : Type 0} (kind : ListKind) (one : List Token → ParseResult X) → PrefixStable one → PrefixStable (step kind one)
 step_stable kind one stable = step_by one stable (has_comma kind)
 
 -- a further item is read by a step, and then the others
-pub turned : {X : Type 0} (kind : ListKind) (one : List Token → ParseResult X) (n : ℕ) (ts : List Token) → has_more kind ts ≡ true → many_within kind one (suc n) ts ≡ (step kind one ts >>= λ x. with_prefix (x.0 ∷ []) (many_within kind one n x.1))
-unfolding many_within
-turned {X} kind one n ts goes = rw goes (regroup (separator_at kind ts))
+pub turned : {X : Type 0} (kind : ListKind) (one : List Token → ParseResult X) (n : ℕ) (ts : List Token) → has_more kind ts ≡ true → parse_many_within kind one (suc n) ts ≡ (step kind one ts >>= λ x. with_prefix (x.0 ∷ []) (parse_many_within kind one n x.1))
+unfolding parse_many_within
+turned {X} kind one n ts goes = rw goes (regroup (parse_separator kind ts))
   where
-    regroup : (first : Result (List Token) ErrorPosition) → (first >>= λ after. one after >>= λ x. with_prefix (x.0 ∷ []) (many_within kind one n x.1)) ≡ ((first >>= λ after. one after) >>= λ x. with_prefix (x.0 ∷ []) (many_within kind one n x.1))
+    regroup : (first : Result (List Token) ErrorPosition) → (first >>= λ after. one after >>= λ x. with_prefix (x.0 ∷ []) (parse_many_within kind one n x.1)) ≡ ((first >>= λ after. one after) >>= λ x. with_prefix (x.0 ∷ []) (parse_many_within kind one n x.1))
     regroup (Ok after) = refl
     regroup (Err f) = refl
 
@@ -53,7 +53,7 @@ module _ {X : Type 0} (kind : ListKind) (one : List Token → ParseResult X) (st
   pub record ManySuccess (ts rest : List Token) (xs : List X) : Type 0 where
     pub used : List Token
     pub parts : ts ≡ used ++ rest
-    pub again : (other : List Token) → Alike rest other → has_more kind rest ≡ has_more kind other → (m : ℕ) → length (used ++ other) ≤ m → many_within kind one m (used ++ other) ≡ Ok (xs, other)
+    pub again : (other : List Token) → Alike rest other → has_more kind rest ≡ has_more kind other → (m : ℕ) → length (used ++ other) ≤ m → parse_many_within kind one m (used ++ other) ≡ Ok (xs, other)
 
   ended : (ts rest : List Token) (xs : List X) → has_more kind ts ≡ false → ◌≡◌ {A = ParseResult (List X)} (Ok ([], ts)) (Ok (xs, rest)) → ManySuccess ts rest xs
   ended ts rest xs ends e =
@@ -67,10 +67,10 @@ module _ {X : Type 0} (kind : ListKind) (one : List Token → ParseResult X) (st
 
   -- one item and then the others
   more_success : (n : ℕ) (ts rest : List Token) (xs : List X) → has_more kind ts ≡ true → (first : ParseResult X) → step kind one ts ≡ first
-      → ((mid : List Token) (ys : List X) → length mid < length ts → many_within kind one n mid ≡ Ok (ys, rest) → ManySuccess mid rest ys)
-      → (first >>= λ x. with_prefix (x.0 ∷ []) (many_within kind one n x.1)) ≡ Ok (xs, rest) → ManySuccess ts rest xs
+      → ((mid : List Token) (ys : List X) → length mid < length ts → parse_many_within kind one n mid ≡ Ok (ys, rest) → ManySuccess mid rest ys)
+      → (first >>= λ x. with_prefix (x.0 ∷ []) (parse_many_within kind one n x.1)) ≡ Ok (xs, rest) → ManySuccess ts rest xs
   more_success n ts rest xs goes (Err f) read others e = absurd cc
-  more_success n ts rest xs goes (Ok x) read others e = following (many_within kind one n x.1) refl e
+  more_success n ts rest xs goes (Ok x) read others e = following (parse_many_within kind one n x.1) refl e
     where
       shorter : length x.1 < length ts
       shorter = shortens ts x.1 x.0 read
@@ -78,7 +78,7 @@ module _ {X : Type 0} (kind : ListKind) (one : List Token → ParseResult X) (st
       a : StableSuccess (step kind one) ts x.1 x.0
       a = (step_stable kind one stable).success ts x.1 x.0 read
 
-      following : (others_read : ParseResult (List X)) → many_within kind one n x.1 ≡ others_read → with_prefix (x.0 ∷ []) others_read ≡ Ok (xs, rest) → ManySuccess ts rest xs
+      following : (others_read : ParseResult (List X)) → parse_many_within kind one n x.1 ≡ others_read → with_prefix (x.0 ∷ []) others_read ≡ Ok (xs, rest) → ManySuccess ts rest xs
       following (Err f) is made = absurd cc
       following (Ok ys) is made =
           let same = ok_is (x.0 ∷ ys.0, ys.1) (xs, rest) made in
@@ -96,11 +96,11 @@ module _ {X : Type 0} (kind : ListKind) (one : List Token → ParseResult X) (st
                 let room : m ≡ suc (pred m) = omega arith in
                 let goes' = keeps ts x.1 x.0 a.used read a.parts goes (b.used ++ other) in
                 let rest_again = b.again other alike still (pred m) (omega arith) in
-                ap (λ k. many_within kind one k ((a.used ++ b.used) ++ other)) room ∙ ap (many_within kind one (suc (pred m))) list ∙ turned kind one (pred m) (a.used ++ (b.used ++ other)) goes' ∙ rw (again, rest_again) (ap (λ p. Ok (p.0, other)) same);
+                ap (λ k. parse_many_within kind one k ((a.used ++ b.used) ++ other)) room ∙ ap (parse_many_within kind one (suc (pred m))) list ∙ turned kind one (pred m) (a.used ++ (b.used ++ other)) goes' ∙ rw (again, rest_again) (ap (λ p. Ok (p.0, other)) same);
           }
 
-  pub many_success : (n : ℕ) (ts rest : List Token) (xs : List X) → length ts ≤ n → many_within kind one n ts ≡ Ok (xs, rest) → ManySuccess ts rest xs
-  unfolding many_within
+  pub many_success : (n : ℕ) (ts rest : List Token) (xs : List X) → length ts ≤ n → parse_many_within kind one n ts ≡ Ok (xs, rest) → ManySuccess ts rest xs
+  unfolding parse_many_within
   many_success zero [] rest xs enough e = ended [] rest xs (has_more-nil kind) e
   many_success zero (t ∷ ts) rest xs enough e = absurd (omega arith)
   many_success (suc n) ts rest xs enough e =
@@ -110,7 +110,7 @@ module _ {X : Type 0} (kind : ListKind) (one : List Token → ParseResult X) (st
       ]
 
   -- if the first token alone decides whether a list has more, the list is read again
-  pub many_stable : ((a b : List Token) → Alike a b → has_more kind a ≡ has_more kind b) → PrefixStable (many_at kind one)
+  pub many_stable : ((a b : List Token) → Alike a b → has_more kind a ≡ has_more kind b) → PrefixStable (parse_many kind one)
   many_stable notes =
       record {
         success = λ ts rest xs e. (let a = many_success (length ts) ts rest xs (omega arith) e in
@@ -136,7 +136,7 @@ module _ {X : Type 0} (kind : ListKind) (one : List Token → ParseResult X) (st
       notes (prefix ++ t ∷ more) (prefix ++ t ∷ after) (alike_after prefix (t ∷ more) (t ∷ after) (alike_first t more after)) ∙ ap (has_more kind) (ap (λ l. prefix ++ l) (sym is) ∙ sym parts) ∙ goes
 
   -- the items of a list that goes by the first token are read again
-  pub phrases_stable : PrefixStable (many_at kind one)
+  pub phrases_stable : PrefixStable (parse_many kind one)
   phrases_stable = many_stable kind one stable shortens keeps_one notes
 
 -- a comma, a name and the end are known from the first token

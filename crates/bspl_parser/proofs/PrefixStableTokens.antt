@@ -12,8 +12,8 @@ use Rattle.bspl_parser.specs.declared.word.Word.{Word}
 use Rattle.bspl_parser.specs.inner.ParseResult.{ParseResult, ◌>>=◌}
 use Rattle.bspl_parser.specs.inner.SymbolTable.{same_symbol}
 use Rattle.bspl_parser.specs.Token.{offset_of}
-use Rattle.bspl_parser.specs.inner.TokenParsers.{begins_with, word_at, symbol_at, either_at, adorn_of, adorn_at, takes_key, key_at}
-use Rattle.bspl_parser.specs.inner.GrammarParsers.{formal_at}
+use Rattle.bspl_parser.specs.inner.TokenParsers.{begins_with, parse_word, parse_symbol, parse_either, adorn_of, parse_adorn, takes_key, parse_key}
+use Rattle.bspl_parser.specs.inner.GrammarParsers.{parse_formal}
 use Rattle.bspl_parser.proofs.Spelled.{ok_is}
 use Rattle.bspl_parser.proofs.PrefixStable.{PrefixStable, StableSuccess, StableFailure, either_stable, then_stable, nothing_stable}
 
@@ -77,20 +77,20 @@ unfolding give_word
 word_blames (Name w) f e = absurd cc
 word_blames (Fixed s o) f e = cc
 
-word_some : (t : Token) (ts : List Token) → word_at (t ∷ ts) ≡ with_rest (give_word t) ts
-unfolding word_at give_word
+word_some : (t : Token) (ts : List Token) → parse_word (t ∷ ts) ≡ with_rest (give_word t) ts
+unfolding parse_word give_word
 word_some (Name w) ts = refl
 word_some (Fixed s o) ts = refl
 
-word_none : word_at [] ≡ Err End
-unfolding word_at
+word_none : parse_word [] ≡ Err End
+unfolding parse_word
 word_none = refl
 
-pub word_takes : TakesOne word_at
+pub word_takes : TakesOne parse_word
 word_takes = record { give = give_word; blames = word_blames; some = word_some; none = word_none }
 
-pub word_stable : PrefixStable word_at
-word_stable = takes_stable word_at word_takes
+pub word_stable : PrefixStable parse_word
+word_stable = takes_stable parse_word word_takes
 
 -- a symbol
 give_symbol : Symbol → Token → Result ℕ ErrorPosition
@@ -103,25 +103,25 @@ symbol_blames s (Name w) f e = cc
 symbol_blames s (Fixed t o) f e =
     (elim (same_symbol t s) as (λ same. ◌≡◌ {A = Result ℕ ErrorPosition} (cond same (Ok o) (Err (At o))) (Err f) → f ≡ At o) [ true ↦ λ e. absurd cc | false ↦ λ e. cc ]) e
 
-symbol_some : (s : Symbol) (t : Token) (ts : List Token) → symbol_at s (t ∷ ts) ≡ with_rest (give_symbol s t) ts
-unfolding symbol_at give_symbol
+symbol_some : (s : Symbol) (t : Token) (ts : List Token) → parse_symbol s (t ∷ ts) ≡ with_rest (give_symbol s t) ts
+unfolding parse_symbol give_symbol
 symbol_some s (Name w) ts = refl
 symbol_some s (Fixed t o) ts =
     elim (same_symbol t s) as (λ same. ◌≡◌ {A = ParseResult ℕ} (cond same (Ok (o, ts)) (Err (At o))) (with_rest (cond same (Ok o) (Err (At o))) ts)) [ true ↦ refl | false ↦ refl ]
 
-symbol_none : (s : Symbol) → symbol_at s [] ≡ Err End
-unfolding symbol_at
+symbol_none : (s : Symbol) → parse_symbol s [] ≡ Err End
+unfolding parse_symbol
 symbol_none s = refl
 
-pub symbol_takes : (s : Symbol) → TakesOne (symbol_at s)
+pub symbol_takes : (s : Symbol) → TakesOne (parse_symbol s)
 symbol_takes s = record { give = give_symbol s; blames = symbol_blames s; some = symbol_some s; none = symbol_none s }
 
-pub symbol_stable : (s : Symbol) → PrefixStable (symbol_at s)
-symbol_stable s = takes_stable (symbol_at s) (symbol_takes s)
+pub symbol_stable : (s : Symbol) → PrefixStable (parse_symbol s)
+symbol_stable s = takes_stable (parse_symbol s) (symbol_takes s)
 
 -- one of two symbols
-pub one_of_stable : (a b : Symbol) → PrefixStable (either_at a b)
-one_of_stable a b = either_stable (begins_with a) (λ x y alike. alike.symbols a) (symbol_at a) (symbol_at b) (symbol_stable a) (symbol_stable b)
+pub one_of_stable : (a b : Symbol) → PrefixStable (parse_either a b)
+one_of_stable a b = either_stable (begins_with a) (λ x y alike. alike.symbols a) (parse_symbol a) (parse_symbol b) (symbol_stable a) (symbol_stable b)
 
 -- an adornment
 abbrev locate_adorn : ℕ → Option Adorn → Result (Adorn × ℕ) ErrorPosition
@@ -138,34 +138,34 @@ adorn_blames (Name w) f e = cc
 adorn_blames (Fixed t o) f e =
     (elim (adorn_of t) as (λ found. locate_adorn o found ≡ Err f → f ≡ At o) [ None ↦ λ e. cc | Some a ↦ λ e. absurd cc ]) e
 
-adorn_some : (t : Token) (ts : List Token) → adorn_at (t ∷ ts) ≡ with_rest (give_adorn t) ts
-unfolding adorn_at give_adorn
+adorn_some : (t : Token) (ts : List Token) → parse_adorn (t ∷ ts) ≡ with_rest (give_adorn t) ts
+unfolding parse_adorn give_adorn
 adorn_some (Name w) ts = refl
 adorn_some (Fixed t o) ts =
     elim (adorn_of t) as (λ found. option_map_or {U = ParseResult (Adorn × ℕ)} (λ a. Ok ((a, o), ts)) found (Err (At o)) ≡ with_rest (locate_adorn o found) ts) [ None ↦ refl | Some a ↦ refl ]
 
-adorn_none : adorn_at [] ≡ Err End
-unfolding adorn_at
+adorn_none : parse_adorn [] ≡ Err End
+unfolding parse_adorn
 adorn_none = refl
 
-pub adorn_takes : TakesOne adorn_at
+pub adorn_takes : TakesOne parse_adorn
 adorn_takes = record { give = give_adorn; blames = adorn_blames; some = adorn_some; none = adorn_none }
 
-pub adorn_stable : PrefixStable adorn_at
-adorn_stable = takes_stable adorn_at adorn_takes
+pub adorn_stable : PrefixStable parse_adorn
+adorn_stable = takes_stable parse_adorn adorn_takes
 
 -- the word `key`, if it may come
-pub key_stable : (a : Adorn) → PrefixStable (key_at a)
-unfolding key_at
+pub key_stable : (a : Adorn) → PrefixStable (parse_key a)
+unfolding parse_key
 key_stable a =
-    either_stable (λ ts. takes_key a && begins_with Key ts) (λ x y alike. ap (λ b. takes_key a && b) (alike.symbols Key)) (λ ts. symbol_at Key ts >>= λ key. Ok (Some key.0, key.1)) (λ ts. Ok (None, ts))
-    (then_stable (symbol_at Key) (λ o ts. Ok (Some o, ts)) (symbol_stable Key) (λ o. nothing_stable (Some o))) (nothing_stable None)
+    either_stable (λ ts. takes_key a && begins_with Key ts) (λ x y alike. ap (λ b. takes_key a && b) (alike.symbols Key)) (λ ts. parse_symbol Key ts >>= λ key. Ok (Some key.0, key.1)) (λ ts. Ok (None, ts))
+    (then_stable (parse_symbol Key) (λ o ts. Ok (Some o, ts)) (symbol_stable Key) (λ o. nothing_stable (Some o))) (nothing_stable None)
 
 -- an adorned parameter
-pub formal_stable : PrefixStable formal_at
-unfolding formal_at
+pub formal_stable : PrefixStable parse_formal
+unfolding parse_formal
 formal_stable =
-    then_stable adorn_at _ adorn_stable (λ adorned.
-    then_stable word_at _ word_stable (λ name.
-    then_stable (key_at adorned.0) _ (key_stable adorned.0) (λ key.
+    then_stable parse_adorn _ adorn_stable (λ adorned.
+    then_stable parse_word _ word_stable (λ name.
+    then_stable (parse_key adorned.0) _ (key_stable adorned.0) (λ key.
     nothing_stable (record { adorn = adorned.0; offset = adorned.1; name = name; key = key }))))

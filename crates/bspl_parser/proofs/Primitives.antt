@@ -15,7 +15,7 @@ use Rattle.bspl_parser.specs.inner.SymbolTable.{same_symbol}
 use Rattle.bspl_parser.specs.Sign.{Named, Located, Plain, OneOf}
 use Rattle.bspl_parser.specs.Grammar.{signs_of_word, symbol_of}
 use Rattle.bspl_parser.specs.inner.ParseResult.{ParseResult}
-use Rattle.bspl_parser.specs.inner.TokenParsers.{begins_with, word_at, symbol_at, either_at, adorn_of, adorn_at}
+use Rattle.bspl_parser.specs.inner.TokenParsers.{begins_with, parse_word, parse_symbol, parse_either, adorn_of, parse_adorn}
 use Rattle.bspl_parser.proofs.SymbolLemmas.{same_symbol-refl, same_symbol-true}
 use Rattle.bspl_parser.proofs.Spelled.{Spelled, Reads, ok_is}
 
@@ -25,23 +25,23 @@ guard_ok true x y position e = (refl, ok_is x y e)
 guard_ok false x y position e = absurd cc
 
 -- a word
-pub word_sound : (ts rest : List Token) (w : Word) → word_at ts ≡ Ok (w, rest) → Spelled (Named w ∷ []) ts rest
-unfolding word_at
+pub word_sound : (ts rest : List Token) (w : Word) → parse_word ts ≡ Ok (w, rest) → Spelled (Named w ∷ []) ts rest
+unfolding parse_word
 word_sound [] rest w e = absurd cc
 word_sound (Name v ∷ ts) rest w e = let same = ok_is (v, ts) (w, rest) e in (Name v, ts, refl, ap (λ p. Name p.0) same, ap (λ p. p.1) same)
 word_sound (Fixed s o ∷ ts) rest w e = absurd cc
 
 -- a word that is spelled is read
-pub word_complete : (ts rest : List Token) (w : Word) → Spelled (Named w ∷ []) ts rest → word_at ts ≡ Ok (w, rest)
-unfolding word_at
+pub word_complete : (ts rest : List Token) (w : Word) → Spelled (Named w ∷ []) ts rest → parse_word ts ≡ Ok (w, rest)
+unfolding parse_word
 word_complete ts rest w spelled = rw (spelled.2, spelled.3, spelled.4) refl
 
-pub word_reads : Reads word_at signs_of_word (λ w. Unit {0}) (λ ts. Unit {0})
+pub word_reads : Reads parse_word signs_of_word (λ w. Unit {0}) (λ ts. Unit {0})
 word_reads = record { sound = λ ts rest w e. (word_sound ts rest w e, tt); complete = λ ts rest w spelled good may. word_complete ts rest w spelled }
 
 -- a symbol at its offset
-pub symbol_sound : (s : Symbol) (ts rest : List Token) (o : ℕ) → symbol_at s ts ≡ Ok (o, rest) → Spelled (Located s o ∷ []) ts rest
-unfolding symbol_at
+pub symbol_sound : (s : Symbol) (ts rest : List Token) (o : ℕ) → parse_symbol s ts ≡ Ok (o, rest) → Spelled (Located s o ∷ []) ts rest
+unfolding parse_symbol
 symbol_sound s [] rest o e = absurd cc
 symbol_sound s (Name v ∷ ts) rest o e = absurd cc
 symbol_sound s (Fixed t p ∷ ts) rest o e =
@@ -51,36 +51,36 @@ symbol_sound s (Fixed t p ∷ ts) rest o e =
     (Fixed t p, ts, refl, cc, ap (λ q. q.1) passed.1)
 
 -- a symbol that is spelled is read
-pub symbol_complete : (s : Symbol) (ts rest : List Token) (o : ℕ) → Spelled (Located s o ∷ []) ts rest → symbol_at s ts ≡ Ok (o, rest)
-unfolding symbol_at
+pub symbol_complete : (s : Symbol) (ts rest : List Token) (o : ℕ) → Spelled (Located s o ∷ []) ts rest → parse_symbol s ts ≡ Ok (o, rest)
+unfolding parse_symbol
 symbol_complete s ts rest o spelled = rw (spelled.2, spelled.3, same_symbol-refl s, spelled.4) refl
 
 -- a symbol at any offset
-pub plain_sound : (s : Symbol) (ts rest : List Token) (o : ℕ) → symbol_at s ts ≡ Ok (o, rest) → Spelled (Plain s ∷ []) ts rest
+pub plain_sound : (s : Symbol) (ts rest : List Token) (o : ℕ) → parse_symbol s ts ≡ Ok (o, rest) → Spelled (Plain s ∷ []) ts rest
 plain_sound s ts rest o e =
     let at_offset = symbol_sound s ts rest o e in
     (at_offset.0, at_offset.1, at_offset.2, (o, at_offset.3), at_offset.4)
 
 -- and it is taken at any offset
-pub plain_complete : (s : Symbol) (ts rest : List Token) → Spelled (Plain s ∷ []) ts rest → (o : ℕ) × (symbol_at s ts ≡ Ok (o, rest))
+pub plain_complete : (s : Symbol) (ts rest : List Token) → Spelled (Plain s ∷ []) ts rest → (o : ℕ) × (parse_symbol s ts ≡ Ok (o, rest))
 plain_complete s ts rest spelled = (spelled.3.0, symbol_complete s ts rest spelled.3.0 (spelled.0, spelled.1, spelled.2, spelled.3.1, spelled.4))
 
 -- one of two symbols
-pub either_sound : (a b : Symbol) (ts rest : List Token) (o : ℕ) → either_at a b ts ≡ Ok (o, rest) → Spelled (OneOf a b ∷ []) ts rest
+pub either_sound : (a b : Symbol) (ts rest : List Token) (o : ℕ) → parse_either a b ts ≡ Ok (o, rest) → Spelled (OneOf a b ∷ []) ts rest
 either_sound a b ts rest o e =
-    (elim (begins_with a ts) as (λ goes. cond goes (symbol_at a ts) (symbol_at b ts) ≡ Ok (o, rest) → Spelled (OneOf a b ∷ []) ts rest) [
+    (elim (begins_with a ts) as (λ goes. cond goes (parse_symbol a ts) (parse_symbol b ts) ≡ Ok (o, rest) → Spelled (OneOf a b ∷ []) ts rest) [
       | true ↦ λ read. let at_offset = symbol_sound a ts rest o read in (at_offset.0, at_offset.1, at_offset.2, (o, inl at_offset.3), at_offset.4)
       | false ↦ λ read. let at_offset = symbol_sound b ts rest o read in (at_offset.0, at_offset.1, at_offset.2, (o, inr at_offset.3), at_offset.4)
     ]) e
 
 -- the first of two is read
-either_first : (a b : Symbol) (rest : List Token) (o : ℕ) → either_at a b (Fixed a o ∷ rest) ≡ Ok (o, rest)
-unfolding symbol_at
+either_first : (a b : Symbol) (rest : List Token) (o : ℕ) → parse_either a b (Fixed a o ∷ rest) ≡ Ok (o, rest)
+unfolding parse_symbol
 either_first a b rest o = rw same_symbol-refl refl
 
 -- the second of two is read
-either_second : (a b : Symbol) (rest : List Token) (o : ℕ) → either_at a b (Fixed b o ∷ rest) ≡ Ok (o, rest)
-unfolding symbol_at
+either_second : (a b : Symbol) (rest : List Token) (o : ℕ) → parse_either a b (Fixed b o ∷ rest) ≡ Ok (o, rest)
+unfolding parse_symbol
 either_second a b rest o =
     elim (cases_Bool (same_symbol b a)) [
       | inl same ↦ rw same refl
@@ -88,12 +88,12 @@ either_second a b rest o =
     ]
 
 -- one of two that is spelled is read
-pub either_complete : (a b : Symbol) (ts rest : List Token) → Spelled (OneOf a b ∷ []) ts rest → (o : ℕ) × (either_at a b ts ≡ Ok (o, rest))
+pub either_complete : (a b : Symbol) (ts rest : List Token) → Spelled (OneOf a b ∷ []) ts rest → (o : ℕ) × (parse_either a b ts ≡ Ok (o, rest))
 either_complete a b ts rest spelled =
     let o = spelled.3.0 in
     elim spelled.3.1 [
-      | inl is ↦ (o, ap (either_at a b) (spelled.2 ∙ ap (λ t. t ∷ spelled.1) is ∙ ap (λ r. Fixed a o ∷ r) spelled.4) ∙ either_first a b rest o)
-      | inr is ↦ (o, ap (either_at a b) (spelled.2 ∙ ap (λ t. t ∷ spelled.1) is ∙ ap (λ r. Fixed b o ∷ r) spelled.4) ∙ either_second a b rest o)
+      | inl is ↦ (o, ap (parse_either a b) (spelled.2 ∙ ap (λ t. t ∷ spelled.1) is ∙ ap (λ r. Fixed a o ∷ r) spelled.4) ∙ either_first a b rest o)
+      | inr is ↦ (o, ap (parse_either a b) (spelled.2 ∙ ap (λ t. t ∷ spelled.1) is ∙ ap (λ r. Fixed b o ∷ r) spelled.4) ∙ either_second a b rest o)
     ]
 
 -- an adornment
@@ -123,15 +123,15 @@ adorn_found s p ts rest a o (Some b) is e =
     (Fixed s p, ts, refl, cc, ap (λ q. q.1) same)
 
 -- the adornment that is read is spelled by its sign
-pub adorn_sound : (ts rest : List Token) (a : Adorn) (o : ℕ) → adorn_at ts ≡ Ok ((a, o), rest) → Spelled (Located (symbol_of a) o ∷ []) ts rest
-unfolding adorn_at
+pub adorn_sound : (ts rest : List Token) (a : Adorn) (o : ℕ) → parse_adorn ts ≡ Ok ((a, o), rest) → Spelled (Located (symbol_of a) o ∷ []) ts rest
+unfolding parse_adorn
 adorn_sound [] rest a o e = absurd cc
 adorn_sound (Name v ∷ ts) rest a o e = absurd cc
 adorn_sound (Fixed s p ∷ ts) rest a o e = adorn_found s p ts rest a o (adorn_of s) refl e
 
 -- and the one that its sign spells is read
-pub adorn_complete : (ts rest : List Token) (a : Adorn) (o : ℕ) → Spelled (Located (symbol_of a) o ∷ []) ts rest → adorn_at ts ≡ Ok ((a, o), rest)
-unfolding adorn_at
+pub adorn_complete : (ts rest : List Token) (a : Adorn) (o : ℕ) → Spelled (Located (symbol_of a) o ∷ []) ts rest → parse_adorn ts ≡ Ok ((a, o), rest)
+unfolding parse_adorn
 adorn_complete ts rest a o spelled = rw (spelled.2, spelled.3, adorn_of-symbol_of a, spelled.4) refl
 
 -- the value of two readings that are one

@@ -1,9 +1,10 @@
 ghost use Rattle.std.specs.Prelude.{◌≡◌, ◌≤◌, [], length, OnOk};
 ghost use Rattle.bspl_parser.specs.inner.ParseResult.{Gives};
-ghost use Rattle.bspl_parser.specs.inner.TokenParsers.{word_at};
-ghost use Rattle.bspl_parser.specs.inner.GrammarParsers.{message_at, reference_at, private_at};
-ghost use Rattle.bspl_parser.specs.inner.GrammarParsers.{document_at, formal_at, item_at};
-ghost use Rattle.bspl_parser.specs.inner.GrammarParsers.{declaration_at};
+ghost use Rattle.bspl_parser.specs.inner.TokenParsers.{parse_word};
+ghost use Rattle.bspl_parser.specs.inner.GrammarParsers.{parse_message, parse_reference};
+ghost use Rattle.bspl_parser.specs.inner.GrammarParsers.{parse_private};
+ghost use Rattle.bspl_parser.specs.inner.GrammarParsers.{parse_document, parse_formal, parse_item};
+ghost use Rattle.bspl_parser.specs.inner.GrammarParsers.{parse_declaration};
 
 use super::document::{Declaration, Document, Formal, Item, Reference, Schema};
 use super::list_kind::ListKind;
@@ -16,7 +17,7 @@ use bspl_types::Seq;
 use std::alloc::Global;
 
 impl Parse for Word {
-    ghost at = { word_at };
+    ghost at = { parse_word };
 
     fn read(_alloc: Global, stream: &mut TokenStream) -> Result<Word, ParseError> {
         Ok(stream.word()?)
@@ -24,9 +25,9 @@ impl Parse for Word {
 }
 
 impl Parse for Formal {
-    ghost at = { formal_at };
+    ghost at = { parse_formal };
 
-    #[tactic(auto, unfolding(crate::specs::inner::GrammarParsers::formal_at))]
+    #[tactic(auto, unfolding(crate::specs::inner::GrammarParsers::parse_formal))]
     fn read(_alloc: Global, stream: &mut TokenStream) -> Result<Formal, ParseError> {
         let (adorn, offset) = stream.adornment()?;
         let name = stream.word()?;
@@ -41,9 +42,9 @@ impl Parse for Formal {
 }
 
 /// Reads a message after its sender.
-#[tactic(auto, unfolding(crate::specs::inner::GrammarParsers::message_at))]
+#[tactic(auto, unfolding(crate::specs::inner::GrammarParsers::parse_message))]
 fn read_message(alloc: Global, stream: &mut TokenStream, sender: Word) -> Result<Schema, ParseError>
-    ensures gives { Gives result stream.new (message_at sender stream.old) }
+    ensures gives { Gives result stream.new (parse_message sender stream.old) }
     ensures no_longer { OnOk result (length stream.new ≤ length stream.old) }
 {
     stream.symbol(Symbol::Arrow)?;
@@ -62,13 +63,13 @@ fn read_message(alloc: Global, stream: &mut TokenStream, sender: Word) -> Result
 }
 
 /// Reads a reference after its protocol's name.
-#[tactic(auto, unfolding(crate::specs::inner::GrammarParsers::reference_at))]
+#[tactic(auto, unfolding(crate::specs::inner::GrammarParsers::parse_reference))]
 fn read_reference(
     alloc: Global,
     stream: &mut TokenStream,
     protocol: Word,
 ) -> Result<Reference, ParseError>
-    ensures gives { Gives result stream.new (reference_at protocol stream.old) }
+    ensures gives { Gives result stream.new (parse_reference protocol stream.old) }
     ensures no_longer { OnOk result (length stream.new ≤ length stream.old) }
 {
     stream.symbol(Symbol::OpenParen)?;
@@ -86,9 +87,9 @@ fn read_reference(
 }
 
 impl Parse for Item {
-    ghost at = { item_at };
+    ghost at = { parse_item };
 
-    #[tactic(auto, unfolding(crate::specs::inner::GrammarParsers::item_at))]
+    #[tactic(auto, unfolding(crate::specs::inner::GrammarParsers::parse_item))]
     fn read(alloc: Global, stream: &mut TokenStream) -> Result<Item, ParseError> {
         let name = stream.word()?;
         if stream.begins_with(Symbol::OpenParen) {
@@ -102,9 +103,9 @@ impl Parse for Item {
 
 /// Reads the private parameters, if there are any.
 /// Reads the private parameters, if there are any.
-#[tactic(auto, unfolding(crate::specs::inner::GrammarParsers::private_at))]
+#[tactic(auto, unfolding(crate::specs::inner::GrammarParsers::parse_private))]
 fn read_private(alloc: Global, stream: &mut TokenStream) -> Result<WordList, ParseError>
-    ensures gives { Gives result stream.new (private_at stream.old) }
+    ensures gives { Gives result stream.new (parse_private stream.old) }
     ensures no_longer { OnOk result (length stream.new ≤ length stream.old) }
 {
     if stream.begins_with(Symbol::Private) {
@@ -115,9 +116,9 @@ fn read_private(alloc: Global, stream: &mut TokenStream) -> Result<WordList, Par
 }
 
 impl Parse for Declaration {
-    ghost at = { declaration_at };
+    ghost at = { parse_declaration };
 
-    #[tactic(auto, unfolding(crate::specs::inner::GrammarParsers::declaration_at))]
+    #[tactic(auto, unfolding(crate::specs::inner::GrammarParsers::parse_declaration))]
     fn read(alloc: Global, stream: &mut TokenStream) -> Result<Declaration, ParseError> {
         let name = stream.word()?;
         stream.symbol(Symbol::OpenBrace)?;
@@ -139,9 +140,9 @@ impl Parse for Declaration {
 }
 
 /// Reads protocols up to the end of the tokens.
-#[tactic(auto, unfolding(crate::specs::inner::GrammarParsers::document_at))]
+#[tactic(auto, unfolding(crate::specs::inner::GrammarParsers::parse_document))]
 pub fn read_document(alloc: Global, stream: &mut TokenStream) -> Result<Document, ParseError>
-    ensures gives { Gives result stream.new (document_at stream.old) }
+    ensures gives { Gives result stream.new (parse_document stream.old) }
     ensures all { OnOk result (stream.new ≡ []) }
 {
     let first = Declaration::read(alloc, stream)?;

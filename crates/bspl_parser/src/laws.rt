@@ -21,8 +21,8 @@ pub fn answers_once()
         → AreExclusive (IsText text d) (IsBadByte text a) (IsBadSyntax text b) }
 {}
 
-/// A law: what a text spells is well formed; the layout of a well-formed document is read back, as a
-/// document that is equal to it but for offsets, and spells no other.
+/// A law: what a text spells is well formed; the layout of a well-formed document is read back,
+/// as a document that is equal to it but for offsets, and spells no other.
 pub fn reads_back()
     ensures formed { (text : List ℕ) (d : Document) → IsText text d → IsDocument d }
     ensures read { (d : Document) → IsDocument d → ReadsBack (printed d) d }

@@ -2,7 +2,8 @@ ghost use Rattle.std.specs.Prelude.{◌≡◌, ◌<◌, ◌≤◌, false, List, 
 ghost use Rattle.bspl_parser.specs.declared.parse_error.ErrorPosition.{ErrorPosition as SpecErrorPosition};
 ghost use Rattle.bspl_parser.specs.declared.token.Token.{Token as SpecToken};
 ghost use Rattle.bspl_parser.specs.inner.ParseResult.{Gives};
-ghost use Rattle.bspl_parser.specs.inner.GrammarParsers.{has_more, with_prefix, many_at, listed_at};
+ghost use Rattle.bspl_parser.specs.inner.GrammarParsers.{has_more, with_prefix, parse_many};
+ghost use Rattle.bspl_parser.specs.inner.GrammarParsers.{parse_list};
 
 use super::list_kind::ListKind;
 use super::parse_error::ParseError;
@@ -29,7 +30,7 @@ pub fn read_more<T: Parse>(
     kind: ListKind,
     prefix: Seq<T>,
 ) -> Result<Seq<T>, ParseError>
-    ensures gives { Gives result stream.new (with_prefix prefix (many_at kind T.at stream.old)) }
+    ensures gives { Gives result stream.new (with_prefix prefix (parse_many kind T.at stream.old)) }
     ensures no_longer { OnOk result (length stream.new ≤ length stream.old) }
     ensures ended { OnOk result (has_more kind stream.new ≡ false) }
 {
@@ -43,9 +44,9 @@ pub fn read_more<T: Parse>(
 }
 
 /// Reads one item, and one more after each comma.
-#[tactic(auto, unfolding(crate::specs::inner::GrammarParsers::listed_at))]
+#[tactic(auto, unfolding(crate::specs::inner::GrammarParsers::parse_list))]
 pub fn read_list<T: Parse>(alloc: Global, stream: &mut TokenStream) -> Result<Seq<T>, ParseError>
-    ensures gives { Gives result stream.new (listed_at T.at stream.old) }
+    ensures gives { Gives result stream.new (parse_list T.at stream.old) }
     ensures shorter { OnOk result (length stream.new < length stream.old) }
 {
     let first = T::read(alloc, stream)?;

@@ -1,10 +1,11 @@
 ghost use Rattle.std.specs.Prelude.{◌≡◌, ◌<◌, ◌≤◌, [], ◌∷◌, ◌++◌, drop, length};
 ghost use Rattle.std.specs.Prelude.{IfSome, IfNone, OnOk};
 ghost use Rattle.bspl_parser.specs.inner.ParseResult.{Returns, ReturnsRest};
-ghost use Rattle.bspl_parser.specs.inner.TokenParsers.{begins_with, begins_with_name, word_at};
-ghost use Rattle.bspl_parser.specs.inner.TokenParsers.{symbol_at};
-ghost use Rattle.bspl_parser.specs.inner.TokenParsers.{either_at, adorn_of, adorn_at, key_at};
-ghost use Rattle.bspl_parser.specs.inner.GrammarParsers.{has_more, separator_at};
+ghost use Rattle.bspl_parser.specs.inner.TokenParsers.{begins_with, begins_with_name, parse_word};
+ghost use Rattle.bspl_parser.specs.inner.TokenParsers.{parse_symbol};
+ghost use Rattle.bspl_parser.specs.inner.TokenParsers.{parse_either, adorn_of, parse_adorn};
+ghost use Rattle.bspl_parser.specs.inner.TokenParsers.{parse_key};
+ghost use Rattle.bspl_parser.specs.inner.GrammarParsers.{has_more, parse_separator};
 
 use super::document::Adorn;
 use super::list_kind::ListKind;
@@ -89,7 +90,7 @@ impl TokenStream {
 
     /// Takes what separates a further item from the one before.
     pub fn separator(&mut self, kind: ListKind) -> Result<(), ErrorPosition>
-        ensures gives { ReturnsRest result self.new (separator_at kind self.old) }
+        ensures gives { ReturnsRest result self.new (parse_separator kind self.old) }
         ensures no_longer { OnOk result (length self.new ≤ length self.old) }
     {
         if kind.has_comma() {
@@ -99,9 +100,9 @@ impl TokenStream {
     }
 
     /// Takes a name.
-    #[tactic(auto, unfolding(crate::specs::inner::TokenParsers::word_at))]
+    #[tactic(auto, unfolding(crate::specs::inner::TokenParsers::parse_word))]
     pub fn word(&mut self) -> Result<Word, ErrorPosition>
-        ensures gives { Returns result self.new (word_at self.old) }
+        ensures gives { Returns result self.new (parse_word self.old) }
         ensures shorter { OnOk result (length self.new < length self.old) }
     {
         match self.next() {
@@ -112,9 +113,9 @@ impl TokenStream {
     }
 
     /// Takes that symbol, and returns its offset.
-    #[tactic(auto, unfolding(crate::specs::inner::TokenParsers::symbol_at))]
+    #[tactic(auto, unfolding(crate::specs::inner::TokenParsers::parse_symbol))]
     pub fn symbol(&mut self, wanted: Symbol) -> Result<u64, ErrorPosition>
-        ensures gives { Returns result self.new (symbol_at wanted self.old) }
+        ensures gives { Returns result self.new (parse_symbol wanted self.old) }
         ensures shorter { OnOk result (length self.new < length self.old) }
     {
         match self.next() {
@@ -132,7 +133,7 @@ impl TokenStream {
 
     /// Takes one of two symbols, and returns its offset.
     pub fn either(&mut self, one: Symbol, other: Symbol) -> Result<u64, ErrorPosition>
-        ensures gives { Returns result self.new (either_at one other self.old) }
+        ensures gives { Returns result self.new (parse_either one other self.old) }
         ensures shorter { OnOk result (length self.new < length self.old) }
     {
         if self.begins_with(one) {
@@ -143,9 +144,9 @@ impl TokenStream {
     }
 
     /// Takes an adornment, and returns it with its offset.
-    #[tactic(auto, unfolding(crate::specs::inner::TokenParsers::adorn_at))]
+    #[tactic(auto, unfolding(crate::specs::inner::TokenParsers::parse_adorn))]
     pub fn adornment(&mut self) -> Result<(Adorn, u64), ErrorPosition>
-        ensures gives { Returns result self.new (adorn_at self.old) }
+        ensures gives { Returns result self.new (parse_adorn self.old) }
         ensures shorter { OnOk result (length self.new < length self.old) }
     {
         let (symbol, offset) = match self.next() {
@@ -160,9 +161,9 @@ impl TokenStream {
     }
 
     /// Takes the word `key` if it comes, but not after a `nil` parameter, and returns its offset.
-    #[tactic(auto, unfolding(crate::specs::inner::TokenParsers::key_at))]
+    #[tactic(auto, unfolding(crate::specs::inner::TokenParsers::parse_key))]
     pub fn key(&mut self, adorn: Adorn) -> Result<Option<u64>, ErrorPosition>
-        ensures gives { Returns result self.new (key_at adorn self.old) }
+        ensures gives { Returns result self.new (parse_key adorn self.old) }
         ensures no_longer { OnOk result (length self.new ≤ length self.old) }
     {
         if adorn.takes_key() && self.begins_with(Symbol::Key) {

@@ -26,21 +26,22 @@ begins_with_name (Name word ∷ ts) = true
 begins_with_name (Fixed symbol offset ∷ ts) = false
 
 -- a name
-unfoldable pub word_at : List Token → ParseResult Word
-word_at [] = Err End
-word_at (Name word ∷ ts) = Ok (word, ts)
-word_at (Fixed symbol offset ∷ ts) = Err (At offset)
+unfoldable pub parse_word : List Token → ParseResult Word
+parse_word [] = Err End
+parse_word (Name word ∷ ts) = Ok (word, ts)
+parse_word (Fixed symbol offset ∷ ts) = Err (At offset)
 
 -- that symbol, with its offset
-unfoldable pub symbol_at : Symbol → List Token → ParseResult ℕ
-symbol_at symbol [] = Err End
-symbol_at symbol (Name word ∷ ts) = Err (At word.offset)
-symbol_at symbol (Fixed other offset ∷ ts) =
+unfoldable pub parse_symbol : Symbol → List Token → ParseResult ℕ
+parse_symbol symbol [] = Err End
+parse_symbol symbol (Name word ∷ ts) = Err (At word.offset)
+parse_symbol symbol (Fixed other offset ∷ ts) =
     if same_symbol other symbol then Ok (offset, ts) else Err (At offset)
 
 -- one of two symbols
-abbrev pub either_at : Symbol → Symbol → List Token → ParseResult ℕ
-either_at one other ts = if begins_with one ts then symbol_at one ts else symbol_at other ts
+abbrev pub parse_either : Symbol → Symbol → List Token → ParseResult ℕ
+parse_either one other ts =
+    if begins_with one ts then parse_symbol one ts else parse_symbol other ts
 
 -- the adornment that the symbol is
 abbrev pub adorn_of : Symbol → Option Adorn
@@ -52,10 +53,10 @@ adorn_of Opt = Some adorn.Opt
 adorn_of symbol = None
 
 -- an adornment, with its offset
-unfoldable pub adorn_at : List Token → ParseResult (Adorn × ℕ)
-adorn_at [] = Err End
-adorn_at (Name word ∷ ts) = Err (At word.offset)
-adorn_at (Fixed symbol offset ∷ ts) =
+unfoldable pub parse_adorn : List Token → ParseResult (Adorn × ℕ)
+parse_adorn [] = Err End
+parse_adorn (Name word ∷ ts) = Err (At word.offset)
+parse_adorn (Fixed symbol offset ∷ ts) =
     option_map_or (λ adorned. Ok ((adorned, offset), ts)) (adorn_of symbol) (Err (At offset))
 
 -- the word `key` may follow
@@ -67,8 +68,8 @@ takes_key adorn.Any = true
 takes_key adorn.Opt = true
 
 -- the word `key` if it comes, but none after a `nil` parameter
-unfoldable pub key_at : Adorn → List Token → ParseResult (Option ℕ)
-key_at adorned ts =
+unfoldable pub parse_key : Adorn → List Token → ParseResult (Option ℕ)
+parse_key adorned ts =
     if takes_key adorned && begins_with Key ts
-    then (symbol_at Key ts >>= λ key. Ok (Some key.0, key.1))
+    then (parse_symbol Key ts >>= λ key. Ok (Some key.0, key.1))
     else Ok (None, ts)
