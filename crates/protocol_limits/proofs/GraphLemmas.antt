@@ -1,6 +1,6 @@
 -- The graph of a document's references.
-use Rattle.std.proofs.Common.{◌≡◌, ℕ, ◌+◌, ◌<◌, ◌≤◌, ◌^◌, List, [], ◌∷◌, ◌++◌, length, take, get_or, map, Option, Some, None, refl, sym, ◌∙◌, ap, subst, arith, All}
-use Rattle.std.specs.Prelude.{slice_get, IfSome}
+use Rattle.std.proofs.Common.{◌≡◌, ℕ, ◌+◌, ◌<◌, ◌≤◌, ◌^◌, List, [], ◌∷◌, ◌++◌, length, take, get_or, map, Option, Some, None, refl, sym, ◌∙◌, ap, subst, All}
+use Rattle.std.specs.Prelude.{slice_get}
 use Rattle.std.specs.List.{cons_option, filter_map}
 use Rattle.std.proofs.lemmas.List.{length-map, get_or-map, take_all, take_more}
 use Rattle.std.proofs.lemmas.List.Elements.{All-nil, All-cons, All-map, filter_map-append}
@@ -9,10 +9,10 @@ use Rattle.bspl_parser.specs.declared.document.Declaration.{Declaration}
 use Rattle.bspl_parser.specs.declared.document.Item.{Item}
 use Rattle.bspl_parser.specs.declared.document.Item.TheVariants.{Message, Reference}
 use Rattle.reference_graph.specs.Graph.{AreNodes, IsGraph, successors}
-use Rattle.protocol_limits.specs.Graph.{graph_of, number_of, references_of, target_of}
-use Rattle.protocol_limits.proofs.Numbers.{number_within}
+use Rattle.protocol_limits.specs.Graph.{graph_of, references_of, target_of}
+use Rattle.protocol_limits.proofs.NumberLemmas.{number_within}
 
--- what a mapped list has at the place of an item
+-- what a mapped list has at the index of an item
 pub map_at : {X Y : Type 0} (f : X → Y) (xs : List X) (k : ℕ) (x : X) (d : Y) → slice_get xs k ≡ Some x → get_or (map f xs) k d ≡ f x
 map_at f xs k x d at = get_or-map f xs k x d (slice_get_within xs k x at) ∙ ap f (get_or_from_slice_get xs k x x at)
 
@@ -48,11 +48,15 @@ references_within : (protocols : List Declaration) (items : List Item) → All (
 references_within protocols [] = All-nil (λ b. b < length protocols)
 references_within protocols (i ∷ items) = all_within (length protocols) (target_of protocols i) (filter_map (target_of protocols) items) (target_within protocols i) (references_within protocols items)
 
+-- the references of each protocol are nodes
+pub all_nodes : (protocols : List Declaration) → All (AreNodes (graph_of protocols)) (graph_of protocols)
+unfolding graph_of
+all_nodes protocols = All-map (AreNodes (graph_of protocols)) (references_of protocols) protocols
+    (λ k d within. subst (λ n. All (λ b. b < n) (references_of protocols (get_or protocols k d))) (sym (length_graph protocols)) (references_within protocols (get_or protocols k d).body))
+
 -- it is a graph
 pub graph_is : (protocols : List Declaration) → length protocols < 2 ^ 32 → IsGraph (graph_of protocols)
-unfolding graph_of
 graph_is protocols few = record {
   few = subst (λ n. n < 2 ^ 32) (sym (length_graph protocols)) few;
-  referred = All-map (AreNodes (graph_of protocols)) (references_of protocols) protocols
-      (λ k d within. subst (λ n. All (λ b. b < n) (references_of protocols (get_or protocols k d))) (sym (length_graph protocols)) (references_within protocols (get_or protocols k d).body));
+  referred = all_nodes protocols;
 }

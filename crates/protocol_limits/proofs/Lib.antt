@@ -1,9 +1,10 @@
-pub mod Numbers
-pub mod GraphLemmas
-pub mod MessageLemmas
-pub mod PrivateLemmas
-pub mod WideLemmas
-pub mod WideOrder
-pub mod LimitLemmas
-pub mod MarkLemmas
-pub mod WalkLemmas
+mod NumberLemmas
+mod GraphLemmas
+mod UnrolledLemmas
+mod MessageLemmas
+mod PrivateLemmas
+mod MarkLemmas
+mod OrderLemmas
+mod OversizedLemmas
+mod OversizedOrder
+mod LimitLemmas

@@ -1,92 +1,83 @@
--- The first limit that does not hold.
-use Rattle.std.proofs.Common.{◌≡◌, ℕ, ◌+◌, ◌<◌, ◌≤◌, min, Bool, true, false, cond, List, [], ◌∷◌, length, Option, Some, None, refl, sym, ◌∙◌, ap, subst, arith}
-use Rattle.std.specs.Prelude.{count_by, is_some, nat_lt, slice_get}
-use Rattle.std.specs.List.{filter, find}
-use Rattle.std.specs.Option.{option_map_or}
+-- The limits, their counts at most the last number of 64 bits, and the counts of the top itself.
+use Rattle.std.proofs.Common.{◌≡◌, ℕ, ◌+◌, ◌<◌, Bool, true, false, cond, List, [], ◌∷◌, length, Option, Some, None, refl, sym, ◌∙◌, ap, arith, All}
+use Rattle.std.specs.Prelude.{count_by, is_some, map, nat_lt, slice_get}
+use Rattle.std.specs.List.{find}
+use Rattle.std.specs.Option.{option_map, option_map_or}
 use Rattle.std.proofs.lemmas.Bool.Decides.{nat_tests}
 use Rattle.std.proofs.lemmas.List.{length-map}
+use Rattle.std.proofs.lemmas.List.Elements.{All-from_recursion, All-head, All-tail}
 use Rattle.std.proofs.lemmas.List.Sums.{length-filter}
-use Rattle.bspl_types.specs.declared.limits.TheConstants.{CARRIED_LIMIT, KEY_LIMIT, MESSAGE_LIMIT, PARAM_LIMIT, ROLE_LIMIT}
 use Rattle.bspl_types.specs.declared.refusals.What.{What}
-use Rattle.bspl_types.specs.declared.refusals.What.TheVariants.{Carried, Depth, Keys, Messages, Parameters, Protocols, Roles}
 use Rattle.bspl_parser.specs.declared.document.Declaration.{Declaration}
 use Rattle.bspl_parser.specs.declared.document.Formal.{Formal}
 use Rattle.protocol_names.specs.Names.{key_words}
-use Rattle.reference_graph.specs.Counting.{saturated}
-use Rattle.protocol_limits.specs.declared.bounds.TheConstants.{DEPTH_LIMIT, PROTOCOL_LIMIT}
-use Rattle.protocol_limits.specs.declared.outcome.Stop.{Stop}
-use Rattle.protocol_limits.specs.declared.outcome.Stop.TheVariants.{OutOfMemory, TooMany}
-use Rattle.protocol_limits.specs.Counts.{carried_count, depth, key_count, message_count, param_count, private_count, role_count}
-use Rattle.protocol_limits.specs.Limits.{IsFirstOver, Limit, is_over, limit, limits}
-use Rattle.protocol_limits.specs.Survey.{IsStop}
-use Rattle.protocol_limits.specs.Walked.{IsRefusal}
+use Rattle.reference_graph.specs.PathCounts.{saturated}
+use Rattle.protocol_limits.specs.declared.limit.Limit.{Limit}
+use Rattle.protocol_limits.specs.declared.outcome.LimitError.{LimitError}
+use Rattle.protocol_limits.specs.declared.outcome.LimitError.TheVariants.{OutOfMemory, TooMany}
+use Rattle.protocol_limits.specs.Counts.{key_count, param_count, private_count, role_count}
+use Rattle.protocol_limits.specs.Limits.{AreWithinLimits, is_over, limit, limits, saturated_limit}
+use Rattle.protocol_limits.specs.Survey.{IsLimitError}
+use Rattle.protocol_limits.specs.inner.PathTotals.{NamesFirstOver}
 
--- the first limit does not hold
-pub over_first : (what : What) (count most : ℕ) (rest : List Limit) → most < count → find is_over (limit what count most ∷ rest) ≡ Some (limit what count most)
-over_first what count most rest over =
-    let is : nat_lt most count ≡ true = grind (arith, nat_tests) in
-    ap (λ b. cond b (Some (limit what count most)) (find is_over rest)) is
+-- the limit is one that a number of 64 bits can exceed
+abbrev IsSmall : Limit → Type 0
+IsSmall l = l.most < 18446744073709551615
 
--- the first limit holds
-pub over_later : (what : What) (count most : ℕ) (rest : List Limit) (found : Option Limit) → count ≤ most → find is_over rest ≡ found → find is_over (limit what count most ∷ rest) ≡ found
-over_later what count most rest found within later =
-    let is : nat_lt most count ≡ false = grind (arith, nat_tests) in
-    ap (λ b. cond b (Some (limit what count most)) (find is_over rest)) is ∙ later
+-- a count is over such a limit exactly if the number that it stops at is
+over_same : (n most : ℕ) → most < 18446744073709551615 → nat_lt most (saturated n) ≡ nat_lt most n
+over_same n most small = grind (arith, nat_tests)
 
--- a count is within a limit if the number is that it stops at
-pub within_limit : (n count most : ℕ) → saturated count ≡ saturated n → most < 18446744073709551615 → count ≤ most → n ≤ most
-within_limit n count most same small within = omega (arith, same, small, within)
+-- a limit whose count stops where the other does
+pub limit_is : (what : What) (n count most : ℕ) (l : Limit) → l ≡ limit what (saturated count) most → saturated count ≡ saturated n → l ≡ saturated_limit (limit what n most)
+limit_is what n count most l is same = is ∙ ap (λ k. limit what k most) same
 
 -- a number that was stopped stops where it was
 pub stopped_again : (n count : ℕ) → count ≡ saturated n → saturated count ≡ saturated n
 stopped_again n count is = omega (arith, is)
 
-over_limit : (n count most : ℕ) → saturated count ≡ saturated n → most < 18446744073709551615 → most < count → most < n
-over_limit n count most same small over = omega (arith, same, small, over)
+-- the first limit that is exceeded is the same
+pub find_saturated : (ls : List Limit) → All IsSmall ls → find is_over (map saturated_limit ls) ≡ option_map saturated_limit (find is_over ls)
+find_saturated [] small = refl
+find_saturated (l ∷ ls) small =
+    ap (λ b. cond b (Some (saturated_limit l)) (find is_over (map saturated_limit ls))) (over_same l.count l.most (All-head IsSmall l ls small))
+    ∙ by (nat_lt l.most l.count) (find_saturated ls (All-tail IsSmall l ls small))
+  where
+    by : (b : Bool) → find is_over (map saturated_limit ls) ≡ option_map saturated_limit (find is_over ls) → cond b (Some (saturated_limit l)) (find is_over (map saturated_limit ls)) ≡ option_map saturated_limit (cond b (Some l) (find is_over ls))
+    by true same = refl
+    by false same = same
 
--- a refusal names the first limit that does not hold
-pub stopped : (protocols : List Declaration) (top : ℕ) (what : What) (n count most : ℕ) (stop : Stop) → saturated count ≡ saturated n → most < 18446744073709551615 → (most < n → find is_over (limits protocols top) ≡ Some (limit what n most)) → IsRefusal what count most stop → IsStop protocols top stop
-stopped protocols top what n count most (TooMany w c) same small first refused = record {
-  over = limit what n most;
-  first = first (over_limit n count most same small refused.2);
-  counted = sym refused.0;
-  stops = refused.1 ∙ same;
-}
-stopped protocols top what n count most OutOfMemory same small first refused = absurd refused
+-- each limit can be exceeded
+pub all_small : (protocols : List Declaration) (top : ℕ) → All IsSmall (limits protocols top)
+all_small protocols top = All-from_recursion IsSmall (limits protocols top) (omega arith, (omega arith, (omega arith, (omega arith, (omega arith, (omega arith, (omega arith, tt)))))))
 
--- the limits that are left after each
-abbrev pub after_carried : List Declaration → ℕ → List Limit
-after_carried protocols top = limit Messages (message_count protocols top) MESSAGE_LIMIT ∷ []
+-- no limit is exceeded
+pub none_over : (protocols : List Declaration) (top : ℕ) (ls : List Limit) → ls ≡ map saturated_limit (limits protocols top) → find is_over ls ≡ None → AreWithinLimits protocols top
+none_over protocols top ls are none =
+    by (find is_over (limits protocols top)) (sym (find_saturated (limits protocols top) (all_small protocols top)) ∙ ap (find is_over) (sym are) ∙ none)
+  where
+    by : (o : Option Limit) → option_map saturated_limit o ≡ None → o ≡ None
+    by None same = refl
+    by (Some l) same = absurd cc
 
-abbrev pub after_keys : List Declaration → ℕ → List Limit
-after_keys protocols top = limit Carried (carried_count protocols top) CARRIED_LIMIT ∷ after_carried protocols top
+-- the first limit that is exceeded is reported
+pub first_over : (protocols : List Declaration) (top : ℕ) (ls : List Limit) (error : LimitError) → ls ≡ map saturated_limit (limits protocols top) → NamesFirstOver ls error → IsLimitError protocols top error
+first_over protocols top ls (TooMany what count) are named =
+    let found : option_map saturated_limit (find is_over (limits protocols top)) ≡ Some named.0 = sym (find_saturated (limits protocols top) (all_small protocols top)) ∙ ap (find is_over) (sym are) ∙ named.1 in
+    let over = some_of (find is_over (limits protocols top)) named.0 found in
+    record {
+      over = over.0;
+      first = over.1;
+      counted = ap (λ (l : Limit). l.what) over.2 ∙ named.2;
+      reported = sym named.3 ∙ sym (ap (λ (l : Limit). l.count) over.2);
+    }
+  where
+    some_of : (o : Option Limit) (l : Limit) → option_map saturated_limit o ≡ Some l → (over : Limit) × (o ≡ Some over) × (saturated_limit over ≡ l)
+    some_of None l same = absurd cc
+    some_of (Some over) l same = (over, refl, cc)
+first_over protocols top ls OutOfMemory are named = absurd named
 
-abbrev pub after_params : List Declaration → ℕ → List Limit
-after_params protocols top = limit Keys (key_count protocols top) KEY_LIMIT ∷ after_keys protocols top
-
-abbrev pub after_roles : List Declaration → ℕ → List Limit
-after_roles protocols top = limit Parameters (param_count protocols top) PARAM_LIMIT ∷ after_params protocols top
-
-abbrev pub after_depth : List Declaration → ℕ → List Limit
-after_depth protocols top = limit Roles (role_count protocols top) ROLE_LIMIT ∷ after_roles protocols top
-
-abbrev pub after_protocols : List Declaration → ℕ → List Limit
-after_protocols protocols top = limit Depth (depth protocols top) DEPTH_LIMIT ∷ after_depth protocols top
-
--- what is found among these limits is found among all
-abbrev pub Passes : List Declaration → ℕ → List Limit → Type 0
-Passes protocols top rest = (found : Option Limit) → find is_over rest ≡ found → find is_over (limits protocols top) ≡ found
-
--- one limit more holds
-pub pass : (protocols : List Declaration) (top : ℕ) (what : What) (n count most : ℕ) (rest : List Limit) → saturated count ≡ saturated n → most < 18446744073709551615 → count ≤ most → Passes protocols top (limit what n most ∷ rest) → Passes protocols top rest
-pass protocols top what n count most rest same small within before = λ found is. before found (over_later what n most rest found (within_limit n count most same small within) is)
-
--- the next limit does not hold
-pub stop : (protocols : List Declaration) (top : ℕ) (what : What) (n count most : ℕ) (rest : List Limit) (why : Stop) → saturated count ≡ saturated n → most < 18446744073709551615 → IsRefusal what count most why → Passes protocols top (limit what n most ∷ rest) → IsStop protocols top why
-stop protocols top what n count most rest why same small refused before =
-    stopped protocols top what n count most why same small (λ over. before (Some (limit what n most)) (over_first what n most rest over)) refused
-
--- what is counted of the top itself
+-- what is counted of the top protocol itself
 pub roles_at : (protocols : List Declaration) (top : ℕ) (p : Declaration) → slice_get protocols top ≡ Some p → role_count protocols top ≡ length p.roles
 unfolding role_count
 roles_at protocols top p at = ap (λ o. option_map_or (λ (q : Declaration). length q.roles) o 0) at

@@ -1,37 +1,33 @@
--- What is reached stands in the order, and what the marks tell.
-use Rattle.std.proofs.Common.{◌≡◌, ◌≢◌, ℕ, zero, suc, ◌+◌, ◌<◌, ◌≤◌, Bool, true, false, List, [], ◌∷◌, length, replicate, set, Some, Ok, Err, Result, IfOk, refl, sym, ◌∙◌, ap, subst, arith, inl, inr, Contains}
+-- What is reached is in the order, and what the marks say.
+use Rattle.std.proofs.Common.{◌≡◌, ◌≢◌, ℕ, zero, suc, ◌+◌, ◌<◌, ◌≤◌, Bool, true, false, List, [], ◌∷◌, length, replicate, set, Some, refl, sym, ◌∙◌, ap, subst, arith, inl, inr, Contains}
 use Rattle.std.specs.Prelude.{◌↔◌, IsTrue, not, slice_get}
 use Rattle.std.proofs.lemmas.Bool.{cases_eq, cases_lt, true≢false}
 use Rattle.std.proofs.lemmas.List.{get_or-replicate, length-replicate}
 use Rattle.std.proofs.lemmas.List.Elements.{Contains-push}
 use Rattle.std.proofs.lemmas.Option.{slice_get_within, get_or_from_slice_get, same_Some}
-use Rattle.list_base.specs.declared.memory.NoMemory.{NoMemory}
 use Rattle.bspl_parser.specs.declared.document.Declaration.{Declaration}
 use Rattle.reference_graph.specs.Path.{IsReached}
 use Rattle.reference_graph.specs.Order.{IsOrder}
-use Rattle.reference_graph.specs.Counting.{saturated}
-use Rattle.reference_graph.proofs.Membership.{member_at, place_of}
-use Rattle.reference_graph.proofs.OrderLemmas.{ends_earlier}
-use Rattle.protocol_paths.specs.declared.marks.Skippable.{Skippable}
+use Rattle.reference_graph.specs.PathCounts.{saturated}
+use Rattle.list_base.proofs.Membership.{member_at, index_of}
+use Rattle.reference_graph.specs.Laws.{OrdersHaveTheReached, WeightsAddUp}
+use Rattle.protocol_paths.specs.declared.skippable.Skippable.{Skippable}
 use Rattle.protocol_paths.specs.Skippable.{AreSkippable, IsMarked}
 use Rattle.protocol_paths.specs.Path.{message_paths, private_words}
 use Rattle.protocol_limits.specs.Counts.{message_count, private_count}
 use Rattle.protocol_limits.specs.Graph.{graph_of}
 use Rattle.protocol_limits.specs.Marking.{IsMarking}
-use Rattle.protocol_limits.specs.Walked.{AreCounts}
+use Rattle.protocol_limits.specs.inner.SortedDocument.{AreCounts}
 use Rattle.protocol_limits.proofs.MessageLemmas.{messages_counted}
 use Rattle.protocol_limits.proofs.PrivateLemmas.{privates_counted}
 
--- the start stands in its order
-pub start_place : (g : List (List ℕ)) (start : ℕ) (order : List ℕ) → IsOrder g start order → (k : ℕ) × (slice_get order k ≡ Some start)
-start_place g start order is_order = place_of order start (subst (λ (xs : List ℕ). Contains xs start) (sym is_order.last) (Contains-push is_order.front start))
+-- the start is in its order
+pub start_index : (g : List (List ℕ)) (start : ℕ) (order : List ℕ) → IsOrder g start order → (k : ℕ) × (slice_get order k ≡ Some start)
+start_index g start order is_order = index_of order start (subst (λ (xs : List ℕ). Contains xs start) (sym is_order.last) (Contains-push is_order.before start))
 
--- so does what is reached
-pub reached_place : (g : List (List ℕ)) (start a : ℕ) (order : List ℕ) → IsOrder g start order → IsReached g start a → (k : ℕ) × (slice_get order k ≡ Some a)
-reached_place g start a order is_order reached =
-    let at = start_place g start order is_order in
-    let end = ends_earlier g order is_order.topological reached.path start at.0 at.1 reached.is_path in
-    (end.0, end.1 ∙ ap Some reached.ends)
+-- so is what is reached
+pub reached_index : OrdersHaveTheReached → (g : List (List ℕ)) (start a : ℕ) (order : List ℕ) → IsOrder g start order → IsReached g start a → (k : ℕ) × (slice_get order k ≡ Some a)
+reached_index have g start a order is_order reached = index_of order a (have g start a order is_order reached)
 
 -- the count of a node of the order
 pub count_of : (count : ℕ → ℕ) (order counts : List ℕ) (k a : ℕ) → AreCounts count order counts → slice_get order k ≡ Some a → slice_get counts a ≡ Some (saturated (count a))
@@ -49,31 +45,31 @@ nothing_in [] n long none = refl
 nothing_in (x ∷ xs) n long none = absurd (omega arith)
 
 -- the marks of messages
-no_message : (protocols : List Declaration) (marks : List Bool) → ((k : ℕ) → slice_get marks k ≡ Some false → message_count protocols k ≡ 0) → (q : Declaration) → IsMarked protocols marks q → message_paths (length protocols) protocols q ≡ []
+no_message : WeightsAddUp → (protocols : List Declaration) (marks : List Bool) → ((k : ℕ) → slice_get marks k ≡ Some false → message_count protocols k ≡ 0) → (q : Declaration) → IsMarked protocols marks q → message_paths (length protocols) protocols q ≡ []
 unfolding message_count
-no_message protocols marks none q marked =
-    nothing_in (message_paths (length protocols) protocols q) (message_count protocols marked.number) (messages_counted (length protocols) marked.number protocols q marked.stands) (none marked.number marked.closed)
+no_message adds protocols marks none q marked =
+    nothing_in (message_paths (length protocols) protocols q) (message_count protocols marked.number) (messages_counted adds (length protocols) marked.number protocols q marked.declared) (none marked.number marked.skipped)
 
 -- the marks of private parameters
-no_private : (protocols : List Declaration) (marks : List Bool) → ((k : ℕ) → slice_get marks k ≡ Some false → private_count protocols k ≡ 0) → (q : Declaration) → IsMarked protocols marks q → private_words (length protocols) protocols q ≡ []
+no_private : WeightsAddUp → (protocols : List Declaration) (marks : List Bool) → ((k : ℕ) → slice_get marks k ≡ Some false → private_count protocols k ≡ 0) → (q : Declaration) → IsMarked protocols marks q → private_words (length protocols) protocols q ≡ []
 unfolding private_count
-no_private protocols marks none q marked =
-    nothing_in (private_words (length protocols) protocols q) (private_count protocols marked.number) (privates_counted (length protocols) marked.number protocols q marked.stands) (none marked.number marked.closed)
+no_private adds protocols marks none q marked =
+    nothing_in (private_words (length protocols) protocols q) (private_count protocols marked.number) (privates_counted adds (length protocols) marked.number protocols q marked.declared) (none marked.number marked.skipped)
 
 -- marks that lend the two lists are right
-pub lent : (protocols : List Declaration) (top : ℕ) (messages privates : List Bool) → IsMarking (graph_of protocols) top (message_count protocols) messages → IsMarking (graph_of protocols) top (private_count protocols) privates → (marks : Skippable) → marks.messages.now ≡ messages → marks.privates.now ≡ privates → AreSkippable protocols marks
-lent protocols top messages privates of_messages of_privates marks is_messages is_privates = record {
-  messages = λ q marked. no_message protocols messages of_messages.none q (subst (λ (ms : List Bool). IsMarked protocols ms q) is_messages marked);
-  privates = λ q marked. no_private protocols privates of_privates.none q (subst (λ (ms : List Bool). IsMarked protocols ms q) is_privates marked);
+pub lent : WeightsAddUp → (protocols : List Declaration) (top : ℕ) (messages privates : List Bool) → IsMarking (graph_of protocols) top (message_count protocols) messages → IsMarking (graph_of protocols) top (private_count protocols) privates → (marks : Skippable) → marks.messages.now ≡ messages → marks.privates.now ≡ privates → AreSkippable protocols marks
+lent adds protocols top messages privates of_messages of_privates marks is_messages is_privates = record {
+  messages = λ q marked. no_message adds protocols messages of_messages.none q (subst (λ (ms : List Bool). IsMarked protocols ms q) is_messages marked);
+  privates = λ q marked. no_private adds protocols privates of_privates.none q (subst (λ (ms : List Bool). IsMarked protocols ms q) is_privates marked);
 }
 
--- what is written stands at its place
+-- an item that is set is at its index
 set_here : {X : Type 0} (xs : List X) (i : ℕ) (x : X) → i < length xs → slice_get (set xs i x) i ≡ Some x
 set_here [] i x within = absurd (omega arith)
 set_here (y ∷ xs) zero x within = refl
 set_here (y ∷ xs) (suc i) x within = set_here xs i x (omega arith)
 
--- and all else stands as before
+-- all others stay
 set_there : {X : Type 0} (xs : List X) (i j : ℕ) (x : X) → j ≢ i → slice_get (set xs i x) j ≡ slice_get xs j
 set_there [] i j x other = refl
 set_there (y ∷ xs) zero zero x other = absurd (other refl)
@@ -125,18 +121,13 @@ one_marked order counts marks i a b at within tells marked = record { none = non
       ]
     ]
 
--- once the order is passed, the marks tell the counts
-pub all_marked : (g : List (List ℕ)) (top : ℕ) (count : ℕ → ℕ) (order counts : List ℕ) (marks : List Bool) (i : ℕ) → IsOrder g top order → length order ≤ i → AreCounts count order counts → AreMarked order counts marks i → IsMarking g top count marks
-all_marked g top count order counts marks i is_order passed are marked = record {
+-- once the order is passed, the marks are right
+pub all_marked : OrdersHaveTheReached → (g : List (List ℕ)) (top : ℕ) (count : ℕ → ℕ) (order counts : List ℕ) (marks : List Bool) (i : ℕ) → IsOrder g top order → length order ≤ i → AreCounts count order counts → AreMarked order counts marks i → IsMarking g top count marks
+all_marked have g top count order counts marks i is_order passed are marked = record {
   none = λ a is. let found = marked.none a is in
-      let place = place_of order a found.0 in
-      stopped_zero (count a) (same_Some (saturated (count a)) 0 (sym (count_of count order counts place.0 a are place.1) ∙ found.1));
-  all = λ a reached nothing. let place = reached_place g top a order is_order reached in
-      marked.all place.0 a (omega (arith, slice_get_within order place.0 a place.1, passed)) place.1
-      (count_of count order counts place.0 a are place.1 ∙ ap (λ n. Some (saturated n)) nothing);
+      let index = index_of order a found.0 in
+      stopped_zero (count a) (same_Some (saturated (count a)) 0 (sym (count_of count order counts index.0 a are index.1) ∙ found.1));
+  all = λ a reached nothing. let index = reached_index have g top a order is_order reached in
+      marked.all index.0 a (omega (arith, slice_get_within order index.0 a index.1, passed)) index.1
+      (count_of count order counts index.0 a are index.1 ∙ ap (λ n. Some (saturated n)) nothing);
 }
-
--- what holds of the marks holds of a list of them
-pub told_marks : (result : Result (List Bool) NoMemory) (marks : List Bool) (P : List Bool → Type 0) {items : List Bool} → IfOk result (λ list. list ≡ items) → items ≡ marks → P marks → IfOk result P
-told_marks (Ok list) marks P are same holds = subst P (sym (are ∙ same)) holds
-told_marks (Err refusal) marks P are same holds = tt

@@ -1,5 +1,5 @@
 -- There are as many messages at the ends of paths as the paths have, each weighed by the messages of the protocol where it ends.
-use Rattle.std.proofs.Common.{◌≡◌, ℕ, zero, suc, ◌+◌, List, [], ◌∷◌, ◌++◌, ◌⊎◌, inl, inr, length, get_or, map, Option, Some, None, refl, sym, ◌∙◌, ap, arith, length-append}
+use Rattle.std.proofs.Common.{◌≡◌, ℕ, zero, suc, ◌+◌, List, [], ◌∷◌, inl, inr, length, get_or, map, Option, Some, None, refl, sym, ◌∙◌, ap, arith, length-append}
 use Rattle.std.specs.Prelude.{cond, count_by, slice_get}
 use Rattle.std.specs.List.{cons_option, enumerate_from, filter_map, flat_map, sum_by}
 use Rattle.std.specs.Option.{option_map_or}
@@ -10,13 +10,12 @@ use Rattle.bspl_parser.specs.declared.document.Item.{Item}
 use Rattle.bspl_parser.specs.declared.document.Item.TheVariants.{Message, Reference}
 use Rattle.bspl_parser.specs.declared.document.Reference.{Reference as Use}
 use Rattle.protocol_names.specs.Names.{declared_word, protocol_of}
-use Rattle.protocol_paths.specs.Path.{behind, item_messages, message_paths, steps_at, Step}
-use Rattle.reference_graph.specs.Counting.{weight_below}
-use Rattle.reference_graph.proofs.WeightLemmas.{weight_below-zero, weight_below-suc}
-use Rattle.reference_graph.specs.Graph.{successors}
+use Rattle.protocol_paths.specs.Path.{through, item_messages, message_paths, Step}
+use Rattle.reference_graph.specs.PathCounts.{weight_below}
+use Rattle.reference_graph.specs.Laws.{WeightsAddUp}
 use Rattle.protocol_limits.specs.Counts.{is_message, own_messages}
-use Rattle.protocol_limits.specs.Graph.{graph_of, number_of, target_of}
-use Rattle.protocol_limits.proofs.Numbers.{number_cases}
+use Rattle.protocol_limits.specs.Graph.{graph_of, protocol_number, target_of}
+use Rattle.protocol_limits.proofs.NumberLemmas.{number_cases}
 use Rattle.protocol_limits.proofs.GraphLemmas.{map_at, successors_at}
 
 -- the step by a reference that leads to the protocol
@@ -29,21 +28,21 @@ sum_option f None rest = omega arith
 sum_option f (Some k) rest = sum_by-cons f k rest
 
 -- the messages behind a reference
-behind_length : (n position : ℕ) (protocols : List Declaration) (r : Use) (found : Option Declaration) → length (flat_map (λ s. map (behind s) (message_paths n protocols s.target)) (option_map_or (λ q. step position r q ∷ []) found [])) ≡ option_map_or (λ q. length (message_paths n protocols q)) found 0
-behind_length n position protocols r None = refl
-behind_length n position protocols r (Some q) =
-    let there = map (behind (step position r q)) (message_paths n protocols q) in
+through_length : (n position : ℕ) (protocols : List Declaration) (r : Use) (found : Option Declaration) → length (flat_map (λ s. map (through s) (message_paths n protocols s.target)) (option_map_or (λ q. step position r q ∷ []) found [])) ≡ option_map_or (λ q. length (message_paths n protocols q)) found 0
+through_length n position protocols r None = refl
+through_length n position protocols r (Some q) =
+    let there = map (through (step position r q)) (message_paths n protocols q) in
     length-append there [] ∙ (let long : length there ≡ length (message_paths n protocols q) = length-map _ _ in omega (arith, long))
 
 -- what holds of the protocols one step on
-abbrev pub AreSame : (Declaration → ℕ) → (ℕ → ℕ) → List Declaration → Type 0
+abbrev pub AreSame : {Y : Type 0} → (Declaration → Y) → (ℕ → Y) → List Declaration → Type 0
 AreSame count f protocols = (k : ℕ) (q : Declaration) → slice_get protocols k ≡ Some q → count q ≡ f k
 
 -- a count of the protocol of a name is that of its number
-pub same_target : (count : Declaration → ℕ) (f : ℕ → ℕ) (protocols : List Declaration) (name : List ℕ) → AreSame count f protocols → option_map_or count (protocol_of protocols name) 0 ≡ option_map_or f (number_of protocols name) 0
-same_target count f protocols name same = elim (number_cases protocols name) [
-  | inl none ↦ ap (λ o. option_map_or count o 0) none.1 ∙ sym (ap (λ o. option_map_or f o 0) none.0)
-  | inr some ↦ ap (λ o. option_map_or count o 0) some.3 ∙ same some.0 some.1 some.4 ∙ sym (ap (λ o. option_map_or f o 0) some.2)
+pub same_target : {Y : Type 0} (d : Y) (count : Declaration → Y) (f : ℕ → Y) (protocols : List Declaration) (name : List ℕ) → AreSame count f protocols → option_map_or count (protocol_of protocols name) d ≡ option_map_or f (protocol_number protocols name) d
+same_target d count f protocols name same = elim (number_cases protocols name) [
+  | inl none ↦ ap (λ o. option_map_or count o d) none.1 ∙ sym (ap (λ o. option_map_or f o d) none.0)
+  | inr some ↦ ap (λ o. option_map_or count o d) some.3 ∙ same some.0 some.1 some.4 ∙ sym (ap (λ o. option_map_or f o d) some.2)
 ]
 
 items_zero : (protocols : List Declaration) (position : ℕ) (items : List Item) → length (flat_map (item_messages 0 protocols) (enumerate_from position items)) ≡ length (flat_map declared_word items)
@@ -57,19 +56,19 @@ items_suc n protocols f same position (Message m ∷ items) = omega (arith, item
 items_suc n protocols f same position (Reference r ∷ items) =
     let here = item_messages (suc n) protocols (position, Reference r) in
     let rest = flat_map (item_messages (suc n) protocols) (enumerate_from (position + 1) items) in
-    let one : length here ≡ option_map_or f (number_of protocols r.protocol.text) 0 = behind_length n position protocols r (protocol_of protocols r.protocol.text) ∙ same_target (λ q. length (message_paths n protocols q)) f protocols r.protocol.text same in
-    omega (arith, length-append here rest, one, items_suc n protocols f same (position + 1) items, sum_option f (number_of protocols r.protocol.text) (filter_map (target_of protocols) items))
+    let one : length here ≡ option_map_or f (protocol_number protocols r.protocol.text) 0 = through_length n position protocols r (protocol_of protocols r.protocol.text) ∙ same_target 0 (λ q. length (message_paths n protocols q)) f protocols r.protocol.text same in
+    omega (arith, length-append here rest, one, items_suc n protocols f same (position + 1) items, sum_option f (protocol_number protocols r.protocol.text) (filter_map (target_of protocols) items))
 
 -- the law, by the number of steps
-pub messages_counted : (n number : ℕ) (protocols : List Declaration) (p : Declaration) → slice_get protocols number ≡ Some p → length (message_paths n protocols p) ≡ weight_below n (graph_of protocols) (map own_messages protocols) number
-messages_counted zero number protocols p at =
-    items_zero protocols 1 p.body ∙ sym (map_at own_messages protocols number p 0 at) ∙ sym (weight_below-zero (graph_of protocols) (map own_messages protocols) number)
-messages_counted (suc n) number protocols p at =
+pub messages_counted : WeightsAddUp → (n number : ℕ) (protocols : List Declaration) (p : Declaration) → slice_get protocols number ≡ Some p → length (message_paths n protocols p) ≡ weight_below n (graph_of protocols) (map own_messages protocols) number
+messages_counted adds zero number protocols p at =
+    items_zero protocols 1 p.body ∙ sym (map_at own_messages protocols number p 0 at) ∙ sym (adds.at_node (graph_of protocols) (map own_messages protocols) number)
+messages_counted adds (suc n) number protocols p at =
     let f = weight_below n (graph_of protocols) (map own_messages protocols) in
-    items_suc n protocols f (λ k q. messages_counted n k protocols q) 1 p.body
+    items_suc n protocols f (λ k q. messages_counted adds n k protocols q) 1 p.body
     ∙ ap (λ m. m + sum_by f (filter_map (target_of protocols) p.body)) (sym (map_at own_messages protocols number p 0 at))
     ∙ ap (λ (bs : List ℕ). get_or (map own_messages protocols) number 0 + sum_by f bs) (sym (successors_at protocols number p at))
-    ∙ sym (weight_below-suc (graph_of protocols) (map own_messages protocols) n number)
+    ∙ sym (adds.below (graph_of protocols) (map own_messages protocols) n number)
 
 -- the messages of a body, by a test of its items
 pub messages_by_test : (items : List Item) → length (flat_map declared_word items) ≡ count_by is_message items

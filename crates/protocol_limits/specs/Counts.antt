@@ -1,14 +1,16 @@
 -- What is counted of the expansion of a protocol, which is given by its number.
-use Rattle.std.specs.Prelude.{ℕ, ◌+◌, Bool, true, false, List, length, map, nat_lt, slice_get}
+use Rattle.std.specs.Prelude.{ℕ, ◌+◌, Bool, true, false, List, length, map, nat_lt, Option, None}
+use Rattle.std.specs.Prelude.{slice_get}
 use Rattle.std.specs.List.{find}
-use Rattle.std.specs.Option.{option_map_or}
-use Rattle.bspl_types.specs.declared.limits.TheConstants.{CARRIED_LIMIT}
+use Rattle.std.specs.Option.{option_map, option_map_or}
+use Rattle.bspl_types.specs.Limits.{carried_limit}
 use Rattle.bspl_parser.specs.declared.document.Declaration.{Declaration}
 use Rattle.bspl_parser.specs.declared.document.Item.{Item}
 use Rattle.bspl_parser.specs.declared.document.Item.TheVariants.{Message, Reference}
+use Rattle.bspl_parser.specs.declared.document.Schema.{Schema}
 use Rattle.protocol_names.specs.Names.{key_words, message_words}
-use Rattle.reference_graph.specs.Counting.{depth_within, weight_below}
-use Rattle.protocol_paths.specs.Path.{message_paths}
+use Rattle.reference_graph.specs.PathCounts.{depth_within, weight_below}
+use Rattle.protocol_paths.specs.Path.{Step, message_paths}
 use Rattle.protocol_limits.specs.Graph.{graph_of}
 
 -- what is counted of the protocol of the number
@@ -30,7 +32,8 @@ own_privates p = length p.private
 
 -- something of each protocol, summed up over all paths of references
 abbrev pub count_below : (Declaration → ℕ) → List Declaration → ℕ → ℕ
-count_below own protocols top = weight_below (length protocols) (graph_of protocols) (map own protocols) top
+count_below own protocols top = weight_below (length protocols) (graph_of protocols)
+    (map own protocols) top
 
 -- how many messages the expansion has
 unfoldable pub message_count : List Declaration → ℕ → ℕ
@@ -42,7 +45,8 @@ private_count protocols top = count_below own_privates protocols top
 
 -- how many parameters the expansion has, public and private
 unfoldable pub param_count : List Declaration → ℕ → ℕ
-param_count protocols top = count_at (λ p. length p.public) protocols top + private_count protocols top
+param_count protocols top =
+    count_at (λ p. length p.public) protocols top + private_count protocols top
 
 -- how many references the longest path has
 unfoldable pub depth : List Declaration → ℕ → ℕ
@@ -56,10 +60,17 @@ role_count protocols top = count_at (λ p. length p.roles) protocols top
 unfoldable pub key_count : List Declaration → ℕ → ℕ
 key_count protocols top = count_at (λ p. length (key_words p)) protocols top
 
--- the number of parameters of the first message, through at most `n` references, that has too many; 0 where none has
-abbrev pub wide_within : ℕ → List Declaration → Declaration → ℕ
-wide_within n protocols p = option_map_or (λ (path, m). length m.params) (find (λ (path, m). nat_lt CARRIED_LIMIT (length m.params)) (message_paths n protocols p)) 0
+-- a message carries too many parameters
+abbrev pub is_oversized : List Step × Schema → Bool
+is_oversized (path, m) = nat_lt carried_limit (length m.params)
 
--- the number of parameters of the first message of the expansion that has too many; 0 where none has
-unfoldable pub carried_count : List Declaration → ℕ → ℕ
-carried_count protocols top = count_at (wide_within (length protocols) protocols) protocols top
+-- the number of parameters of the first message, through at most `n` references, that carries too
+-- many
+abbrev pub oversized_within : ℕ → List Declaration → Declaration → Option ℕ
+oversized_within n protocols p = option_map (λ (path, m). length m.params)
+    (find is_oversized (message_paths n protocols p))
+
+-- the number of parameters of the first message of the expansion that carries too many
+unfoldable pub first_oversized : List Declaration → ℕ → Option ℕ
+first_oversized protocols top = option_map_or (oversized_within (length protocols) protocols)
+    (slice_get protocols top) None

@@ -7,13 +7,14 @@ use Rattle.bspl_parser.specs.declared.document.Item.{Item}
 use Rattle.bspl_parser.specs.declared.document.Item.TheVariants.{Message, Reference}
 
 -- the number of the first protocol of the name
-abbrev pub number_of : List Declaration → List ℕ → Option ℕ
-number_of protocols name = position (λ p. bytes_eq p.name.text name) protocols
+abbrev pub protocol_number : List Declaration → List ℕ → Option ℕ
+protocol_number protocols name = position (λ p. bytes_eq p.name.text name) protocols
 
--- the number of the protocol that an item refers to: none for a message, or where no protocol has the name
+-- the number of the protocol that an item refers to: none for a message, or if no protocol has the
+-- name
 abbrev pub target_of : List Declaration → Item → Option ℕ
 target_of protocols (Message m) = None
-target_of protocols (Reference r) = number_of protocols r.protocol.text
+target_of protocols (Reference r) = protocol_number protocols r.protocol.text
 
 -- the numbers of the protocols that a protocol refers to, in the order of its body
 abbrev pub references_of : List Declaration → Declaration → List ℕ

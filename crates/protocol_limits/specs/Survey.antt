@@ -1,40 +1,44 @@
--- What speaks against the expansion of a protocol, which is given by its number.
-use Rattle.std.specs.Prelude.{ℕ, Bool, List}
+-- Whether a protocol, which is given by its number, may be expanded.
+use Rattle.std.specs.Prelude.{◌≡◌, ℕ, Bool, List, Some, slice_get}
 use Rattle.bspl_types.specs.declared.refusals.What.{What}
 use Rattle.bspl_parser.specs.declared.document.Declaration.{Declaration}
-use Rattle.reference_graph.specs.Closed.{IsFirstClosed}
-use Rattle.reference_graph.specs.Order.{IsOrder}
-use Rattle.protocol_limits.specs.declared.outcome.Stop.{Stop}
-use Rattle.protocol_limits.specs.declared.outcome.Stop.TheVariants.{OutOfMemory, TooMany}
+use Rattle.reference_graph.specs.Cycle.{IsAcyclic, IsFirstCycle}
+use Rattle.protocol_paths.specs.ReferencePath.{IsWithinDepth}
+use Rattle.protocol_limits.specs.declared.outcome.LimitError.{LimitError}
+use Rattle.protocol_limits.specs.declared.outcome.LimitError.TheVariants.{OutOfMemory, TooMany}
 use Rattle.protocol_limits.specs.declared.outcome.Survey.{Survey}
 use Rattle.protocol_limits.specs.declared.outcome.Survey.TheVariants.{Cycle, Over, Within}
 use Rattle.protocol_limits.specs.Graph.{graph_of}
-use Rattle.protocol_limits.specs.Limits.{IsFirstOver, IsWithin}
-use Rattle.protocol_limits.specs.Marking.{AreTold}
+use Rattle.protocol_limits.specs.Limits.{AreWithinLimits, IsFirstOver}
+use Rattle.protocol_limits.specs.Marking.{AreReported}
 
--- what is reached has an order, in which each protocol stands after all that it refers to: none is met again
-pub record IsUnrolled (protocols : List Declaration) (top : ℕ) : Type 0 where
-  pub order : List ℕ
-  pub is_order : IsOrder (graph_of protocols) top order
+-- no path of references from the protocol is a cycle
+abbrev pub IsUnrolled : List Declaration → ℕ → Type 0
+IsUnrolled protocols top = IsAcyclic (graph_of protocols) top
 
--- why counting stops: memory ran out, or a count is over its limit
-abbrev pub IsStop : List Declaration → ℕ → Stop → Type 0
-IsStop protocols top (TooMany what count) = IsFirstOver protocols top what count
-IsStop protocols top OutOfMemory = Unit {0}
-
--- no protocol is met again, and a count is over its limit
-pub record IsTooLarge (protocols : List Declaration) (top : ℕ) (what : What) (count : ℕ) : Type 0 where
+-- no path is a cycle, and a count is over its limit
+pub record IsTooLarge (protocols : List Declaration) (top : ℕ) (what : What)
+    (count : ℕ) : Type 0 where
   pub unrolled : IsUnrolled protocols top
   pub over : IsFirstOver protocols top what count
 
--- no protocol is met again, all counts are within their limits, and the marks are right
-pub record IsExpandable (protocols : List Declaration) (top : ℕ) (messages privates : List Bool) : Type 0 where
+-- no path is a cycle, all counts are within their limits, no path has more references than the
+-- depth, and the marks are right
+pub record IsExpandable (protocols : List Declaration) (top depth : ℕ)
+    (messages privates : List Bool) : Type 0 where
   pub unrolled : IsUnrolled protocols top
-  pub within : IsWithin protocols top
-  pub told : AreTold protocols top messages privates
+  pub within : AreWithinLimits protocols top
+  pub deep : (p : Declaration) → slice_get protocols top ≡ Some p → IsWithinDepth protocols p depth
+  pub marks : AreReported protocols top messages privates
 
--- a protocol that the walk is the first to meet again, a count over its limit, or neither
+-- the protocol where the first cycle ends, a count over its limit, or neither
 abbrev pub IsSurvey : List Declaration → ℕ → Survey → Type 0
-IsSurvey protocols top (Cycle node) = IsFirstClosed (graph_of protocols) top node
+IsSurvey protocols top (Cycle node) = IsFirstCycle (graph_of protocols) top node
 IsSurvey protocols top (Over what count) = IsTooLarge protocols top what count
-IsSurvey protocols top (Within messages privates) = IsExpandable protocols top messages privates
+IsSurvey protocols top (Within depth messages privates) =
+    IsExpandable protocols top depth messages privates
+
+-- a count is over its limit, or memory ran out
+abbrev pub IsLimitError : List Declaration → ℕ → LimitError → Type 0
+IsLimitError protocols top (TooMany what count) = IsFirstOver protocols top what count
+IsLimitError protocols top OutOfMemory = Unit {0}

@@ -1,5 +1,5 @@
-/// The most protocols that a document has.
+/// The most protocols that a document may declare.
 pub const PROTOCOL_LIMIT: usize = 64;
 
-/// The most references that a path has.
+/// The most references that a path may have.
 pub const DEPTH_LIMIT: usize = 8;

@@ -1,29 +1,29 @@
 ghost use Rattle.std.specs.Prelude.{◌≡◌, ℕ, count_by, is_some, IfOk};
-ghost use Rattle.reference_graph.specs.Counting.{saturated};
+ghost use Rattle.reference_graph.specs.PathCounts.{saturated};
 ghost use Rattle.protocol_limits.specs.Counts.{depth};
-ghost use Rattle.protocol_limits.specs.Walked.{AreCounts, IsWalked, document_of};
+ghost use Rattle.protocol_limits.specs.inner.SortedDocument.{AreCounts, IsSorted, sorted_protocols};
 
-use super::walked::Walked;
+use super::sorted_document::SortedDocument;
 use bspl_parser::{Declaration, Formal};
 use bspl_types::NoMemory;
 use reference_graph::depths;
 
 /// How many references the longest path from the top has.
-pub(crate) fn depth(walked: &Walked) -> Result<u64, NoMemory>
-    requires { IsWalked walked.now }
-    ensures { IfOk result (λ n. n ≡ depth (document_of walked.now) walked.now.top) }
+pub(crate) fn depth(document: &SortedDocument) -> Result<u64, NoMemory>
+    requires { IsSorted document.now }
+    ensures { IfOk result (λ n. n ≡ depth (sorted_protocols document.now) document.now.top) }
 {
-    let depths = depths(walked.alloc, walked.graph, walked.order)?;
-    Ok(*depths.at(walked.top as usize))
+    let depths = depths(document.alloc, document.graph, document.order)?;
+    Ok(*depths.at(document.top as usize))
 }
 
-/// What was counted at the top.
-pub(crate) fn at_top(walked: &Walked, counts: &[u64]) -> u64
-    requires { IsWalked walked.now }
-    ensures { (count : ℕ → ℕ) → AreCounts count walked.now.order.now counts.now →
-        result ≡ saturated (count walked.now.top) }
+/// The count of the top protocol.
+pub(crate) fn at_top(document: &SortedDocument, counts: &[u64]) -> u64
+    requires { IsSorted document.now }
+    ensures { (count : ℕ → ℕ) → AreCounts count document.now.order.now counts.now →
+        result ≡ saturated (count document.now.top) }
 {
-    match counts.get(walked.top as usize) {
+    match counts.get(document.top as usize) {
         Some(count) => *count,
         None => 0,
     }
@@ -36,6 +36,7 @@ pub(crate) fn key_count(protocol: &Declaration) -> usize
     keys_among(protocol.public.as_slice())
 }
 
+/// How many of the parameters are keys.
 fn keys_among(public: &[Formal]) -> usize
     ensures { result ≡ count_by (λ f. is_some f.key) public.now }
 {

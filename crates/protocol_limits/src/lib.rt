@@ -1,21 +1,24 @@
-//! Whether a protocol may be expanded: the first protocol met again, and the counts.
+//! Whether a protocol may be expanded: the first cycle of its references, and the limits.
 #![tactic(auto)]
 
 mod bounds;
-mod carried;
 mod counts;
-mod judging;
 mod laws;
-mod marking;
+mod limit;
+mod limits;
+mod marks;
 mod outcome;
+mod oversized;
+mod path_totals;
+mod precheck;
 mod references;
-mod surveying;
-#[cfg(test)]
-mod tests;
-mod walked;
+mod sorted_document;
 mod weights;
 
 pub use bounds::{DEPTH_LIMIT, PROTOCOL_LIMIT};
-pub use laws::{messages_are_counted, privates_are_counted};
+pub use laws::{
+    messages_are_counted, numbers_are_of_protocols, privates_are_counted, references_are_a_graph,
+    unrolled_have_orders, unrolled_paths_are_short,
+};
 pub use outcome::Survey;
-pub use surveying::survey;
+pub use precheck::survey;

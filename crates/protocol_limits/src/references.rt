@@ -20,6 +20,7 @@ pub(crate) fn graph_of(alloc: Global, directory: &ProtocolTable) -> Result<Graph
     Ok(Graph::of(lists))
 }
 
+/// The numbers of the protocols that the protocol refers to, in the order of its body.
 fn references_of(
     alloc: Global,
     directory: &ProtocolTable,
@@ -36,6 +37,7 @@ fn references_of(
     Ok(numbers)
 }
 
+/// Adds the number of the protocol that the item refers to, if it refers to one.
 fn add_target(
     directory: &ProtocolTable,
     item: &Item,
@@ -58,6 +60,6 @@ pub(crate) fn target_of(directory: &ProtocolTable, item: &Item) -> Option<usize>
 {
     match item {
         Item::Message(_) => None,
-        Item::Reference(reference) => { directory.names.place(reference.protocol.text.as_slice()) }
+        Item::Reference(reference) => { directory.names.index(reference.protocol.text.as_slice()) }
     }
 }

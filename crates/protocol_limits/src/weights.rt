@@ -1,34 +1,45 @@
 ghost use Rattle.std.specs.Prelude.{◌≡◌, count_by, map, IfOk};
 ghost use Rattle.protocol_limits.specs.Counts.{is_message, message_count, private_count};
 ghost use Rattle.protocol_limits.specs.Counts.{own_messages, own_privates};
-ghost use Rattle.protocol_limits.specs.Walked.{AreCounts, IsWalked, document_of};
+ghost use Rattle.protocol_limits.specs.inner.SortedDocument.{AreCounts, IsSorted, sorted_protocols};
 
-use super::walked::Walked;
+use super::sorted_document::SortedDocument;
 use bspl_parser::{Declaration, Item};
 use bspl_types::{NoMemory, Seq};
 use reference_graph::weights_below;
 use std::alloc::Global;
 
-/// For each protocol of the order, how many messages stand at the ends of its paths.
-pub(crate) fn message_counts(walked: &Walked) -> Result<Seq<u64>, NoMemory>
-    requires { IsWalked walked.now }
+/// For each protocol of the order, how many messages are at the ends of its paths.
+pub(crate) fn message_counts(document: &SortedDocument) -> Result<Seq<u64>, NoMemory>
+    requires { IsSorted document.now }
     ensures { IfOk result
-        (AreCounts (message_count (document_of walked.now)) walked.now.order.now) }
+        (AreCounts (message_count (sorted_protocols document.now)) document.now.order.now) }
 {
-    let own = own_messages(walked.alloc, walked.directory.protocols)?;
-    weights_below(walked.alloc, walked.graph, walked.order, own.as_slice())
+    let own = own_messages(document.alloc, document.directory.protocols)?;
+    weights_below(
+        document.alloc,
+        document.graph,
+        document.order,
+        own.as_slice(),
+    )
 }
 
-/// For each protocol of the order, how many private parameters stand at the ends of its paths.
-pub(crate) fn private_counts(walked: &Walked) -> Result<Seq<u64>, NoMemory>
-    requires { IsWalked walked.now }
+/// For each protocol of the order, how many private parameters are at the ends of its paths.
+pub(crate) fn private_counts(document: &SortedDocument) -> Result<Seq<u64>, NoMemory>
+    requires { IsSorted document.now }
     ensures { IfOk result
-        (AreCounts (private_count (document_of walked.now)) walked.now.order.now) }
+        (AreCounts (private_count (sorted_protocols document.now)) document.now.order.now) }
 {
-    let own = own_privates(walked.alloc, walked.directory.protocols)?;
-    weights_below(walked.alloc, walked.graph, walked.order, own.as_slice())
+    let own = own_privates(document.alloc, document.directory.protocols)?;
+    weights_below(
+        document.alloc,
+        document.graph,
+        document.order,
+        own.as_slice(),
+    )
 }
 
+/// For each protocol, how many messages its body has.
 fn own_messages(alloc: Global, protocols: &[Declaration]) -> Result<Seq<u64>, NoMemory>
     ensures { IfOk result (λ weights. weights ≡ map own_messages protocols.now) }
 {
@@ -39,6 +50,7 @@ fn own_messages(alloc: Global, protocols: &[Declaration]) -> Result<Seq<u64>, No
     Ok(weights)
 }
 
+/// For each protocol, how many private parameters it declares.
 fn own_privates(alloc: Global, protocols: &[Declaration]) -> Result<Seq<u64>, NoMemory>
     ensures { IfOk result (λ weights. weights ≡ map own_privates protocols.now) }
 {
@@ -49,7 +61,7 @@ fn own_privates(alloc: Global, protocols: &[Declaration]) -> Result<Seq<u64>, No
     Ok(weights)
 }
 
-/// How many messages the body has of its own.
+/// How many items of the body are messages.
 fn messages_in(body: &[Item]) -> usize
     ensures { result ≡ count_by is_message body.now }
 {
@@ -62,6 +74,7 @@ fn messages_in(body: &[Item]) -> usize
     count
 }
 
+/// Whether the item is a message.
 #[tactic(auto, unfolding(crate::specs::Counts::is_message))]
 fn is_message(item: &Item) -> bool
     ensures { result ≡ is_message item.now }

@@ -1,5 +1,5 @@
 -- The references of all protocols are a graph.
-use Rattle.std.proofs.Common.{List, ℕ, sym, subst, ◌∙◌}
+use Rattle.std.proofs.Common.{sym, subst, ◌∙◌}
 use Rattle.reference_graph.specs.Graph.{IsGraph}
 use Rattle.protocol_limits.proofs.GraphLemmas.{all_lists, graph_is}
 use Rattle.protocol_limits.proofs.references.graph_of.Goals as goal

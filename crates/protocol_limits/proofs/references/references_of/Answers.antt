@@ -1,5 +1,5 @@
 -- One item more.
-use Rattle.std.proofs.Common.{◌++◌, [], sym, ap, ◌∙◌}
+use Rattle.std.proofs.Common.{◌++◌, [], sym, ◌∙◌}
 use Rattle.std.specs.List.{cons_option}
 use Rattle.protocol_limits.specs.Graph.{target_of}
 use Rattle.protocol_limits.proofs.GraphLemmas.{filter_map_more}

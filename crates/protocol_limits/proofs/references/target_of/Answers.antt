@@ -1,11 +1,11 @@
--- The place of the name is the number of its protocol.
+-- The index of the name is the number of its protocol.
 use Rattle.std.proofs.Common.{◌∙◌, sym, ap}
-use Rattle.protocol_limits.specs.Graph.{number_of, target_of}
-use Rattle.protocol_limits.proofs.Numbers.{number_by_names}
+use Rattle.protocol_limits.specs.Graph.{protocol_number, target_of}
+use Rattle.protocol_limits.proofs.NumberLemmas.{number_by_names}
 use Rattle.protocol_limits.proofs.references.target_of.Goals as goal
 
 pub returns-in-Reference-clause-target : goal.returns-in-Reference-clause-target
 returns-in-Reference-clause-target c =
     let directory = c.args.directory.now in
-    c.place.ensures ∙ number_by_names directory.protocols.now directory.names c.as_slice.result.now directory.in_order
-    ∙ ap (number_of directory.protocols.now) c.as_slice.ensures ∙ ap (target_of directory.protocols.now) (sym c.in-Reference.is)
+    c.index.ensures ∙ number_by_names directory.protocols.now directory.names c.as_slice.result.now directory.in_order
+    ∙ ap (protocol_number directory.protocols.now) c.as_slice.ensures ∙ ap (target_of directory.protocols.now) (sym c.in-Reference.is)

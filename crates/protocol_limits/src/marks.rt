@@ -1,0 +1,30 @@
+ghost use Rattle.std.specs.Prelude.{◌≡◌, ◌↔◌, ℕ, Some, slice_get, IfOk, IsTrue};
+ghost use Rattle.protocol_limits.specs.Graph.{graph_of};
+ghost use Rattle.protocol_limits.specs.Marking.{IsMarking};
+ghost use Rattle.protocol_limits.specs.inner.SortedDocument.{AreCounts, IsSorted, sorted_protocols};
+
+use super::sorted_document::SortedDocument;
+use bspl_types::{NoMemory, Seq};
+use reference_graph::orders_have_the_reached;
+
+/// For each protocol a mark, which is false if the protocol is reached and counts nothing.
+pub(crate) fn marks_of(document: &SortedDocument, counts: &[u64]) -> Result<Seq<bool>, NoMemory>
+    requires { IsSorted document.now }
+    ensures { (count : ℕ → ℕ) → AreCounts count document.now.order.now counts.now →
+        IfOk result (IsMarking (graph_of (sorted_protocols document.now)) document.now.top count) }
+{
+    // law: an order has all nodes that are reached
+    orders_have_the_reached();
+    let mut marks = vec![in document.alloc; true; document.directory.protocols.len()]?;
+    for number in document.order {
+        marks[*number as usize] = !is_nothing(counts, *number);
+    }
+    Seq::from_slice(document.alloc, &marks)
+}
+
+/// Whether the count of that number is 0.
+fn is_nothing(counts: &[u64], number: u32) -> bool
+    ensures { IsTrue result ↔ (slice_get counts.now number ≡ Some 0) }
+{
+    counts.get(number as usize) == Some(&0)
+}
