@@ -52,7 +52,7 @@ position-of lits positions l finds among =
     let at = at_from_Contains lits l among in
     (at.0, at.1, subst (λ (m : Lit). get_or positions (m.var - 1) 0 ≡ at.0 + 1) (at.2 l) (finds.there at.0 l at.1), at.2)
 
--- where no literal of the variable is in, its cell is empty
+-- if no literal of the variable is in, its cell is empty
 pub empty-cell : (lits : List Lit) (positions : List ℕ) (l : Lit) → HasPositions lits positions → 0 < l.var → ¬ Contains lits l → ¬ Contains lits (negated l) → get_or positions (l.var - 1) 0 ≡ 0
 empty-cell lits positions l finds from_one none no_negation = by-position (get_or positions (l.var - 1) 0) refl
   where
@@ -76,8 +76,8 @@ HasPositions-push lits positions l finds from_one exists empty = record {
     | inr other ↦
         let before : k < length lits = omega (arith, length_push lits l, other, within) in
         let there : get_or positions ((get_or lits k d).var - 1) 0 ≡ k + 1 = finds.there k d before in
-        let apart : (get_or lits k d).var - 1 ≢ l.var - 1 = λ meets. (let clash : k + 1 ≡ 0 = sym there ∙ ap (λ v. get_or positions v 0) meets ∙ empty in omega (arith, clash)) in
-        rw (get_or_append_left lits (l ∷ []) d k before) (get_or-set_other positions (l.var - 1) ((get_or lits k d).var - 1) (length lits + 1) 0 apart ∙ there)
+        let differs : (get_or lits k d).var - 1 ≢ l.var - 1 = λ meets. (let clash : k + 1 ≡ 0 = sym there ∙ ap (λ v. get_or positions v 0) meets ∙ empty in omega (arith, clash)) in
+        rw (get_or_append_left lits (l ∷ []) d k before) (get_or-set_other positions (l.var - 1) ((get_or lits k d).var - 1) (length lits + 1) 0 differs ∙ there)
   ];
   back = λ v n d is. elim (cases_eq v (l.var - 1)) [
     | inl same ↦
@@ -152,24 +152,24 @@ HasPositions-remove lits positions i l last finds within is_l at_end = record {
     ]
 
     -- a cell with another position than that of the literal is another one
-    apart_l : (v n : ℕ) → get_or positions v 0 ≡ n → n ≢ i + 1 → v ≢ l.var - 1
-    apart_l v n is other same = other (sym is ∙ ap (λ u. get_or positions u 0) same ∙ l_position)
+    differs_l : (v n : ℕ) → get_or positions v 0 ≡ n → n ≢ i + 1 → v ≢ l.var - 1
+    differs_l v n is other same = other (sym is ∙ ap (λ u. get_or positions u 0) same ∙ l_position)
 
     -- a cell with another position than the last is another one
-    apart_last : (v n : ℕ) → get_or positions v 0 ≡ n → n ≢ length lits → v ≢ last.var - 1
-    apart_last v n is other same = other (sym is ∙ ap (λ u. get_or positions u 0) same ∙ cell_last)
+    differs_last : (v n : ℕ) → get_or positions v 0 ≡ n → n ≢ length lits → v ≢ last.var - 1
+    differs_last v n is other same = other (sym is ∙ ap (λ u. get_or positions u 0) same ∙ cell_last)
 
     at-position : (k : ℕ) (d : Lit) → k < length lits - 1 → get_or (cells_without positions i l last) ((get_or (without lits i last) k d).var - 1) 0 ≡ k + 1
     at-position k d before = rw (get_or-without lits i k last d before) (elim (cases_eq k i) [
       | inl same ↦
           rw (same, get_or-set_same lits i last d within)
-          (get_or-set_other moved (l.var - 1) (last.var - 1) 0 0 (apart_l (last.var - 1) (length lits) cell_last (λ clash. omega (arith, clash, same, before)))
+          (get_or-set_other moved (l.var - 1) (last.var - 1) 0 0 (differs_l (last.var - 1) (length lits) cell_last (λ clash. omega (arith, clash, same, before)))
           ∙ get_or-set_same positions (last.var - 1) (i + 1) 0 (omega (arith, last_exists)))
       | inr other ↦
           let there : get_or positions ((get_or lits k d).var - 1) 0 ≡ k + 1 = finds.there k d (omega (arith, before)) in
           rw (get_or-set_other lits i k last d other)
-          (get_or-set_other moved (l.var - 1) ((get_or lits k d).var - 1) 0 0 (apart_l ((get_or lits k d).var - 1) (k + 1) there (λ clash. other (omega (arith, clash))))
-          ∙ get_or-set_other positions (last.var - 1) ((get_or lits k d).var - 1) (i + 1) 0 (apart_last ((get_or lits k d).var - 1) (k + 1) there (λ clash. omega (arith, clash, before)))
+          (get_or-set_other moved (l.var - 1) ((get_or lits k d).var - 1) 0 0 (differs_l ((get_or lits k d).var - 1) (k + 1) there (λ clash. other (omega (arith, clash))))
+          ∙ get_or-set_other positions (last.var - 1) ((get_or lits k d).var - 1) (i + 1) 0 (differs_last ((get_or lits k d).var - 1) (k + 1) there (λ clash. omega (arith, clash, before)))
           ∙ there)
     ])
 

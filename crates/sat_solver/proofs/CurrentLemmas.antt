@@ -129,7 +129,7 @@ weight t l = cond (is_current t l) 1 0
 count-cons : (t : State) (l : Lit) (lits : List Lit) (b : Bool) → is_current t l ≡ b → count_by (is_current t) (l ∷ lits) ≡ cond b 1 0 + count_by (is_current t) lits
 count-cons t l lits b is = sum_by-cons (weight t) l lits ∙ ap (λ c. cond c 1 0 + count_by (is_current t) lits) is
 
--- where one is counted, there is one
+-- if one is counted, there is one
 some-counted : (t : State) (lits : List Lit) → 1 ≤ count_by (is_current t) lits → (l : Lit) × Contains lits l × IsCurrent t l
 some-counted t [] many = absurd (omega (arith, many))
 some-counted t (l ∷ lits) many = elim (cases_Bool (is_current t l)) [
@@ -138,8 +138,8 @@ some-counted t (l ∷ lits) many = elim (cases_Bool (is_current t l)) [
 ]
 
 -- the first literal has another variable than the later ones
-head-apart : (l : Lit) (lits : List Lit) (m : Lit) → AllPairs (λ j k. j.var ≢ k.var) (l ∷ lits) → Contains lits m → l ≢ m
-head-apart l lits m apart (k, within, is) same = apart 0 (suc k) m (omega arith) (omega (arith, within)) (ap (λ (n : Lit). n.var) (same ∙ sym is))
+head-differs : (l : Lit) (lits : List Lit) (m : Lit) → AllPairs (λ j k. j.var ≢ k.var) (l ∷ lits) → Contains lits m → l ≢ m
+head-differs l lits m differs (k, within, is) same = differs 0 (suc k) m (omega arith) (omega (arith, within)) (ap (λ (n : Lit). n.var) (same ∙ sym is))
 
 -- two of a list are two of a longer one
 pub two-along : (t : State) (c d : List Lit) → ((l : Lit) → Contains c l → Contains d l) → HasTwoCurrent t c → HasTwoCurrent t d
@@ -153,16 +153,16 @@ two-along t c d all two = record {
   other_current = two.other_current;
 }
 
--- where two are counted, there are two
+-- if two are counted, there are two
 pub two-counted : (t : State) (lits : List Lit) → AllPairs (λ j k. j.var ≢ k.var) lits → 2 ≤ count_by (is_current t) lits → HasTwoCurrent t lits
-two-counted t [] apart many = absurd (omega (arith, many))
-two-counted t (l ∷ lits) apart many = elim (cases_Bool (is_current t l)) [
+two-counted t [] differs many = absurd (omega (arith, many))
+two-counted t (l ∷ lits) differs many = elim (cases_Bool (is_current t l)) [
   | inl is ↦
       let rest = some-counted t lits (omega (arith, many, count-cons t l lits true is)) in
-      record { one = l; other = rest.0; differ = head-apart l lits rest.0 apart rest.1; one_among = here l lits; other_among = there l lits rest.0 rest.1; one_current = current-true t l is; other_current = rest.2 }
+      record { one = l; other = rest.0; differ = head-differs l lits rest.0 differs rest.1; one_among = here l lits; other_among = there l lits rest.0 rest.1; one_current = current-true t l is; other_current = rest.2 }
   | inr is ↦
       two-along t lits (l ∷ lits) (λ m among. there l lits m among)
-      (two-counted t lits (λ i j d before within. apart (suc i) (suc j) d (omega (arith, before)) (omega (arith, within))) (omega (arith, many, count-cons t l lits false is)))
+      (two-counted t lits (λ i j d before within. differs (suc i) (suc j) d (omega (arith, before)) (omega (arith, within))) (omega (arith, many, count-cons t l lits false is)))
 ]
 
 -- one of the current level is counted

@@ -87,5 +87,5 @@ fails-at es e m None other same is fails =
 pub fails-before : (es : List Entry) (e : Entry) (m : Lit) → negated e.lit ≢ m → MakesFalse (values_of (es ++ e ∷ [])) m → MakesFalse (values_of es) m
 fails-before es e m other fails = elim (cases_eq e.lit.var m.var) [
   | inl same ↦ fails-at es e m (entry_of es m.var) other same refl fails
-  | inr apart ↦ sym (ap (option_map (λ (d : Entry). d.lit.positive)) (entry_of-push_other es e m.var apart)) ∙ fails
+  | inr differs ↦ sym (ap (option_map (λ (d : Entry). d.lit.positive)) (entry_of-push_other es e m.var differs)) ∙ fails
 ]

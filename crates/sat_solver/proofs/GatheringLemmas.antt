@@ -14,7 +14,7 @@ use Rattle.sat_trail.specs.Trail.{IsTrail}
 use Rattle.sat_solver.proofs.LiteralLemmas.{cases_member}
 use Rattle.sat_solver.specs.inner.LiteralSet.{LiteralSet, IsLiteralSet, TakesOut}
 use Rattle.sat_solver.specs.declared.false_lits.FalseLits.{FalseLits}
-use Rattle.sat_solver.specs.inner.Gathering.{is_current, AreFalse, Inserts, InsertsAll, ResolvesSet}
+use Rattle.sat_solver.specs.inner.Gathering.{is_current, AreFalse, AddsLiteral, AddsLiterals, ResolvesSet}
 use Rattle.sat_solver.proofs.LowerLemmas.{IsSet-false}
 
 -- the variable of a false literal exists
@@ -22,14 +22,14 @@ pub false-exists : (t : State) (l : Lit) → IsTrail t → MakesFalse (values_of
 false-exists t l trail fails = (IsSet-false t l trail fails).exists
 
 -- the literal was put in at the end
-pub Inserts-push : (old : List Lit) (l : Lit) → Inserts old l (old ++ l ∷ [])
-Inserts-push old l = record {
+pub AddsLiteral-push : (old : List Lit) (l : Lit) → AddsLiteral old l (old ++ l ∷ [])
+AddsLiteral-push old l = record {
   members = λ m. (Contains-push_cases old l m, λ either. elim either [ inl before ↦ Contains-append_left old (l ∷ []) m before | inr same ↦ end_same old l m same ]);
 }
 
 -- the literal was in
-pub Inserts-held : (old : List Lit) (l : Lit) → Contains old l → Inserts old l old
-Inserts-held old l held = record { members = λ m. (inl, λ either. elim either [ inl before ↦ before | inr same ↦ subst (Contains old) same held ]) }
+pub AddsLiteral-held : (old : List Lit) (l : Lit) → Contains old l → AddsLiteral old l old
+AddsLiteral-held old l held = record { members = λ m. (inl, λ either. elim either [ inl before ↦ before | inr same ↦ subst (Contains old) same held ]) }
 
 -- what does not lack a literal has it
 pub held : (old : List Lit) (l : Lit) → ¬ (¬ Contains old l) → Contains old l
@@ -62,8 +62,8 @@ take-cases xs i d m within = rw (take_more xs i d within) (
 )
 
 -- one more literal of the clause was put in
-pub InsertsAll-more : (old clause mid new : List Lit) (i : ℕ) (d : Lit) → i < length clause → InsertsAll old (take i clause) mid → Inserts mid (get_or clause i d) new → InsertsAll old (take (i + 1) clause) new
-InsertsAll-more old clause mid new i d within so_far inserts = record {
+pub AddsLiterals-more : (old clause mid new : List Lit) (i : ℕ) (d : Lit) → i < length clause → AddsLiterals old (take i clause) mid → AddsLiteral mid (get_or clause i d) new → AddsLiterals old (take (i + 1) clause) new
+AddsLiterals-more old clause mid new i d within so_far inserts = record {
   members = λ m. (
     λ among. elim ((inserts.members m).0 among) [
       | inl before ↦ elim ((so_far.members m).0 before) [ inl first ↦ inl first | inr passed ↦ inr ((take-cases clause i d m within).1 (inl passed)) ]
@@ -101,7 +101,7 @@ ResolvesSet-skip old pivot clause new i d within is_negation so_far = record {
 }
 
 -- another literal of the clause was put in
-pub ResolvesSet-more : (old : List Lit) (pivot : Lit) (clause mid new : List Lit) (i : ℕ) (d : Lit) → i < length clause → get_or clause i d ≢ negated pivot → ResolvesSet old pivot (take i clause) mid → Inserts mid (get_or clause i d) new → ResolvesSet old pivot (take (i + 1) clause) new
+pub ResolvesSet-more : (old : List Lit) (pivot : Lit) (clause mid new : List Lit) (i : ℕ) (d : Lit) → i < length clause → get_or clause i d ≢ negated pivot → ResolvesSet old pivot (take i clause) mid → AddsLiteral mid (get_or clause i d) new → ResolvesSet old pivot (take (i + 1) clause) new
 ResolvesSet-more old pivot clause mid new i d within other so_far inserts = record {
   members = λ m. (
     λ among. elim ((inserts.members m).0 among) [

@@ -35,7 +35,7 @@ cases_literal l m = elim (cases_eq l.var m.var) [
     | inl signs ↦ inl (same_literal l m variables signs)
     | inr opposite ↦ inr (λ same. not-differs m.positive (sym (ap (λ (k : Lit). k.positive) same) ∙ opposite))
   ]
-  | inr apart ↦ inr (λ same. apart (ap (λ (k : Lit). k.var) same))
+  | inr differs ↦ inr (λ same. differs (ap (λ (k : Lit). k.var) same))
 ]
 
 -- a list holds a literal or not

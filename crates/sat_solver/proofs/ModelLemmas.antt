@@ -59,7 +59,7 @@ clause-decided f values vars (l ∷ rest) model set exist =
       ]
     ]
 
--- where no clause is false and all variables have values, the values satisfy
+-- if no clause is false and all variables have values, the values satisfy
 pub satisfies-model : (t : State) (values : List Bool) → IsTrail t → HasValues (values_of t.entries) values t.vars → AllSet t → IsPropagated (values_of t.entries) (numbering_of t) → SatisfiesNumbered (valuation values) (numbering_of t)
 satisfies-model t values trail model set propagated n clause has =
     elim (clause-decided (values_of t.entries) values t.vars clause model set (trail.clauses_exist n clause has)) [

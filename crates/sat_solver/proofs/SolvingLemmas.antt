@@ -14,7 +14,7 @@ use Rattle.clause_core.specs.Numbering.{numbered, HasNumber}
 use Rattle.sat_trail.specs.State.{State, numbering_of, last_number}
 use Rattle.sat_trail.specs.Trail.{IsTrail, IsStart, Adds}
 use Rattle.sat_solver.specs.inner.Analysis.{Refuted, Learns, at_level}
-use Rattle.sat_solver.specs.inner.Search.{GoesOn}
+use Rattle.sat_solver.specs.inner.Search.{KeepsClauses}
 use Rattle.sat_solver.specs.inner.Choice.{SatisfiesNumbered}
 use Rattle.sat_solver.proofs.NumberLemmas.{number_made, slice_get-append, number_among, others_keep, added_last, derives-agree}
 use Rattle.sat_solver.specs.inner.Progress.{AreLearned, HasLearned}
@@ -39,14 +39,14 @@ HasLearned-start f t no_empty start trail = record {
 }
 
 -- a search changes no clause
-pub HasLearned-search : (f : Formula) (t new : State) (steps : List Chain) → HasLearned f t steps → GoesOn t new → HasLearned f new steps
-HasLearned-search f t new steps known goes_on = record {
+pub HasLearned-search : (f : Formula) (t new : State) (steps : List Chain) → HasLearned f t steps → KeepsClauses t new → HasLearned f new steps
+HasLearned-search f t new steps known keeps = record {
   derived = known.derived;
   learned = known.learned;
-  numbers = λ n. goes_on.numbers n ∙ known.numbers n;
-  last = goes_on.last ∙ known.last;
-  vars = goes_on.vars ∙ known.vars;
-  sound = goes_on.sound;
+  numbers = λ n. keeps.numbers n ∙ known.numbers n;
+  last = keeps.last ∙ known.last;
+  vars = keeps.vars ∙ known.vars;
+  sound = keeps.sound;
 }
 
 -- a clause that is added has the next number after those of the list

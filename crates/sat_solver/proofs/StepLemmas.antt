@@ -18,7 +18,7 @@ use Rattle.sat_trail.specs.State.{State, numbering_of}
 use Rattle.sat_solver.proofs.EntryLemmas.{values_of-prefix}
 use Rattle.sat_solver.specs.declared.false_lits.FalseLits.{FalseLits}
 use Rattle.sat_solver.specs.inner.Analysis.{Resolving}
-use Rattle.sat_solver.specs.inner.Gathering.{AreFalse, InsertsAll, ResolvesSet, Gathers, StepsOver}
+use Rattle.sat_solver.specs.inner.Gathering.{AreFalse, AddsLiterals, ResolvesSet, Gathers, StepsOver}
 use Rattle.sat_solver.proofs.PositionLemmas.{number_one, IsAt, negated-negated, reason-clause, CanResolve-at, fails-under}
 
 -- one more link
@@ -45,7 +45,7 @@ Resolving-start t number clause copy false_one has same = record {
 }
 
 -- the literals of the false clause were put into an empty set
-pub Gathers-start : (t : State) (number : ℕ) (clause : List Lit) (f : FalseLits) → IsFalsified (numbering_of t) (values_of t.entries) number → HasNumber (numbering_of t) number clause → IsAscending clause → AreFalse t f → InsertsAll [] clause f.set.lits → Gathers t number (record { first = number; links = [] }) f (length t.entries)
+pub Gathers-start : (t : State) (number : ℕ) (clause : List Lit) (f : FalseLits) → IsFalsified (numbering_of t) (values_of t.entries) number → HasNumber (numbering_of t) number clause → IsAscending clause → AreFalse t f → AddsLiterals [] clause f.set.lits → Gathers t number (record { first = number; links = [] }) f (length t.entries)
 Gathers-start t number clause f false_one has ascending are_false inserts = record {
   clause = clause;
   exactly = λ m. (λ among. (inserts.members m).1 (inr among), λ among. elim ((inserts.members m).0 among) [ inl none ↦ absurd (nowhere m none) | inr new ↦ new ]);

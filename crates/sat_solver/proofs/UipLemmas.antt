@@ -31,7 +31,7 @@ other_than t clause l two = elim (cases_literal two.one l) [
   | inl same ↦ (two.other, two.other_among, two.other_current, λ other_same. two.differ (same ∙ sym other_same))
 ]
 
--- where two are of the current level, one is left after a step
+-- if two are of the current level, one is left after a step
 HasCurrent-step : (t : State) (old new : Chain) (f g : FalseLits) (position : ℕ) → HasTwoCurrent t f.set.lits → StepsOver t old new f g position → position < length t.entries → HasCurrent t g.set.lits
 HasCurrent-step t old new f g position two steps within =
     let e = get_or t.entries position blank in

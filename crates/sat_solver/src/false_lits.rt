@@ -4,7 +4,7 @@ ghost use Rattle.clause_core.specs.Propagation.{MakesFalse, Falsifies, OthersFal
 ghost use Rattle.sat_trail.specs.Entry.{values_of};
 ghost use Rattle.sat_trail.specs.Trail.{IsTrail};
 ghost use Rattle.sat_solver.specs.inner.Gathering.{is_current, AreFalse};
-ghost use Rattle.sat_solver.specs.inner.Gathering.{Inserts, InsertsAll, ResolvesSet};
+ghost use Rattle.sat_solver.specs.inner.Gathering.{AddsLiteral, AddsLiterals, ResolvesSet};
 ghost use Rattle.sat_solver.specs.inner.LiteralSet.{TakesOut};
 
 use super::lit_set::LitSet;
@@ -48,7 +48,7 @@ impl FalseLits {
         requires are_false { AreFalse trail.now self.old }
         requires fails { MakesFalse (values_of trail.now.entries) lit }
         ensures are_false { AreFalse trail.now self.new }
-        ensures inserted { Inserts self.old.set.lits lit self.new.set.lits }
+        ensures inserted { AddsLiteral self.old.set.lits lit self.new.set.lits }
     {
         if self.set.insert(lit) {
             self.current += u32::from(is_current(trail, lit));
@@ -61,7 +61,7 @@ impl FalseLits {
         requires are_false { AreFalse trail.now self.old }
         requires fails { Falsifies (values_of trail.now.entries) clause.now }
         ensures are_false { AreFalse trail.now self.new }
-        ensures inserted { InsertsAll self.old.set.lits clause.now self.new.set.lits }
+        ensures inserted { AddsLiterals self.old.set.lits clause.now self.new.set.lits }
     {
         for lit in clause {
             self.insert(trail, *lit);

@@ -4,7 +4,7 @@ use refutation_log::Log;
 /// What a solver found out about a formula.
 #[derive(Drop)]
 pub enum Outcome {
-    /// An assignment that satisfies all clauses.
+    /// An assignment of exactly the formula's variables that satisfies all clauses.
     Sat(Assignment),
     /// A log that ends in the empty clause.
     Unsat(Log),

@@ -1,10 +1,10 @@
-ghost use Rattle.std.specs.Prelude.{◌≡◌, ◌<◌, ◌≤◌, length, IfSome, IfNone};
+ghost use Rattle.std.specs.Prelude.{◌≡◌, ◌<◌, IfSome, IfNone};
 ghost use Rattle.clause_core.specs.Propagation.{IsFalsified, IsPropagated};
 ghost use Rattle.sat_trail.specs.Entry.{values_of};
 ghost use Rattle.sat_trail.specs.State.{numbering_of};
 ghost use Rattle.sat_trail.specs.Trail.{IsTrail};
 ghost use Rattle.sat_solver.specs.inner.Choice.{AllSet};
-ghost use Rattle.sat_solver.specs.inner.Search.{GoesOn};
+ghost use Rattle.sat_solver.specs.inner.Search.{KeepsClauses};
 
 use super::choice::choose;
 use super::search_stats::SearchStats;
@@ -14,7 +14,7 @@ use sat_trail::Trail;
 pub fn search(trail: &mut Trail, vars: u32, stats: &mut SearchStats) -> Option<u32>
     requires vars { vars ≡ trail.old.vars }
     requires sound { IsTrail trail.old }
-    ensures goes_on { GoesOn trail.old trail.new }
+    ensures keeps { KeepsClauses trail.old trail.new }
     ensures falsified { let values = values_of trail.new.entries in
         IfSome result (IsFalsified (numbering_of trail.new) values) }
     ensures propagated { let values = values_of trail.new.entries in

@@ -1,21 +1,21 @@
 -- What a decision, a new clause and a way back keep of a trail.
-use Rattle.std.proofs.Common.{◌≡◌, ◌≢◌, ℕ, zero, suc, ◌+◌, ◌-◌, ◌<◌, ◌≤◌, Bool, true, false, not, Option, Some, None, option_map, IsSome, IfSome, IsTrue, List, [], ◌∷◌, ◌++◌, ◌⊎◌, inl, inr, length, take, drop, get_or, slice_get, sym, ap, refl, ◌∙◌, subst, append_assoc, append-nil, arith, All, Contains, length-append}
-use Rattle.std.proofs.lemmas.List.Elements.{All-append, All-contains, All-head, All-push}
+use Rattle.std.proofs.Common.{◌≡◌, ◌≢◌, ℕ, ◌+◌, ◌<◌, ◌≤◌, Bool, false, Option, Some, None, option_map, IfSome, IsTrue, List, [], ◌∷◌, ◌++◌, ◌⊎◌, inl, inr, length, take, get_or, sym, ap, refl, ◌∙◌, subst, append-nil, arith, All, Contains, length-append}
+use Rattle.std.proofs.lemmas.List.Elements.{All-contains, All-head, All-push}
 use Rattle.std.proofs.lemmas.List.{get_or_append_left}
 use Rattle.clause_core.specs.declared.literal.Lit.{Lit}
 use Rattle.clause_core.specs.Clause.{VariablesExist}
-use Rattle.clause_core.specs.Propagation.{MakesFalse, Falsifies, OthersFalse, LeavesOnly, IsPropagated}
+use Rattle.clause_core.specs.Propagation.{Falsifies, LeavesOnly, IsPropagated}
 use Rattle.sat_trail.specs.declared.entry.Entry.{Entry}
 use Rattle.sat_trail.specs.Entry.{entry_of, values_of, last_level, up_to, decided}
 use Rattle.clause_core.specs.Numbering.{Numbering, numbered, HasNumber}
-use Rattle.sat_trail.specs.Growth.{IsDecision, IsForced, MayBeSet}
+use Rattle.sat_trail.specs.Growth.{IsDecision, IsForced}
 use Rattle.sat_trail.specs.inner.Growth.{Grows, IsGrown}
-use Rattle.sat_trail.specs.State.{State, numbering_of}
+use Rattle.sat_trail.specs.State.{State}
 use Rattle.sat_trail.specs.inner.Examination.{IsSettled}
 use Rattle.sat_trail.specs.inner.Storage.{Assigned, StoredClauses, StartsWith}
 use Rattle.std.proofs.lemmas.List.{take_all}
 use Rattle.clause_core.specs.declared.formula.Formula.{Formula}
-use Rattle.sat_trail.specs.Trail.{EntriesExist, ClausesExist, IsStart, IsOpen, HasTwoOpen, Adds}
+use Rattle.sat_trail.specs.Trail.{ClausesExist, IsStart, HasTwoOpen, Adds}
 use Rattle.sat_trail.specs.inner.Propagation.{CanPropagate, IsExamined, IsKept}
 use Rattle.sat_trail.proofs.StorageLemmas.{last_level-push}
 use Rattle.sat_trail.proofs.NumberLemmas.{Widens, Widens-push, number_all, number_at, others_keep, added_last}
@@ -262,26 +262,26 @@ Adds-push old clause new number grows counted = rw grows (record {
     next = counted ∙ ap (λ (s : State). length s.clauses) grows ∙ sym whole
 
 -- the parts of a new trail
-pub record IsNew (f : Formula) (lists : StoredClauses) (set : Assigned) : Type 0 where
+pub record IsNewTrail (f : Formula) (lists : StoredClauses) (set : Assigned) : Type 0 where
   pub vars : lists.vars ≡ f.vars
   pub clauses : lists.clauses ≡ f.clauses
   pub start : set ≡ record { vars = f.vars; entries = [] }
 
 -- all clauses were added
-pub IsNew-all : (f : Formula) (inside lists : StoredClauses) (set : Assigned) (items : List (List Lit)) (i : ℕ) → inside ≡ lists → items ≡ f.clauses → (lists.vars ≡ f.vars) × (lists.clauses ≡ take i f.clauses) → length items ≤ i → set ≡ record { vars = f.vars; entries = [] } → IsNew f inside set
-IsNew-all f inside lists set items i same all so_far past start = rw same (record {
+pub IsNewTrail-all : (f : Formula) (inside lists : StoredClauses) (set : Assigned) (items : List (List Lit)) (i : ℕ) → inside ≡ lists → items ≡ f.clauses → (lists.vars ≡ f.vars) × (lists.clauses ≡ take i f.clauses) → length items ≤ i → set ≡ record { vars = f.vars; entries = [] } → IsNewTrail f inside set
+IsNewTrail-all f inside lists set items i same all so_far past start = rw same (record {
   vars = so_far.0;
   clauses = so_far.1 ∙ take_all i f.clauses (omega (arith, past, ap length all));
   start = start;
 })
 
 -- a new trail is one
-pub IsKept-new : (f : Formula) (lists : StoredClauses) (set : Assigned) → IsNew f lists set → length f.clauses < 4294967296 → IsKept lists set 0 0 0 false
+pub IsKept-new : (f : Formula) (lists : StoredClauses) (set : Assigned) → IsNewTrail f lists set → length f.clauses < 4294967296 → IsKept lists set 0 0 0 false
 IsKept-new f lists set new few = IsKept-start lists set (new.vars ∙ sym (ap (λ (s : Assigned). s.vars) new.start)) (ap (λ (s : Assigned). s.entries) new.start)
     (rw (new.vars, new.clauses) f.variables_exist) (omega (arith, ap length new.clauses, few))
 
 -- what contracts see of a new trail
-pub IsStart-new : (f : Formula) (lists : StoredClauses) (set : Assigned) → IsNew f lists set → IsStart f (state_of lists set 0 false)
+pub IsStart-new : (f : Formula) (lists : StoredClauses) (set : Assigned) → IsNewTrail f lists set → IsStart f (state_of lists set 0 false)
 IsStart-new f lists set new = record {
   vars = new.vars;
   numbers = λ n. ap (λ cs. numbered cs n) new.clauses;

@@ -1,10 +1,10 @@
 -- Entries found by their variables, and how more entries change what is found.
-use Rattle.std.proofs.Common.{◌≡◌, ◌≢◌, ℕ, zero, suc, ◌+◌, ◌<◌, ◌≤◌, Bool, true, false, Option, Some, None, List, [], ◌∷◌, ◌++◌, ◌⊎◌, inl, inr, length, take, get_or, set, sym, ap, refl, ◌∙◌, arith, All, Contains, option_map}
+use Rattle.std.proofs.Common.{◌≡◌, ◌≢◌, ℕ, zero, suc, ◌<◌, false, Some, None, List, [], ◌∷◌, ◌++◌, inl, inr, length, get_or, ap, refl, ◌∙◌, arith, Contains, option_map}
 use Rattle.std.proofs.lemmas.Bool.{cases_Bool, eqb-true, eqb-false, eq-eqb, ne_eqb}
 use Rattle.std.specs.Prelude.{◌==◌}
 use Rattle.std.proofs.lemmas.List.Folds.{find-append}
 use Rattle.sat_trail.specs.declared.entry.Entry.{Entry}
-use Rattle.sat_trail.specs.Entry.{entry_of, values_of, last_level}
+use Rattle.sat_trail.specs.Entry.{entry_of, values_of}
 
 -- an entry that is found has the variable
 pub entry_of-variable : (es : List Entry) (v : ℕ) (e : Entry) → entry_of es v ≡ Some e → e.lit.var ≡ v
@@ -51,21 +51,21 @@ pub values_of-none : (es : List Entry) (v : ℕ) → values_of es v ≡ None →
 values_of-none es v none = elim (entry_of es v) as (λ o. option_map (λ (e : Entry). e.lit.positive) o ≡ None → o ≡ None) [ None ↦ λ _. refl | Some e ↦ λ h. cc ] none
 
 -- an entry at the head, and those after it, are for other variables
-apart_step : (e : Entry) (es : List Entry) (v : ℕ) → (e.lit.var == v) ≡ false → ((k : ℕ) (d : Entry) → k < length es → (get_or es k d).lit.var ≢ v) → (k : ℕ) (d : Entry) → k < length (e ∷ es) → (get_or (e ∷ es) k d).lit.var ≢ v
-apart_step e es v elsewhere rest zero d within = eqb-false _ _ elsewhere
-apart_step e es v elsewhere rest (suc k) d within = rest k d (omega arith)
+distinct_step : (e : Entry) (es : List Entry) (v : ℕ) → (e.lit.var == v) ≡ false → ((k : ℕ) (d : Entry) → k < length es → (get_or es k d).lit.var ≢ v) → (k : ℕ) (d : Entry) → k < length (e ∷ es) → (get_or (e ∷ es) k d).lit.var ≢ v
+distinct_step e es v elsewhere rest zero d within = eqb-false _ _ elsewhere
+distinct_step e es v elsewhere rest (suc k) d within = rest k d (omega arith)
 
--- where a variable is not found, no entry sets it
-pub entry_of-apart : (es : List Entry) (v : ℕ) → entry_of es v ≡ None → (k : ℕ) (d : Entry) → k < length es → (get_or es k d).lit.var ≢ v
-entry_of-apart [] v missing k d within = absurd (omega arith)
-entry_of-apart (e ∷ es) v missing k d within =
+-- if a variable is not found, no entry sets it
+pub entry_of-distinct : (es : List Entry) (v : ℕ) → entry_of es v ≡ None → (k : ℕ) (d : Entry) → k < length es → (get_or es k d).lit.var ≢ v
+entry_of-distinct [] v missing k d within = absurd (omega arith)
+entry_of-distinct (e ∷ es) v missing k d within =
     elim (cases_Bool (e.lit.var == v)) [
       | inl here ↦ let found : Some e ≡ None = rw here at missing in cc
-      | inr elsewhere ↦ apart_step e es v elsewhere (entry_of-apart es v (rw elsewhere at missing)) k d within
+      | inr elsewhere ↦ distinct_step e es v elsewhere (entry_of-distinct es v (rw elsewhere at missing)) k d within
     ]
 
 -- a variable that differs from those of all entries is not found
 pub entry_of-absent : (es : List Entry) (v : ℕ) → ((k : ℕ) (d : Entry) → k < length es → (get_or es k d).lit.var ≢ v) → entry_of es v ≡ None
-entry_of-absent [] v apart = refl
-entry_of-absent (e ∷ es) v apart =
-    rw (ne_eqb e.lit.var v (apart 0 e (omega arith))) (entry_of-absent es v (λ k d within. apart (suc k) d (omega arith)))
+entry_of-absent [] v differs = refl
+entry_of-absent (e ∷ es) v differs =
+    rw (ne_eqb e.lit.var v (differs 0 e (omega arith))) (entry_of-absent es v (λ k d within. differs (suc k) d (omega arith)))

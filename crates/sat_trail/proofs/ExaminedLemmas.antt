@@ -1,17 +1,17 @@
 -- Which clauses are examined, as propagation passes over the entries.
-use Rattle.std.proofs.Common.{◌≡◌, ◌≢◌, ℕ, zero, suc, ◌+◌, ◌<◌, ◌≤◌, Bool, true, false, not, Option, Some, None, option_map, List, [], ◌∷◌, ◌++◌, ◌⊎◌, inl, inr, length, take, drop, get_or, sym, ap, refl, ◌∙◌, subst, arith, All, Contains, length-append}
+use Rattle.std.proofs.Common.{◌≡◌, ◌≢◌, ℕ, ◌+◌, ◌<◌, Bool, false, not, Option, Some, None, option_map, List, [], ◌∷◌, ◌++◌, inl, inr, length, take, drop, get_or, sym, ap, refl, ◌∙◌, subst, arith, Contains, length-append}
 use Rattle.std.proofs.lemmas.Bool.{cases_eq}
 use Rattle.std.proofs.lemmas.List.{take_more, take_all, take-append-drop, take-append-le, get_or_append_left, get_or_default}
 use Rattle.clause_core.specs.declared.literal.Lit.{Lit}
 use Rattle.clause_core.specs.Literal.{negated}
-use Rattle.clause_core.specs.Propagation.{MakesFalse, Falsifies, OthersFalse, LeavesOnly, IsPropagated}
+use Rattle.clause_core.specs.Propagation.{MakesFalse, OthersFalse, IsPropagated}
 use Rattle.sat_trail.specs.declared.entry.Entry.{Entry}
 use Rattle.sat_trail.specs.Entry.{entry_of, values_of}
 use Rattle.sat_trail.specs.inner.Examination.{IsSettled}
 use Rattle.sat_trail.specs.inner.Propagation.{HasExamined, IsExamined}
 use Rattle.clause_core.specs.Numbering.{numbered}
 use Rattle.sat_trail.proofs.NumberLemmas.{number_at}
-use Rattle.sat_trail.proofs.EntryLemmas.{entry_of-kept, entry_of-push_other, entry_of-push_same, entry_of-missing}
+use Rattle.sat_trail.proofs.EntryLemmas.{entry_of-kept, entry_of-push_other, entry_of-push_same}
 use Rattle.sat_trail.proofs.LiteralLemmas.{same_literal, cases_member, not-not}
 use Rattle.sat_trail.proofs.SettledLemmas.{IsSettled-later, IsSettled-earlier, IsSettled-propagated, IsPropagated-settled}
 
@@ -47,7 +47,7 @@ fails-at es e m None other same is fails =
 pub fails-before : (es : List Entry) (e : Entry) (m : Lit) → negated e.lit ≢ m → MakesFalse (values_of (es ++ e ∷ [])) m → MakesFalse (values_of es) m
 fails-before es e m other fails = elim (cases_eq e.lit.var m.var) [
   | inl same ↦ fails-at es e m (entry_of es m.var) other same refl fails
-  | inr apart ↦ sym (ap (option_map (λ (d : Entry). d.lit.positive)) (entry_of-push_other es e m.var apart)) ∙ fails
+  | inr differs ↦ sym (ap (option_map (λ (d : Entry). d.lit.positive)) (entry_of-push_other es e m.var differs)) ∙ fails
 ]
 
 -- what only one more entry makes false holds the negation of its literal
@@ -103,14 +103,14 @@ IsExamined-next clauses entries head examined progress within settled = record {
   ];
 }
 
--- where all is examined, unit propagation has nothing to do
+-- if all is examined, unit propagation has nothing to do
 pub IsPropagated-examined : (clauses : List (List Lit)) (entries : List Entry) (head examined : ℕ) → IsExamined clauses entries head examined → head ≡ length entries → examined ≡ length clauses → IsPropagated (values_of entries) (numbered clauses)
 IsPropagated-examined clauses entries head examined progress at_end all = IsPropagated-settled (values_of entries) clauses
     (λ k d within. subst (λ c. IsSettled (values_of entries) (values_of entries) c) (get_or_default clauses k [] d within)
     (subst (λ es. IsSettled (values_of es) (values_of entries) (get_or clauses k [])) (take_all head entries (omega arith))
     (progress.settled k (omega arith))))
 
--- where unit propagation has nothing to do, all is examined
+-- if unit propagation has nothing to do, all is examined
 pub IsExamined-propagated : (clauses : List (List Lit)) (entries : List Entry) → IsPropagated (values_of entries) (numbered clauses) → IsExamined clauses entries (length entries) (length clauses)
 IsExamined-propagated clauses entries propagated = record {
   head_within = omega arith;

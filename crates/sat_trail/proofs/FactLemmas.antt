@@ -1,19 +1,18 @@
 -- What follows from the growth of a trail.
-use Rattle.std.proofs.Common.{◌≡◌, ◌≢◌, ℕ, zero, suc, ◌+◌, ◌-◌, ◌<◌, ◌≤◌, Bool, true, false, not, Option, Some, None, IsSome, List, [], ◌∷◌, ◌++◌, ◌⊎◌, inl, inr, length, take, drop, get_or, sym, ap, refl, ◌∙◌, subst, append_assoc, append-nil, arith, All, AllPairs, Contains, length-append}
+use Rattle.std.proofs.Common.{◌≡◌, ◌≢◌, ℕ, ◌<◌, ◌≤◌, Some, None, IsSome, List, [], ◌∷◌, ◌++◌, ◌⊎◌, inl, inr, sym, ap, refl, ◌∙◌, subst, append-nil, arith, All, AllPairs}
 use Rattle.std.proofs.lemmas.Bool.{cases_lt}
-use Rattle.std.proofs.lemmas.List.Elements.{All-contains, All-cons, All-weaker, All-push, All-get_or}
+use Rattle.std.proofs.lemmas.List.Elements.{All-cons, All-weaker}
 use Rattle.std.proofs.lemmas.List.Quantifiers.{all_pairs_push}
-use Rattle.clause_core.specs.declared.literal.Lit.{Lit}
 use Rattle.clause_core.specs.Propagation.{IsPropagated}
 use Rattle.sat_trail.specs.declared.entry.Entry.{Entry}
-use Rattle.sat_trail.specs.Entry.{entry_of, values_of, last_level, up_to}
-use Rattle.clause_core.specs.Numbering.{Numbering, numbered, HasNumber}
+use Rattle.sat_trail.specs.Entry.{values_of, last_level, up_to}
+use Rattle.clause_core.specs.Numbering.{Numbering}
 use Rattle.sat_trail.specs.Growth.{IsDecision, IsForced, MayBeSet}
 use Rattle.sat_trail.specs.inner.Growth.{Grows, IsGrown}
 use Rattle.sat_trail.specs.State.{State, numbering_of}
 use Rattle.sat_trail.specs.Trail.{IsTrail}
 use Rattle.sat_trail.specs.Levels.{HasOneDecision, HasLevels, HasCauses, IsPropagatedBelow}
-use Rattle.sat_trail.proofs.EntryLemmas.{entry_of-apart, values_of-none}
+use Rattle.sat_trail.proofs.EntryLemmas.{entry_of-distinct, values_of-none}
 use Rattle.sat_trail.proofs.StorageLemmas.{last_level-push}
 use Rattle.sat_trail.proofs.LevelLemmas.{level-step, moved, IsTop, IsTop-push, IsTop-grown, IsTop-none, up_to-both, Grows-split, decision-above}
 
@@ -55,11 +54,11 @@ IsPropagatedBelow-trail t trail level below =
 
 -- entries that follow are for other variables, and those before them stay distinct
 once-grown : (numbering : Numbering) (before rest : List Entry) → Grows numbering before rest → AllPairs (λ d e. d.lit.var ≢ e.lit.var) before → AllPairs (λ d e. d.lit.var ≢ e.lit.var) (before ++ rest)
-once-grown numbering before [] follows apart = subst (AllPairs (λ d e. d.lit.var ≢ e.lit.var)) (sym (append-nil before)) apart
-once-grown numbering before (e ∷ rest) follows apart =
+once-grown numbering before [] follows differs = subst (AllPairs (λ d e. d.lit.var ≢ e.lit.var)) (sym (append-nil before)) differs
+once-grown numbering before (e ∷ rest) follows differs =
     subst (AllPairs (λ d e. d.lit.var ≢ e.lit.var)) (moved before e rest)
     (once-grown numbering (before ++ e ∷ []) rest follows.1
-    (all_pairs_push (λ d f. d.lit.var ≢ f.lit.var) before e apart (entry_of-apart before e.lit.var (values_of-none before e.lit.var follows.0.no_value))))
+    (all_pairs_push (λ d f. d.lit.var ≢ f.lit.var) before e differs (entry_of-distinct before e.lit.var (values_of-none before e.lit.var follows.0.no_value))))
 
 -- levels never fall along the entries
 rising-grown : (numbering : Numbering) (before rest : List Entry) → Grows numbering before rest → IsTop before → AllPairs (λ d e. d.level ≤ e.level) before → AllPairs (λ d e. d.level ≤ e.level) (before ++ rest)

@@ -1,15 +1,13 @@
 -- How entries follow one another, and what forced entries add.
-use Rattle.std.proofs.Common.{◌≡◌, ◌≢◌, ℕ, zero, suc, ◌+◌, ◌-◌, ◌<◌, ◌≤◌, Bool, true, false, not, Option, Some, None, option_map, IsSome, List, [], ◌∷◌, ◌++◌, ◌⊎◌, inl, inr, length, take, drop, get_or, slice_get, sym, ap, refl, ◌∙◌, subst, append_assoc, append-nil, arith, All, Contains, length-append}
+use Rattle.std.proofs.Common.{◌≡◌, ℕ, zero, suc, ◌<◌, ◌≤◌, Some, option_map, IsSome, List, [], ◌∷◌, ◌++◌, inr, sym, ap, refl, ◌∙◌, subst, append_assoc, append-nil, arith, All, Contains}
 use Rattle.std.proofs.lemmas.List.Elements.{All-append, All-contains}
-use Rattle.std.proofs.lemmas.Option.{get_or_from_slice_get, slice_get_within}
 use Rattle.clause_core.specs.declared.literal.Lit.{Lit}
 use Rattle.clause_core.specs.Clause.{VariablesExist}
-use Rattle.clause_core.specs.Propagation.{MakesFalse, Falsifies, OthersFalse, LeavesOnly, IsPropagated}
+use Rattle.clause_core.specs.Propagation.{LeavesOnly}
 use Rattle.sat_trail.specs.declared.entry.Entry.{Entry}
-use Rattle.sat_trail.specs.Entry.{entry_of, values_of, last_level}
+use Rattle.sat_trail.specs.Entry.{values_of, last_level}
 use Rattle.clause_core.specs.Numbering.{Numbering, numbered, HasNumber}
-use Rattle.sat_trail.specs.Growth.{IsDecision, IsForced, MayBeSet}
-use Rattle.sat_trail.specs.inner.Growth.{Grows, IsGrown}
+use Rattle.sat_trail.specs.inner.Growth.{Grows}
 use Rattle.sat_trail.specs.inner.Examination.{IsSettled}
 use Rattle.sat_trail.specs.inner.Storage.{Assigned, StoredClauses}
 use Rattle.sat_trail.specs.inner.Propagation.{CanPropagate, Extends}

@@ -1,15 +1,14 @@
 -- How the levels rise along a trail.
-use Rattle.std.proofs.Common.{◌≡◌, ◌≢◌, ℕ, zero, suc, ◌+◌, ◌-◌, ◌<◌, ◌≤◌, Bool, true, false, not, Option, Some, None, List, [], ◌∷◌, ◌++◌, ◌⊎◌, inl, inr, length, take, drop, get_or, sym, ap, refl, ◌∙◌, subst, append_assoc, append-nil, arith, All, Contains, length-append, cond}
+use Rattle.std.proofs.Common.{◌≡◌, ℕ, ◌+◌, ◌<◌, ◌≤◌, List, [], ◌∷◌, ◌++◌, inl, inr, length, sym, ap, refl, ◌∙◌, subst, append_assoc, append-nil, arith, All, length-append}
 use Rattle.std.proofs.lemmas.Bool.{le-leb, lt-leb}
-use Rattle.std.proofs.lemmas.List.Elements.{All-append, All-contains, All-head, All-tail, All-weaker, All-push, filter-append}
-use Rattle.std.specs.Prelude.{filter, nat_le}
-use Rattle.clause_core.specs.declared.literal.Lit.{Lit}
+use Rattle.std.proofs.lemmas.List.Elements.{All-head, All-tail, All-weaker, All-push, filter-append}
+use Rattle.std.specs.Prelude.{nat_le}
 use Rattle.clause_core.specs.Propagation.{IsPropagated}
 use Rattle.sat_trail.specs.declared.entry.Entry.{Entry}
-use Rattle.sat_trail.specs.Entry.{entry_of, values_of, last_level, up_to}
-use Rattle.clause_core.specs.Numbering.{Numbering, numbered, HasNumber}
-use Rattle.sat_trail.specs.Growth.{IsDecision, IsForced, MayBeSet}
-use Rattle.sat_trail.specs.inner.Growth.{Grows, IsGrown}
+use Rattle.sat_trail.specs.Entry.{values_of, last_level, up_to}
+use Rattle.clause_core.specs.Numbering.{Numbering}
+use Rattle.sat_trail.specs.Growth.{MayBeSet}
+use Rattle.sat_trail.specs.inner.Growth.{Grows}
 use Rattle.sat_trail.proofs.StorageLemmas.{last_level-push}
 
 -- an entry is of the level before it or of the next one
@@ -77,7 +76,7 @@ up_to-both level kept dropped low high =
     filter-append (λ e. nat_le e.level level) kept dropped ∙ ap (λ es. es ++ up_to level dropped) (up_to-low level kept low)
     ∙ ap (λ es. kept ++ es) (up_to-high level dropped high) ∙ append-nil kept
 
--- entries that follow, taken apart
+-- entries that follow, in two parts
 pub Grows-split : (numbering : Numbering) (before xs ys : List Entry) → Grows numbering before (xs ++ ys) → Grows numbering before xs × Grows numbering (before ++ xs) ys
 Grows-split numbering before [] ys follows = (tt, subst (λ es. Grows numbering es ys) (sym (append-nil before)) follows)
 Grows-split numbering before (x ∷ xs) ys follows =

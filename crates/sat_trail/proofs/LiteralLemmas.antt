@@ -1,8 +1,7 @@
 -- Literals that are one or differ, and whether a clause holds one.
-use Rattle.std.proofs.Common.{◌≡◌, ◌≢◌, ℕ, zero, suc, ◌+◌, ◌<◌, ◌≤◌, Bool, true, false, not, List, [], ◌∷◌, ◌⊎◌, inl, inr, length, get_or, sym, ap, refl, ◌∙◌, arith, Contains}
+use Rattle.std.proofs.Common.{◌≡◌, ◌≢◌, ℕ, zero, suc, ◌<◌, Bool, true, false, not, List, [], ◌∷◌, ◌⊎◌, inl, inr, length, get_or, sym, ap, refl, ◌∙◌, arith, Contains}
 use Rattle.std.proofs.lemmas.Bool.{cases_eq}
 use Rattle.clause_core.specs.declared.literal.Lit.{Lit}
-use Rattle.clause_core.specs.Literal.{negated}
 
 -- two truth values are one or differ
 pub cases_bool : (a b : Bool) → (a ≡ b) ⊎ (a ≡ not b)
@@ -33,13 +32,13 @@ cases_literal l m = elim (cases_eq l.var m.var) [
     | inl signs ↦ inl (same_literal l m variables signs)
     | inr opposite ↦ inr (λ same. not-differs m.positive (sym (ap (λ (k : Lit). k.positive) same) ∙ opposite))
   ]
-  | inr apart ↦ inr (λ same. apart (ap (λ (k : Lit). k.var) same))
+  | inr differs ↦ inr (λ same. differs (ap (λ (k : Lit). k.var) same))
 ]
 
 -- a literal that is neither the first nor among the others is not in the clause
 not_in_either : (m : Lit) (rest : List Lit) (l : Lit) → m ≢ l → ¬ Contains rest l → (k : ℕ) → k < length (m ∷ rest) → get_or (m ∷ rest) k l ≡ l → ⊥
-not_in_either m rest l other missing zero within at_place = other at_place
-not_in_either m rest l other missing (suc k) within at_place = missing (k, omega arith, at_place)
+not_in_either m rest l other missing zero within at_index = other at_index
+not_in_either m rest l other missing (suc k) within at_index = missing (k, omega arith, at_index)
 
 -- a clause holds a literal or not
 pub cases_member : (clause : List Lit) (l : Lit) → Contains clause l ⊎ (¬ Contains clause l)

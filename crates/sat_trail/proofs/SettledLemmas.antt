@@ -1,13 +1,13 @@
 -- When a clause is settled, and how that lasts.
-use Rattle.std.proofs.Common.{◌≡◌, ◌≢◌, ℕ, zero, suc, ◌+◌, ◌<◌, ◌≤◌, Bool, true, false, not, Option, Some, None, List, [], ◌∷◌, ◌++◌, ◌⊎◌, inl, inr, length, take, drop, get_or, is_some, sym, ap, refl, ◌∙◌, subst, arith, All, Contains}
+use Rattle.std.proofs.Common.{◌≡◌, ◌≢◌, ℕ, ◌+◌, ◌<◌, ◌≤◌, Bool, true, false, not, Option, Some, None, List, [], ◌∷◌, inl, inr, length, take, drop, get_or, is_some, sym, ap, refl, ◌∙◌, subst, arith, All, Contains}
 use Rattle.std.proofs.lemmas.List.{take_more, take_all, take-append-drop, get_or-take, get_or_default, length-take-le}
-use Rattle.std.proofs.lemmas.List.Elements.{All-contains, All-more, All-push, Contains-append_left, Contains-push, Contains-push_cases, Contains-get_or}
+use Rattle.std.proofs.lemmas.List.Elements.{All-contains, All-more, Contains-append_left, Contains-push, Contains-push_cases, Contains-get_or}
 use mathlib.Core.Bool.{beq}
 use Rattle.clause_core.specs.declared.literal.Lit.{Lit}
 use Rattle.clause_core.specs.Literal.{rank}
 use Rattle.clause_core.specs.Clause.{IsAscending}
 use Rattle.clause_core.specs.Propagation.{MakesFalse, Falsifies, OthersFalse, LeavesOnly, IsPropagated}
-use Rattle.clause_core.specs.Numbering.{numbered, HasNumber}
+use Rattle.clause_core.specs.Numbering.{numbered}
 use Rattle.sat_trail.specs.inner.Examination.{IsSettled}
 use Rattle.sat_trail.proofs.NumberLemmas.{number_all}
 use Rattle.sat_trail.proofs.LiteralLemmas.{cases_bool, cases_literal, not-differs}
@@ -70,7 +70,7 @@ pub IsSettled-no_unit : (values : ℕ → Option Bool) (clause : List Lit) (l : 
 IsSettled-no_unit values clause l settled leaves =
     some-none (values l.var) l.positive (settled.last_true l leaves.among leaves.others) leaves.no_value
 
--- where all clauses are settled, unit propagation has nothing to do
+-- if all clauses are settled, unit propagation has nothing to do
 pub IsPropagated-settled : (values : ℕ → Option Bool) (clauses : List (List Lit)) → All (IsSettled values values) clauses → IsPropagated values (numbered clauses)
 IsPropagated-settled values clauses settled = record {
   no_false = λ n c has. IsSettled-no_false values c (number_all (IsSettled values values) clauses n c settled has);
@@ -157,7 +157,7 @@ SoFar-two values clause i d (Some l) ascending within some so_far no_value =
 pub SoFar-all : (values : ℕ → Option Bool) (clause : List Lit) (i : ℕ) (left : Option Lit) → length clause ≤ i → SoFar values (take i clause) left → SoFar values clause left
 SoFar-all values clause i left past so_far = subst (λ lits. SoFar values lits left) (take_all i clause past) so_far
 
--- truth values that a test tells apart are opposite
+-- truth values that a test finds different are opposite
 beq-false : (a b : Bool) → beq a b ≡ false → a ≡ not b
 beq-false true true differs = cc
 beq-false true false differs = refl

@@ -1,6 +1,6 @@
 -- What the cells keep when an entry is set or taken out.
-use Rattle.std.proofs.Common.{◌≡◌, ◌≢◌, ℕ, zero, suc, ◌+◌, ◌-◌, ◌<◌, ◌≤◌, Bool, true, false, Option, Some, None, List, [], ◌∷◌, ◌++◌, ◌⊎◌, inl, inr, length, take, get_or, set, sym, ap, refl, ◌∙◌, subst, append_assoc, arith, is_some, All, AllPairs, Contains, cond, length-set, length-append, get_or-set_same, get_or-set_other}
-use Rattle.std.specs.List.{count_by, sum_by}
+use Rattle.std.proofs.Common.{◌≡◌, ◌≢◌, ℕ, zero, suc, ◌+◌, ◌-◌, ◌<◌, ◌≤◌, Bool, true, false, Option, Some, None, List, [], ◌∷◌, ◌++◌, inl, inr, length, take, get_or, set, sym, ap, refl, ◌∙◌, subst, append_assoc, arith, is_some, AllPairs, Contains, cond, length-set, get_or-set_same, get_or-set_other}
+use Rattle.std.specs.List.{count_by}
 use Rattle.std.proofs.lemmas.Bool.{cases_eq}
 use Rattle.std.proofs.lemmas.List.{get_or_append_left, get_or_push, length_push, length-take-le, take_more, take_more_set, take_all, get_or_default}
 use Rattle.std.proofs.lemmas.List.Elements.{All-push, All-cons, All-contains, Contains-push}
@@ -9,13 +9,13 @@ use Rattle.std.proofs.lemmas.List.Sums.{sum_by-cons, sum_by-set, count_by-le-len
 use Rattle.sat_trail.specs.declared.entry.Entry.{Entry}
 use Rattle.sat_trail.specs.Entry.{entry_of, values_of, last_level}
 use Rattle.sat_trail.specs.inner.Storage.{Agrees, Assigned, HasRoom, IsStored, StartsWith}
-use Rattle.sat_trail.proofs.EntryLemmas.{values_of-none, entry_of-apart, entry_of-absent, entry_of-push_same, entry_of-push_other}
+use Rattle.sat_trail.proofs.EntryLemmas.{values_of-none, entry_of-distinct, entry_of-absent, entry_of-push_same, entry_of-push_other}
 
 -- 1 for a test that passes
 abbrev weight : Bool → ℕ
 weight b = cond b 1 0
 
--- where one element fails a test, fewer pass than there are
+-- if one element fails a test, fewer pass than there are
 count_by-lt : (p : Option Entry → Bool) (xs : List (Option Entry)) (i : ℕ) (d : Option Entry) → i < length xs → p (get_or xs i d) ≡ false → count_by p xs < length xs
 count_by-lt p [] i d within fails = absurd (omega arith)
 count_by-lt p (x ∷ xs) zero d within fails =
@@ -47,8 +47,8 @@ found_after-push es cells e agrees from_one exists missing v within =
           let whole : v + 1 ≡ e.lit.var = omega arith in
           rw same (get_or-set_same cells (e.lit.var - 1) (Some e) None (omega arith) ∙ sym (entry_of-push_same es e missing) ∙ ap (entry_of (es ++ e ∷ [])) (let back : e.lit.var ≡ e.lit.var - 1 + 1 = omega arith in back))
       | inr other ↦
-          let apart : e.lit.var ≢ v + 1 = λ meets. other (omega arith) in
-          get_or-set_other cells (e.lit.var - 1) v (Some e) None other ∙ agrees.found v within ∙ sym (entry_of-push_other es e (v + 1) apart)
+          let differs : e.lit.var ≢ v + 1 = λ meets. other (omega arith) in
+          get_or-set_other cells (e.lit.var - 1) v (Some e) None other ∙ agrees.found v within ∙ sym (entry_of-push_other es e (v + 1) differs)
     ]
 
 -- the cell that is emptied has nothing, and the others have what they had
@@ -58,8 +58,8 @@ found_after-pop es cells e agrees from_one exists missing v within =
       | inl same ↦
           rw same (get_or-set_same cells (e.lit.var - 1) None None (omega arith) ∙ sym missing ∙ ap (entry_of es) (let back : e.lit.var ≡ e.lit.var - 1 + 1 = omega arith in back))
       | inr other ↦
-          let apart : e.lit.var ≢ v + 1 = λ meets. other (omega arith) in
-          get_or-set_other cells (e.lit.var - 1) v None None other ∙ agrees.found v within ∙ entry_of-push_other es e (v + 1) apart
+          let differs : e.lit.var ≢ v + 1 = λ meets. other (omega arith) in
+          get_or-set_other cells (e.lit.var - 1) v None None other ∙ agrees.found v within ∙ entry_of-push_other es e (v + 1) differs
     ]
 
 -- how many cells are full after a write
@@ -70,7 +70,7 @@ full_after-set cells i o within = sum_by-set (λ x. cond (is_some x) 1 0) cells 
 pub Agrees-push : (es : List Entry) (cells : List (Option Entry)) (e : Entry) → Agrees es cells → 0 < e.lit.var → e.lit.var ≤ length cells → values_of es e.lit.var ≡ None → Agrees (es ++ e ∷ []) (set cells (e.lit.var - 1) (Some e))
 Agrees-push es cells e agrees from_one exists none = record {
   found = λ v within. found_after-push es cells e agrees from_one exists missing v (omega (arith, length-set cells (e.lit.var - 1) (Some e)));
-  distinct = all_pairs_push (λ c d. c.lit.var ≢ d.lit.var) es e agrees.distinct (entry_of-apart es e.lit.var missing);
+  distinct = all_pairs_push (λ c d. c.lit.var ≢ d.lit.var) es e agrees.distinct (entry_of-distinct es e.lit.var missing);
   exist = rw (length-set cells (e.lit.var - 1) (Some e)) (All-push (λ d. (0 < d.lit.var) × (d.lit.var ≤ length cells)) es e agrees.exist (from_one, exists));
   counted = omega (arith, full_after-set cells (e.lit.var - 1) (Some e) (omega arith), agrees.counted, length_push es e, empty);
 }
@@ -83,8 +83,8 @@ Agrees-push es cells e agrees from_one exists none = record {
 
 -- the last entry's variable has no other entry
 last_alone : (es : List Entry) (e : Entry) → AllPairs (λ c d. c.lit.var ≢ d.lit.var) (es ++ e ∷ []) → entry_of es e.lit.var ≡ None
-last_alone es e apart = entry_of-absent es e.lit.var (λ k d within same.
-    apart k (length es) d within (omega (arith, length_push es e))
+last_alone es e differs = entry_of-absent es e.lit.var (λ k d within same.
+    differs k (length es) d within (omega (arith, length_push es e))
     (ap (λ (x : Entry). x.lit.var) (get_or_append_left es (e ∷ []) d k within) ∙ same ∙ ap (λ (x : Entry). x.lit.var) (sym (get_or_push es e d (length es) refl))))
 
 -- the cells of one entry less

@@ -1,20 +1,17 @@
 -- What every trail keeps, through each of its calls.
-use Rattle.std.proofs.Common.{◌≡◌, ◌≢◌, ℕ, zero, suc, ◌+◌, ◌-◌, ◌<◌, ◌≤◌, Bool, true, false, not, Option, Some, None, option_map, IsSome, IsTrue, is_some, is_none, IfNone, List, [], ◌∷◌, ◌++◌, ◌⊎◌, inl, inr, length, take, drop, get_or, slice_get, sym, ap, refl, ◌∙◌, subst, append_assoc, append-nil, arith, All, Contains, length-append}
-use Rattle.std.proofs.lemmas.List.Elements.{All-append, All-contains}
+use Rattle.std.proofs.Common.{◌≡◌, ℕ, ◌<◌, ◌≤◌, Bool, true, false, not, Option, Some, None, IsTrue, is_some, IfNone, List, [], length, sym, ap, refl, ◌∙◌, subst, All}
+use Rattle.std.proofs.lemmas.List.Elements.{All-append}
 use Rattle.clause_core.specs.declared.literal.Lit.{Lit}
-use Rattle.clause_core.specs.Clause.{VariablesExist}
-use Rattle.clause_core.specs.Propagation.{MakesFalse, Falsifies, OthersFalse, LeavesOnly, IsPropagated}
+use Rattle.clause_core.specs.Propagation.{IsPropagated}
 use Rattle.sat_trail.specs.declared.entry.Entry.{Entry}
-use Rattle.sat_trail.specs.Entry.{entry_of, values_of, last_level}
-use Rattle.clause_core.specs.Numbering.{Numbering, numbered, HasNumber}
-use Rattle.sat_trail.specs.Growth.{IsDecision, IsForced, MayBeSet}
+use Rattle.sat_trail.specs.Entry.{values_of}
+use Rattle.clause_core.specs.Numbering.{numbered}
 use Rattle.sat_trail.specs.inner.Growth.{Grows, IsGrown}
-use Rattle.sat_trail.specs.State.{State}
 use Rattle.sat_trail.specs.inner.Storage.{Assigned, StoredClauses}
 use Rattle.sat_trail.specs.Trail.{Propagates}
-use Rattle.sat_trail.specs.inner.Propagation.{CanPropagate, Extends, IsExamined, IsKept, state_of}
+use Rattle.sat_trail.specs.inner.Propagation.{Extends, IsExamined, IsKept, state_of}
 use Rattle.sat_trail.proofs.LiteralLemmas.{not-not}
-use Rattle.sat_trail.proofs.GrowthLemmas.{Grows-append, Extends-more}
+use Rattle.sat_trail.proofs.GrowthLemmas.{Grows-append}
 use Rattle.sat_trail.proofs.ExaminedLemmas.{IsPropagated-examined}
 
 -- a fact for nothing found

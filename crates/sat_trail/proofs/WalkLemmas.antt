@@ -1,5 +1,5 @@
 -- What a walk over the clauses of one literal has settled.
-use Rattle.std.proofs.Common.{◌≡◌, ◌≢◌, ℕ, zero, suc, ◌+◌, ◌-◌, ◌<◌, ◌≤◌, Option, Some, None, List, [], ◌∷◌, ◌++◌, ◌⊎◌, inl, inr, length, take, drop, get_or, slice_get, sym, ap, refl, ◌∙◌, subst, arith, All, Contains, length-append}
+use Rattle.std.proofs.Common.{◌≡◌, ℕ, ◌+◌, ◌<◌, ◌≤◌, Some, List, [], ◌++◌, inl, inr, length, take, get_or, slice_get, sym, ap, ◌∙◌, subst, arith, Contains, length-append}
 use Rattle.std.proofs.lemmas.Bool.{cases_eq}
 use Rattle.std.proofs.lemmas.List.{take-append-le, get_or_append_left, get_or_default}
 use Rattle.std.proofs.lemmas.Option.{get_or_from_slice_get}

@@ -1,5 +1,6 @@
 -- The set literals of a trail, in the order of setting, and the values that they give.
-use Rattle.std.specs.Prelude.{ℕ, ◌==◌, Bool, Option, None, List, [], ◌∷◌, filter, find, nat_le, option_and_then}
+use Rattle.std.specs.Prelude.{ℕ, ◌==◌, Bool, Option, None, List, [], ◌∷◌, filter, find, nat_le}
+use Rattle.std.specs.Prelude.{option_and_then}
 use Rattle.std.specs.Option.{option_map}
 use Rattle.clause_core.specs.declared.literal.Lit.{Lit}
 use Rattle.sat_trail.specs.declared.entry.Entry.{Entry}

@@ -1,6 +1,6 @@
-ghost use Rattle.std.specs.Prelude.{◌≡◌, ◌-◌, ◌+◌, ◌*◌, ◌^◌, ◌<◌, ◌≤◌, ◌++◌, [], ◌∷◌, Some, List, ℕ, length, All, Contains, IfOk, OnOk, OnErr, IfSome, slice_get, slice_index_or};
-ghost use Rattle.clause_core.specs.declared.literal.Lit.{Lit as Literal};
-ghost use Rattle.clause_core.specs.Clause.{VariablesExist, IsAscending};
+ghost use Rattle.std.specs.Prelude.{◌≡◌, ◌-◌, ◌+◌, ◌*◌, ◌^◌, ◌<◌, ◌≤◌, ◌++◌, [], ◌∷◌, length, All};
+ghost use Rattle.std.specs.Prelude.{Contains, IfOk, OnOk, OnErr, slice_index_or};
+ghost use Rattle.clause_core.specs.Clause.{VariablesExist};
 ghost use Rattle.clause_core.specs.Literal.{rank};
 ghost use Rattle.clause_core.specs.Numbering.{numbered, HasNumber};
 ghost use Rattle.sat_trail.specs.inner.Storage.{HasOccurrences, KeepsLists, ListsOccurrences};

@@ -1,8 +1,8 @@
-ghost use Rattle.std.specs.Prelude.{◌≡◌, ◌-◌, ◌+◌, ◌<◌, ◌≤◌, [], ℕ, length, Contains, IfSome, IfNone, slice_index_or};
+ghost use Rattle.std.specs.Prelude.{◌≡◌, ◌-◌, ◌+◌, ◌<◌, [], length, IfSome, IfNone, slice_index_or};
 ghost use Rattle.std.specs.Bool.{OnTrue, OnFalse};
 ghost use Rattle.clause_core.specs.Numbering.{numbered};
-ghost use Rattle.clause_core.specs.Propagation.{Falsifies, IsFalsified};
-ghost use Rattle.sat_trail.specs.Entry.{values_of, last_level};
+ghost use Rattle.clause_core.specs.Propagation.{IsFalsified};
+ghost use Rattle.sat_trail.specs.Entry.{values_of};
 ghost use Rattle.sat_trail.specs.inner.Examination.{IsSettled};
 ghost use Rattle.sat_trail.specs.inner.Propagation.{CanPropagate, Extends, HasExamined, IsExamined};
 

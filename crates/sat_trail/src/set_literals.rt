@@ -1,4 +1,5 @@
-ghost use Rattle.std.specs.Prelude.{◌≡◌, ◌-◌, ◌+◌, ◌<◌, ◌≤◌, ◌++◌, [], ◌∷◌, None, Some, length, take, IfOk, slice_get};
+ghost use Rattle.std.specs.Prelude.{◌≡◌, ◌-◌, ◌+◌, ◌<◌, ◌≤◌, ◌++◌, [], ◌∷◌, None, Some, length};
+ghost use Rattle.std.specs.Prelude.{take, IfOk, slice_get};
 ghost use Rattle.sat_trail.specs.Entry.{entry_of, values_of, last_level};
 ghost use Rattle.sat_trail.specs.inner.Storage.{StartsWith, HasRoom};
 
@@ -18,14 +19,14 @@ pub struct Entries {
 }
 
 impl Model for Entries {
-    ghost use Rattle.std.specs.Prelude.{◌≡◌, ◌<◌, ◌≤◌, ◌^◌, length, take};
+    ghost use Rattle.std.specs.Prelude.{◌≡◌, ◌<◌, ◌≤◌, length, take};
     ghost use Rattle.sat_trail.specs.inner.Storage.{Assigned, IsStored};
 
     ghost Value = { Assigned };
 
     ghost view = { λ a. record {
-        vars = length a.cells.items;
-        entries = take a.len a.slots.items;
+      vars = length a.cells.items;
+      entries = take a.len a.slots.items;
     } };
 
     ghost invariant = { λ a. IsStored a.slots.items a.len a.cells.items };

@@ -1,4 +1,6 @@
-ghost use Rattle.std.specs.Prelude.{◌≡◌, ◌-◌, ◌+◌, ◌^◌, ◌<◌, ◌≤◌, ◌++◌, ◌⊎◌, ◌↔◌, [], ◌∷◌, None, Some, false, length, map, IsTrue, IsSome, IfOk, OnOk, OnErr, IfSome, IfNone, is_none, slice_get};
+ghost use Rattle.std.specs.Prelude.{◌≡◌, ◌-◌, ◌+◌, ◌^◌, ◌<◌, ◌≤◌, ◌++◌, ◌⊎◌, ◌↔◌, [], ◌∷◌, None};
+ghost use Rattle.std.specs.Prelude.{Some, false, length, map, IsTrue, IsSome, IfOk, OnErr, IfSome};
+ghost use Rattle.std.specs.Prelude.{IfNone, is_none, slice_get};
 ghost use Rattle.clause_core.specs.Clause.{VariablesExist};
 ghost use Rattle.clause_core.specs.Numbering.{numbered, HasNumber};
 ghost use Rattle.clause_core.specs.Propagation.{IsFalsified, IsPropagated};
@@ -115,8 +117,7 @@ impl Trail {
         requires from_one { 0 < lit.var }
         requires exists { lit.var ≤ self.old.vars }
         requires no_value { values_of self.old.entries lit.var ≡ None }
-        ensures decided {
-            let level = self.old.level + 1 in
+        ensures decided { let level = self.old.level + 1 in
             let entries = self.old.entries ++ decided lit level ∷ [] in
             self.new ≡ record self.old { entries = entries; level = level; ready = false } }
         ensures room { length self.old.entries < self.old.vars }

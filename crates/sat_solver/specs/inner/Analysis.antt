@@ -1,5 +1,6 @@
 -- What the analysis of a falsified clause finds.
-use Rattle.std.specs.Prelude.{◌≡◌, ◌≢◌, ℕ, ◌<◌, ◌≤◌, ◌⊎◌, Bool, false, Some, IsSome, List, [], ◌∷◌, ◌++◌, take, length, All, Contains, slice_get}
+use Rattle.std.specs.Prelude.{◌≡◌, ◌≢◌, ℕ, ◌<◌, ◌≤◌, ◌⊎◌, false, Some, IsSome, List, [], take}
+use Rattle.std.specs.Prelude.{length, All, Contains, slice_get}
 use Rattle.clause_core.specs.declared.literal.Lit.{Lit}
 use Rattle.clause_core.specs.Literal.{negated}
 use Rattle.clause_core.specs.Propagation.{Falsifies}

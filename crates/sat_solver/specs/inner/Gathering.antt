@@ -1,5 +1,6 @@
 -- The literals that an analysis has gathered, which are false under the trail.
-use Rattle.std.specs.Prelude.{◌≡◌, ◌≢◌, ℕ, ◌↔◌, ◌⊎◌, Bool, false, Some, List, Contains, slice_get, count_by, unwrap_or, ◌==◌}
+use Rattle.std.specs.Prelude.{◌≡◌, ◌≢◌, ℕ, ◌↔◌, ◌⊎◌, Bool, false, Some, List, Contains, slice_get}
+use Rattle.std.specs.Prelude.{count_by, unwrap_or, ◌==◌}
 use Rattle.std.specs.Option.{option_map}
 use Rattle.clause_core.specs.declared.literal.Lit.{Lit}
 use Rattle.clause_core.specs.Literal.{negated}
@@ -28,11 +29,11 @@ pub record AreFalse (t : State) (f : FalseLits) : Type 0 where
   pub counted : f.current ≡ count_by (is_current t) f.set.lits
 
 -- the new set has the old literals and this one
-pub record Inserts (old : List Lit) (lit : Lit) (new : List Lit) : Type 0 where
+pub record AddsLiteral (old : List Lit) (lit : Lit) (new : List Lit) : Type 0 where
   pub members : (l : Lit) → Contains new l ↔ (Contains old l ⊎ (lit ≡ l))
 
 -- the new set has the old literals and those of the clause
-pub record InsertsAll (old clause new : List Lit) : Type 0 where
+pub record AddsLiterals (old clause new : List Lit) : Type 0 where
   pub members : (l : Lit) → Contains new l ↔ (Contains old l ⊎ Contains clause l)
 
 -- the new set has the literals of the resolvent

@@ -1,5 +1,6 @@
 -- A set of literals over numbered variables, and the positions where it finds them.
-use Rattle.std.specs.Prelude.{◌≡◌, ◌≢◌, ℕ, ◌+◌, ◌-◌, ◌^◌, ◌<◌, ◌≤◌, List, ◌∷◌, length, take, AllPairs, Contains, nat_lt, count_by, slice_index_or}
+use Rattle.std.specs.Prelude.{◌≡◌, ◌≢◌, ℕ, ◌+◌, ◌-◌, ◌^◌, ◌<◌, ◌≤◌, List, ◌∷◌, length, take}
+use Rattle.std.specs.Prelude.{AllPairs, Contains, nat_lt, count_by, slice_index_or}
 use Rattle.std.specs.List.Sorted.{IsPermutation}
 use Rattle.clause_core.specs.declared.literal.Lit.{Lit}
 use Rattle.clause_core.specs.Clause.{VariablesExist}

@@ -1,5 +1,5 @@
 -- What the values of the set literals say of one clause.
-use Rattle.std.specs.Prelude.{◌≡◌, ◌≢◌, ℕ, Bool, Option, Some, List, Contains}
+use Rattle.std.specs.Prelude.{◌≡◌, ℕ, Bool, Option, Some, List, Contains}
 use Rattle.clause_core.specs.declared.literal.Lit.{Lit}
 use Rattle.clause_core.specs.Propagation.{OthersFalse, Falsifies, LeavesOnly}
 use Rattle.sat_trail.specs.declared.examination.Finding.{Finding}

@@ -1,5 +1,6 @@
 -- What the steps of unit propagation add to the entries, and which clauses they have examined.
-use Rattle.std.specs.Prelude.{◌≡◌, ℕ, ◌+◌, ◌<◌, ◌≤◌, IsTrue, IsSome, Bool, List, [], ◌++◌, length, take, All, Contains, slice_index_or}
+use Rattle.std.specs.Prelude.{◌≡◌, ℕ, ◌+◌, ◌<◌, ◌≤◌, IsTrue, IsSome, Bool, List, [], ◌++◌, length}
+use Rattle.std.specs.Prelude.{take, All, Contains, slice_index_or}
 use Rattle.clause_core.specs.declared.literal.Lit.{Lit}
 use Rattle.clause_core.specs.Literal.{negated}
 use Rattle.clause_core.specs.Clause.{VariablesExist}
@@ -33,7 +34,7 @@ HasExamined clauses entries position =
     (k : ℕ) (e : Entry) → k < length clauses → slice_index_or entries position e ≡ e →
     Contains (slice_index_or clauses k []) (negated e.lit) →
     IsSettled (values_of (take (position + 1) entries)) (values_of entries)
-        (slice_index_or clauses k [])
+    (slice_index_or clauses k [])
 
 -- the first `examined` clauses are settled by the first `head` entries
 pub record IsExamined

@@ -1,10 +1,11 @@
 -- How the entries and the clauses are stored, so that a variable or a literal finds them.
-use Rattle.std.specs.Prelude.{◌≡◌, ◌≢◌, ℕ, ◌+◌, ◌*◌, ◌^◌, ◌<◌, ◌≤◌, Option, None, List, [], ◌++◌, length, All, AllPairs, Contains, is_some, count_by, take, slice_index_or}
+use Rattle.std.specs.Prelude.{◌≡◌, ◌≢◌, ℕ, ◌+◌, ◌*◌, ◌^◌, ◌<◌, ◌≤◌, Option, None, List, [], ◌++◌}
+use Rattle.std.specs.Prelude.{length, All, AllPairs, Contains, is_some, count_by, take}
+use Rattle.std.specs.Prelude.{slice_index_or}
 use Rattle.clause_core.specs.declared.literal.Lit.{Lit}
 use Rattle.clause_core.specs.Literal.{rank}
-use Rattle.clause_core.specs.Clause.{IsAscending, VariablesExist}
 use Rattle.sat_trail.specs.declared.entry.Entry.{Entry}
-use Rattle.sat_trail.specs.Entry.{entry_of, values_of, last_level}
+use Rattle.sat_trail.specs.Entry.{entry_of, values_of}
 
 -- the entries, over the variables from 1 to `vars`
 pub record Assigned : Type 0 where

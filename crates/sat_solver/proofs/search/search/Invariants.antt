@@ -1,10 +1,10 @@
 -- The trail goes on over the same clauses.
 use Rattle.std.proofs.Common.{◌-◌, length}
-use Rattle.sat_solver.specs.inner.Search.{GoesOn}
+use Rattle.sat_solver.specs.inner.Search.{KeepsClauses}
 use Rattle.sat_solver.proofs.search.search.Given as goal
 
 abbrev pub invariant-deciding : goal.invariant-deciding
-invariant-deciding l = GoesOn l.fn.trail l.trail
+invariant-deciding l = KeepsClauses l.fn.trail l.trail
 
 abbrev pub decreases-deciding : goal.decreases-deciding
 decreases-deciding l = l.trail.vars - length l.trail.entries

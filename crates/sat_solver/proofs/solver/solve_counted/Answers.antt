@@ -17,18 +17,18 @@ loop-init c =
 pub returns-in_default : goal.returns-in_default
 returns-in_default c = record {
   whole = c.in_ok-model.ensures.whole;
-  satisfies = satisfies-formula c.args.f.now c.search.new.trail c.loop.steps _ (HasLearned-search _ _ _ _ c.loop.invariant.0 c.search.ensures.goes_on) c.in_ok-model.ensures.satisfies;
+  satisfies = satisfies-formula c.args.f.now c.search.new.trail c.loop.steps _ (HasLearned-search _ _ _ _ c.loop.invariant.0 c.search.ensures.keeps) c.in_ok-model.ensures.satisfies;
 }
 
 pub returns-then-level-eq0 : goal.returns-then-level-eq0
 returns-then-level-eq0 c = rw c.in_ok-push.ensures.ok
     (Refutes-learned c.args.f.now c.search.new.trail c.loop.steps c.args.budget c.in-Some.number c.in_ok-chain.field-0.chain c.in_ok-chain.field-0.clause
     c.step_appends.ensures c.new_clause_appends.ensures
-    (HasLearned-search _ _ _ _ c.loop.invariant.0 c.search.ensures.goes_on) (omega (arith, c.loop.invariant.1, c.loop-test.true)) c.in_ok-chain.ensures)
+    (HasLearned-search _ _ _ _ c.loop.invariant.0 c.search.ensures.keeps) (omega (arith, c.loop.invariant.1, c.loop-test.true)) c.in_ok-chain.ensures)
 
 pub learn_from-requires-clause-few : goal.learn_from-requires-clause-few
 learn_from-requires-clause-few c =
-    few-learned c.args.f.now c.search.new.trail c.loop.steps c.args.budget (HasLearned-search _ _ _ _ c.loop.invariant.0 c.search.ensures.goes_on)
+    few-learned c.args.f.now c.search.new.trail c.loop.steps c.args.budget (HasLearned-search _ _ _ _ c.loop.invariant.0 c.search.ensures.keeps)
     (omega (arith, c.loop.invariant.1, c.loop-test.true)) c.requires.few
 
 pub loop-preserved : goal.loop-preserved
@@ -36,7 +36,7 @@ loop-preserved c =
     let above : 0 < c.search.new.trail.level = omega (arith, c.level.ensures.same, c.if-level-eq0.false) in (
       rw c.in_ok-push-2.ensures.ok
           (HasLearned-learn c.args.f.now c.search.new.trail c.learn_from.new.trail c.loop.steps _ c.step_appends.ensures c.new_clause_appends.ensures
-          (HasLearned-search _ _ _ _ c.loop.invariant.0 c.search.ensures.goes_on) above c.in_ok-learn_from.ensures.learns),
+          (HasLearned-search _ _ _ _ c.loop.invariant.0 c.search.ensures.keeps) above c.in_ok-learn_from.ensures.learns),
       rw c.in_ok-push-2.ensures.ok (length-append c.loop.steps _ ∙ ap (λ n. n + 1) c.loop.invariant.1),
       c.in_ok-learn_from.ensures.vars ∙ sym (ap (λ (s : State). s.vars) c.in_ok-learn_from.ensures.learns.adds.rest),
     )

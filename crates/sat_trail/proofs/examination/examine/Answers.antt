@@ -1,5 +1,5 @@
 -- A clause with two literals that have no value is settled; the others are examined to the end.
-use Rattle.std.proofs.Common.{◌≡◌, sym, Some, None, take, subst, ◌+◌}
+use Rattle.std.proofs.Common.{sym, Some, None, take, subst, ◌+◌}
 use Rattle.sat_trail.specs.Entry.{values_of}
 use Rattle.sat_trail.proofs.SettledLemmas.{SoFar, SoFar-false, SoFar-left, SoFar-two, SoFar-all, SoFar-none, opposite_value}
 use Rattle.sat_trail.proofs.examination.examine.Goals as goal

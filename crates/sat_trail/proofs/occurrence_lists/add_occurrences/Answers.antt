@@ -1,5 +1,5 @@
 -- The list of one more literal has the index, and the other lists keep what they had.
-use Rattle.std.proofs.Common.{arith, rules}
+use Rattle.std.proofs.Common.{rules}
 use Rattle.sat_trail.proofs.OccurrenceLemmas.{AddsSome-step, HasEach-all}
 use Rattle.sat_trail.proofs.occurrence_lists.add_occurrences.Goals as goal
 

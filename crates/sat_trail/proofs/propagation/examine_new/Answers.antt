@@ -1,5 +1,5 @@
 -- One clause after the other is settled.
-use Rattle.std.proofs.Common.{◌<◌, length, subst}
+use Rattle.std.proofs.Common.{◌<◌, subst}
 use Rattle.sat_trail.proofs.GrowthLemmas.{Extends-more, Runs-more}
 use Rattle.sat_trail.proofs.WalkLemmas.{IsExamined-extends}
 use Rattle.sat_trail.proofs.ExaminedLemmas.{IsExamined-next}

@@ -1,5 +1,5 @@
 -- One entry after the other is passed.
-use Rattle.std.proofs.Common.{◌<◌, length, subst}
+use Rattle.std.proofs.Common.{◌<◌, subst}
 use Rattle.sat_trail.proofs.GrowthLemmas.{Extends-more, Runs-more}
 use Rattle.sat_trail.proofs.WalkLemmas.{IsExamined-extends, extends-within}
 use Rattle.sat_trail.proofs.ExaminedLemmas.{IsExamined-entry}

@@ -1,5 +1,5 @@
 -- The walk settles the clauses that hold the negation.
-use Rattle.std.proofs.Common.{◌≡◌, ◌<◌, ◌+◌, sym, subst, arith}
+use Rattle.std.proofs.Common.{◌+◌, sym, subst, arith}
 use Rattle.sat_trail.specs.inner.Storage.{HasOccurrences}
 use Rattle.sat_trail.proofs.GrowthLemmas.{Extends-more}
 use Rattle.sat_trail.proofs.WalkLemmas.{Walks, Walks-propagate_clause, Walks-skip, HasExamined-walk}

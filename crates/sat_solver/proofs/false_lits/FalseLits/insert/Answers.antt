@@ -2,8 +2,8 @@
 use Rattle.std.proofs.Common.{◌≤◌, sym, subst}
 use Rattle.std.proofs.lemmas.Bool.{iff_false}
 use Rattle.sat_solver.specs.inner.LiteralSet.{LiteralSet}
-use Rattle.sat_solver.specs.inner.Gathering.{Inserts}
-use Rattle.sat_solver.proofs.GatheringLemmas.{false-exists, Inserts-push, Inserts-held, held}
+use Rattle.sat_solver.specs.inner.Gathering.{AddsLiteral}
+use Rattle.sat_solver.proofs.GatheringLemmas.{false-exists, AddsLiteral-push, AddsLiteral-held, held}
 use Rattle.sat_solver.proofs.false_lits.FalseLits.insert.Goals as goal
 
 pub insert-requires-clause-from_one : goal.insert-requires-clause-from_one
@@ -21,9 +21,9 @@ is_current-requires-clause-exists c = (false-exists c.args.trail.now c.args.lit 
 
 pub returns-then-insert-clause-inserted : goal.returns-then-insert-clause-inserted
 returns-then-insert-clause-inserted c =
-    subst (λ (s : LiteralSet). Inserts c.args.self.now.set.lits c.args.lit s.lits) (sym c.if-insert.ensures.pushed) (Inserts-push c.args.self.now.set.lits c.args.lit)
+    subst (λ (s : LiteralSet). AddsLiteral c.args.self.now.set.lits c.args.lit s.lits) (sym c.if-insert.ensures.pushed) (AddsLiteral-push c.args.self.now.set.lits c.args.lit)
 
 pub returns-else-insert-clause-inserted : goal.returns-else-insert-clause-inserted
 returns-else-insert-clause-inserted c =
-    subst (λ (s : LiteralSet). Inserts c.args.self.now.set.lits c.args.lit s.lits) (sym c.if-insert.ensures.same)
-    (Inserts-held c.args.self.now.set.lits c.args.lit (held c.args.self.now.set.lits c.args.lit (iff_false c.insert.ensures.new c.if-insert.false)))
+    subst (λ (s : LiteralSet). AddsLiteral c.args.self.now.set.lits c.args.lit s.lits) (sym c.if-insert.ensures.same)
+    (AddsLiteral-held c.args.self.now.set.lits c.args.lit (held c.args.self.now.set.lits c.args.lit (iff_false c.insert.ensures.new c.if-insert.false)))

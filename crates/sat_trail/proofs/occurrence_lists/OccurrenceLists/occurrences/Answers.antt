@@ -1,6 +1,5 @@
 -- The list of the literal is read.
-use Rattle.std.proofs.Common.{◌≡◌, ◌≤◌, List, ℕ, get_or, subst, sym, ◌∙◌}
-use Rattle.sat_trail.specs.inner.Storage.{HasOccurrences}
+use Rattle.std.proofs.Common.{◌≡◌, get_or, subst}
 use Rattle.sat_trail.proofs.OccurrenceLemmas.{HasOccurrences-read}
 use Rattle.sat_trail.proofs.occurrence_lists.OccurrenceLists.occurrences.Goals as goal
 

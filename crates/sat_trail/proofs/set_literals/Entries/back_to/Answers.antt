@@ -1,5 +1,5 @@
 -- One entry more is taken out.
-use Rattle.std.proofs.Common.{◌<◌, sym, subst}
+use Rattle.std.proofs.Common.{◌<◌, subst}
 use Rattle.sat_trail.proofs.StorageLemmas.{StartsWith-pop}
 use Rattle.sat_trail.proofs.set_literals.Entries.back_to.Goals as goal
 

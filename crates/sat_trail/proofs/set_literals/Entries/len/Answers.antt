@@ -1,5 +1,4 @@
 -- A free variable leaves room.
-use Rattle.std.proofs.Common.{arith}
 use Rattle.sat_trail.proofs.StorageLemmas.{HasRoom-stored}
 use Rattle.sat_trail.proofs.set_literals.Entries.len.Goals as goal
 

@@ -1,5 +1,5 @@
 -- The last entry's cell is emptied.
-use Rattle.std.proofs.Common.{◌<◌, arith, length, take, length-take}
+use Rattle.std.proofs.Common.{arith}
 use Rattle.std.proofs.lemmas.List.{length-take-le}
 use Rattle.sat_trail.proofs.StorageLemmas.{IsStored-pop}
 use Rattle.sat_trail.proofs.set_literals.Entries.pop.Goals as goal

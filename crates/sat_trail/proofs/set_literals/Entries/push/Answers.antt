@@ -1,7 +1,5 @@
 -- The new entry comes after the others, and its cell was empty.
-use Rattle.std.proofs.Common.{◌≡◌, ◌<◌, ◌≤◌, Option, None, Some, Bool, length, take, subst, sym, arith}
-use Rattle.sat_trail.specs.Entry.{values_of}
-use Rattle.sat_trail.specs.inner.Storage.{Assigned}
+use Rattle.std.proofs.Common.{arith}
 use Rattle.sat_trail.proofs.StorageLemmas.{slot_within, IsStored-push, assigned_after-push}
 use Rattle.sat_trail.proofs.set_literals.Entries.push.Goals as goal
 

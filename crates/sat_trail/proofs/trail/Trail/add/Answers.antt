@@ -1,8 +1,7 @@
 -- The clause is open, so it was settled at each lower level.
-use Rattle.std.proofs.Common.{◌≡◌, ◌<◌, ◌≤◌, ◌⊎◌, false, ap, sym, subst, arith}
+use Rattle.std.proofs.Common.{false, ap}
 use Rattle.sat_trail.specs.inner.Propagation.{state_of}
 use Rattle.sat_trail.specs.inner.Storage.{StoredClauses}
-use Rattle.sat_trail.specs.Trail.{HasTwoOpen}
 use Rattle.sat_trail.proofs.ChangeLemmas.{IsKept-add, Adds-push}
 use Rattle.sat_trail.proofs.FactLemmas.{IsTrail-grown}
 use Rattle.sat_trail.proofs.trail.Trail.add.Goals as goal

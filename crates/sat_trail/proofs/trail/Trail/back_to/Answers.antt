@@ -1,5 +1,5 @@
 -- What is left is whole up to its last level, where propagation had nothing to do.
-use Rattle.std.proofs.Common.{◌≡◌, ◌<◌, ◌≤◌, refl, arith}
+use Rattle.std.proofs.Common.{◌<◌, refl, arith}
 use Rattle.sat_trail.proofs.ChangeLemmas.{IsKept-back, IsKept-unready, back_to-state, back_to-same}
 use Rattle.sat_trail.proofs.FactLemmas.{IsTrail-grown}
 use Rattle.sat_trail.proofs.trail.Trail.back_to.Goals as goal

@@ -1,5 +1,5 @@
 -- The literal is decided where propagation had nothing to do.
-use Rattle.std.proofs.Common.{◌≡◌, ◌<◌, ◌≤◌, ◌^◌, IsTrue, sym, subst, arith}
+use Rattle.std.proofs.Common.{arith}
 use Rattle.sat_trail.proofs.ChangeLemmas.{IsKept-decide, level-fits}
 use Rattle.sat_trail.proofs.FactLemmas.{IsTrail-grown}
 use Rattle.sat_trail.proofs.trail.Trail.decide.Goals as goal

@@ -1,7 +1,7 @@
 -- The formula's clauses are added one by one, and nothing is set.
-use Rattle.std.proofs.Common.{◌≡◌, ◌<◌, length, take, ap, ◌∙◌, arith}
+use Rattle.std.proofs.Common.{◌<◌, length, ap, arith}
 use Rattle.std.proofs.lemmas.List.{length-take-le}
-use Rattle.sat_trail.proofs.ChangeLemmas.{IsNew-all, IsKept-new, IsStart-new, exist-next}
+use Rattle.sat_trail.proofs.ChangeLemmas.{IsNewTrail-all, IsKept-new, IsStart-new, exist-next}
 use Rattle.sat_trail.proofs.FactLemmas.{IsTrail-grown}
 use Rattle.sat_trail.proofs.trail.Trail.new.Goals as goal
 
@@ -16,12 +16,12 @@ add-requires-clause-few c =
 
 pub invariant_of-result-2 : goal.invariant_of-result-2
 invariant_of-result-2 c =
-    IsKept-new c.args.f.now _ _ (IsNew-all c.args.f.now _ c.loop-clause.lists _ _ _ c.lists-2.view_is c.as_slice-clause-items.ensures c.loop-clause.invariant c.loop-clause-test.false c.in_ok-new.ensures) c.requires
+    IsKept-new c.args.f.now _ _ (IsNewTrail-all c.args.f.now _ c.loop-clause.lists _ _ _ c.lists-2.view_is c.as_slice-clause-items.ensures c.loop-clause.invariant c.loop-clause-test.false c.in_ok-new.ensures) c.requires
 
 pub returns-clause-start : goal.returns-clause-start
 returns-clause-start c =
-    IsStart-new c.args.f.now _ _ (IsNew-all c.args.f.now _ c.loop-clause.lists _ _ _ c.lists-2.view_is c.as_slice-clause-items.ensures c.loop-clause.invariant c.loop-clause-test.false c.in_ok-new.ensures)
+    IsStart-new c.args.f.now _ _ (IsNewTrail-all c.args.f.now _ c.loop-clause.lists _ _ _ c.lists-2.view_is c.as_slice-clause-items.ensures c.loop-clause.invariant c.loop-clause-test.false c.in_ok-new.ensures)
 
 pub returns-clause-sound : goal.returns-clause-sound
 returns-clause-sound c = IsTrail-grown _
-    (IsKept-new c.args.f.now _ _ (IsNew-all c.args.f.now _ c.loop-clause.lists _ _ _ c.lists-2.view_is c.as_slice-clause-items.ensures c.loop-clause.invariant c.loop-clause-test.false c.in_ok-new.ensures) c.requires).trail
+    (IsKept-new c.args.f.now _ _ (IsNewTrail-all c.args.f.now _ c.loop-clause.lists _ _ _ c.lists-2.view_is c.as_slice-clause-items.ensures c.loop-clause.invariant c.loop-clause-test.false c.in_ok-new.ensures) c.requires).trail
