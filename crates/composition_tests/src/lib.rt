@@ -2,4 +2,8 @@
 #![tactic(auto)]
 
 #[cfg(test)]
+mod flat_expansion_tests;
+#[cfg(test)]
+mod flat_limit_tests;
+#[cfg(test)]
 mod reference_graph_tests;

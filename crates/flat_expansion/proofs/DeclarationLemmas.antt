@@ -20,7 +20,8 @@ use Rattle.bspl_parser.specs.declared.word.Word.{Word}
 use Rattle.bspl_parser.specs.Alike.{word_without_offset, formal_without_offsets, item_without_offsets}
 use Rattle.bspl_parser.specs.Spelling.{IsDeclaration, IsFormal, IsItem}
 use Rattle.flat_expansion.specs.Expansion.{adornment_of, public_param, private_param, IsCarried, IsExpansionOf, IsMessageOfItem}
-use Rattle.flat_expansion.specs.Canonical.{IsCanonical, IsItemOf, IsPrivateOf, IsPublicOf, IsUnkeyed, IsWordOf}
+use Rattle.flat_expansion.specs.Canonical.{IsCanonical, IsItemOf, IsPrivateOf, IsPublicOf, IsWordOf}
+use Rattle.protocol_names.specs.Plain.{IsUnkeyed}
 use Rattle.list_base.proofs.Mapped.{as_long}
 use Rattle.list_base.proofs.Zipped.{flipped, mapped_back, mapped_same, seconds}
 

@@ -1,5 +1,5 @@
 -- When a protocol of messages alone has an expansion, and that its messages are determined.
-use Rattle.std.proofs.Common.{◌≡◌, ℕ, List, [], ◌∷◌, length, map, Some, Ok, Err, None, Option, Result, refl, sym, ◌∙◌, subst}
+use Rattle.std.proofs.Common.{◌≡◌, ℕ, List, length, map, Some, Ok, Err, None, Option, Result, sym, ◌∙◌, subst}
 use Rattle.std.specs.Prelude.{IfOk, IfSome, IfNone, MatchOption}
 use Rattle.std.specs.List.{AllZip}
 use Rattle.bspl_types.specs.declared.expanded.Expanded.{Expanded}
@@ -13,6 +13,7 @@ use Rattle.bspl_parser.specs.declared.document.Declaration.{Declaration}
 use Rattle.bspl_parser.specs.declared.document.Formal.{Formal}
 use Rattle.bspl_parser.specs.declared.document.Item.{Item}
 use Rattle.bspl_parser.specs.declared.document.Item.TheVariants as item
+use Rattle.list_base.proofs.Zipped.{one_list}
 use Rattle.flat_expansion.specs.Expansion.{IsCarried, IsMessageOfItem, IsExpansionOf, params_of}
 
 -- a parameter is carried in one way

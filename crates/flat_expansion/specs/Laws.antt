@@ -18,8 +18,8 @@ ExpansionsAreUnique =
 -- an expansion has the declared names, and as many keys as are declared
 pub record ExpansionsKeepNames : Type 0 where
   pub params : (d : Declaration) (x : Expanded) → IsExpansionOf d x →
-    map (λ p. p.name) x.params ≡ texts (param_words d)
+      map (λ p. p.name) x.params ≡ texts (param_words d)
   pub messages : (d : Declaration) (x : Expanded) → IsExpansionOf d x →
-    map (λ m. m.name) x.messages ≡ texts (message_words d)
+      map (λ m. m.name) x.messages ≡ texts (message_words d)
   pub keys : (d : Declaration) (x : Expanded) → IsExpansionOf d x →
-    length x.keys ≡ length (key_words d)
+      length x.keys ≡ length (key_words d)

@@ -16,4 +16,8 @@ mod enactment_model_tests;
 #[cfg(test)]
 mod expanded_tests;
 #[cfg(test)]
+mod fault_texts;
+#[cfg(test)]
 mod list_base_tests;
+#[cfg(test)]
+mod protocol_names_tests;

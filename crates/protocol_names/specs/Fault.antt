@@ -34,7 +34,7 @@ IsUnsupported f = FaultIf ((f.adorn ≡ Any) ⊎ (f.adorn ≡ Opt)) BadAdornment
 -- the word `key` on a name that is not declared as a key
 pub data IsForeignKey (keys : List (List ℕ)) (f : Formal) : FaultKind → ℕ → Type 0 where
   foreign : (offset : ℕ) → f.key ≡ Some offset → ¬ Contains keys f.name.text →
-    IsForeignKey keys f ForeignKey offset
+      IsForeignKey keys f ForeignKey offset
 
 -- a parameter of a message or of a reference: its name, adornment or word `key` is at fault
 abbrev pub IsParamFault : Names → Formal → FaultKind → ℕ → Type 0
@@ -51,15 +51,15 @@ pub data IsReferenceFault (protocols : List Declaration) (r : SpecReference)
     : FaultKind → ℕ → Type 0 where
   -- there is no protocol of that name
   unknown_protocol : protocol_of protocols r.protocol.text ≡ None →
-    IsReferenceFault protocols r Unknown r.protocol.offset
+      IsReferenceFault protocols r Unknown r.protocol.offset
   -- it declares another number of roles or of parameters
   other_arity : (q : Declaration) → protocol_of protocols r.protocol.text ≡ Some q →
-    ¬ IsSameArity r q → IsReferenceFault protocols r Arity r.protocol.offset
+      ¬ IsSameArity r q → IsReferenceFault protocols r Arity r.protocol.offset
   -- it declares as many, and another adornment
   other_adornment : (q : Declaration) (kind : FaultKind) (offset : ℕ) →
-    protocol_of protocols r.protocol.text ≡ Some q → IsSameArity r q →
-    OfSome AdornmentDiffers (zip r.params q.public) kind offset →
-    IsReferenceFault protocols r kind offset
+      protocol_of protocols r.protocol.text ≡ Some q → IsSameArity r q →
+      OfSome AdornmentDiffers (zip r.params q.public) kind offset →
+      IsReferenceFault protocols r kind offset
 
 -- a message refers to no protocol
 abbrev pub IsTargetFault : List Declaration → Item → FaultKind → ℕ → Type 0

@@ -13,16 +13,16 @@ use Rattle.protocol_names.specs.Names.{protocol_of, protocol_words, texts}
 -- the first protocol of a name is at the first index of the name
 pub record NamesFindProtocols : Type 0 where
   pub found : (protocols : List Declaration) (name : List ℕ) (index : ℕ) →
-    position (λ n. bytes_eq n name) (texts (protocol_words protocols)) ≡ Some index →
-    slice_get protocols index ≡ protocol_of protocols name
+      position (λ n. bytes_eq n name) (texts (protocol_words protocols)) ≡ Some index →
+      slice_get protocols index ≡ protocol_of protocols name
   pub missing : (protocols : List Declaration) (name : List ℕ) →
-    position (λ n. bytes_eq n name) (texts (protocol_words protocols)) ≡ None →
-    protocol_of protocols name ≡ None
+      position (λ n. bytes_eq n name) (texts (protocol_words protocols)) ≡ None →
+      protocol_of protocols name ≡ None
 
 -- a declared name is not unknown, an adornment of an expansion is supported, and a foreign key
 -- has the word `key`
 pub record FaultsHaveCauses : Type 0 where
   pub known : (declared : List (List ℕ)) (w : Word) → Contains declared w.text →
-    HasNone (IsUnknown declared w)
+      HasNone (IsUnknown declared w)
   pub supported : (f : Formal) → f.adorn ≢ Any → f.adorn ≢ Opt → HasNone (IsUnsupported f)
   pub keyed : (keys : List (List ℕ)) (f : Formal) → f.key ≡ None → HasNone (IsForeignKey keys f)

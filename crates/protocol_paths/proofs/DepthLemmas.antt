@@ -75,7 +75,6 @@ within_after n protocols p s within step path is = let whole : length (s ∷ pat
 pub no_step_left : (protocols : List Declaration) (p : Declaration) → IsWithinDepth protocols p 0 → (s : Step) → IsStepOf protocols p s → ⊥
 no_step_left protocols p within s step = let one : length (s ∷ []) ≤ 0 = within (s ∷ []) (step, tt) in omega (arith, one)
 
-
 -- a longer bound gives the same paths
 pub same_paths : (n m : ℕ) (protocols : List Declaration) (p : Declaration) → IsWithinDepth protocols p n → n ≤ m → paths m protocols p ≡ paths n protocols p
 same_paths zero zero protocols p within less = refl

@@ -24,11 +24,13 @@ NoCycleBoundsDepth = (protocols : List Declaration) (p : Declaration) →
 -- a bound that no path exceeds cuts off nothing: a longer bound gives the same lists
 pub record LongerBoundsAddNothing : Type 0 where
   pub paths : (n m : ℕ) (protocols : List Declaration) (p : Declaration) →
-    IsWithinDepth protocols p n → n ≤ m → paths m protocols p ≡ paths n protocols p
+      IsWithinDepth protocols p n → n ≤ m → paths m protocols p ≡ paths n protocols p
   pub messages : (n m : ℕ) (protocols : List Declaration) (p : Declaration) →
-    IsWithinDepth protocols p n → n ≤ m → message_paths m protocols p ≡ message_paths n protocols p
+      IsWithinDepth protocols p n → n ≤ m →
+      message_paths m protocols p ≡ message_paths n protocols p
   pub privates : (n m : ℕ) (protocols : List Declaration) (p : Declaration) →
-    IsWithinDepth protocols p n → n ≤ m → private_words m protocols p ≡ private_words n protocols p
+      IsWithinDepth protocols p n → n ≤ m →
+      private_words m protocols p ≡ private_words n protocols p
 
 -- within a bound that no path exceeds, the messages listed are those at the ends of all paths
 abbrev pub MessagePathsAreAll : Type 0
@@ -39,9 +41,9 @@ MessagePathsAreAll = (n : ℕ) (protocols : List Declaration) (top : Declaration
 pub record NamesAreComposed (top : Declaration) (outward : List Step) : Type 0 where
   pub prefixes : (scope_at (start top) (reverse outward)).prefix ≡ prefix_composed outward
   pub roles : (name result : List ℕ) → role_composed outward name ≡ Some result →
-    role_at (scope_at (start top) (reverse outward)) name ≡ result
+      role_at (scope_at (start top) (reverse outward)) name ≡ result
   pub params : (name result : List ℕ) → param_composed outward name ≡ Some result →
-    param_at (scope_at (start top) (reverse outward)) name ≡ result
+      param_at (scope_at (start top) (reverse outward)) name ≡ result
 
 -- this holds of each path whose references give as many names as their targets declare
 abbrev pub ScopesCompose : Type 0
@@ -56,9 +58,9 @@ PlainProtocolsAreFlat = (protocols : List Declaration) (p : Declaration) →
 -- where a path ends, and what one item of a body leads to
 pub record PathsByItems : Type 0 where
   pub ends : (scope : Scope) (path : List Step) →
-    (scope_at scope path).protocol ≡ end_of scope.protocol path
+      (scope_at scope path).protocol ≡ end_of scope.protocol path
   pub message : (n : ℕ) (protocols : List Declaration) (position : ℕ) (m : Schema) →
-    item_messages n protocols (position, Message m) ≡ ([], m) ∷ []
+      item_messages n protocols (position, Message m) ≡ ([], m) ∷ []
   pub reference : (protocols : List Declaration) (k : ℕ) (r : SpecReference) (q : Declaration) →
-    protocol_of protocols r.protocol.text ≡ Some q →
-    steps_at protocols (k, Reference r) ≡ record { position = k; reference = r; target = q } ∷ []
+      protocol_of protocols r.protocol.text ≡ Some q →
+      steps_at protocols (k, Reference r) ≡ record { position = k; reference = r; target = q } ∷ []

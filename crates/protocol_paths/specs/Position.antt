@@ -43,5 +43,5 @@ pub record ListsMessages (protocols : List Declaration) (top : Declaration)
   pub ends : List (List ℕ × Schema)
   pub each : AllZip (HasPositions protocols top) ends found
   pub exact : (positions : List ℕ) (m : Schema) →
-    Contains ends (positions, m) ↔ LeadsTo protocols top positions m
+      Contains ends (positions, m) ↔ LeadsTo protocols top positions m
   pub rising : AllPairs (λ e f. IsLexBelow e.0 f.0) ends

@@ -20,6 +20,6 @@ IsSkipped protocols flags name =
 -- no path from a marked protocol leads to a message, or to a private parameter
 pub record AreSkippable (protocols : List Declaration) (skippable : Skippable) : Type 0 where
   pub messages : (q : Declaration) → IsMarked protocols skippable.messages.now q →
-    message_paths (length protocols) protocols q ≡ []
+      message_paths (length protocols) protocols q ≡ []
   pub privates : (q : Declaration) → IsMarked protocols skippable.privates.now q →
-    private_words (length protocols) protocols q ≡ []
+      private_words (length protocols) protocols q ≡ []

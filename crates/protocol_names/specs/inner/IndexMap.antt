@@ -10,4 +10,4 @@ use Rattle.std.specs.BTreeMap.{BTreeMap, get_by}
 pub record IsIndexMap {Z : Type 0} (names : List (List ℕ)) (map : BTreeMap (Vec ℕ Z) ℕ)
     : Type 0 where
   pub finds : (name : List ℕ) →
-    get_by (λ key. slice_cmp nat_cmp name key.items) map ≡ position (λ n. bytes_eq n name) names
+      get_by (λ key. slice_cmp nat_cmp name key.items) map ≡ position (λ n. bytes_eq n name) names
