@@ -1,8 +1,7 @@
 -- The messages listed are those to which a path of positions leads, each once, in rising order.
-use Rattle.std.proofs.Common.{◌≡◌, ℕ, zero, suc, ◌+◌, ◌<◌, ◌≤◌, ◌⊎◌, List, [], ◌∷◌, ◌++◌, length, get_or, map, Option, Some, None, refl, sym, ap, subst, ◌∙◌, arith, inl, inr}
+use Rattle.std.proofs.Common.{◌≡◌, ℕ, zero, suc, ◌+◌, ◌≤◌, List, [], ◌∷◌, ◌++◌, get_or, map, Option, Some, None, refl, sym, ap, subst, ◌∙◌, arith, inl, inr}
 use Rattle.std.specs.List.{All, AllPairs, AllZip, Contains, enumerate_from, flat_map}
 use Rattle.std.specs.Option.{option_map_or}
-use Rattle.std.specs.Prelude.{◌↔◌, slice_get}
 use Rattle.std.proofs.lemmas.List.{append-nil, get_or-map, length-map}
 use Rattle.std.proofs.lemmas.List.Elements.{All-append, All-contains, All-cons, All-head, All-map, All-nil, All-tail, All-weaker, Contains-append_left, Contains-append_right}
 use Rattle.std.proofs.lemmas.List.FromFn.{get_or-enumerate_from, length-enumerate_from}
@@ -11,13 +10,12 @@ use Rattle.std.proofs.lemmas.Option.{get_or_from_slice_get, slice_get_within}
 use Rattle.bspl_parser.specs.declared.document.Declaration.{Declaration}
 use Rattle.bspl_parser.specs.declared.document.Item.{Item}
 use Rattle.bspl_parser.specs.declared.document.Item.TheVariants.{Message, Reference}
-use Rattle.bspl_parser.specs.declared.document.Reference.{Reference as SpecReference}
 use Rattle.bspl_parser.specs.declared.document.Schema.{Schema}
 use Rattle.list_base.proofs.Mapped.{mapped_pairs}
 use Rattle.list_base.proofs.Zipped.{zip_append}
 use Rattle.protocol_names.specs.Names.{protocol_of}
 use Rattle.protocol_paths.specs.Path.{Step, item_messages, message_paths, numbered, steps_at, through}
-use Rattle.protocol_paths.specs.Position.{HasPositions, IsLexBelow, LeadsTo, ListsMessages, RefersTo}
+use Rattle.protocol_paths.specs.Position.{HasPositions, IsLexBelow, LeadsTo, ListsMessages}
 use Rattle.protocol_paths.specs.ReferencePath.{IsStepOf, IsWithinDepth, item_at}
 use Rattle.protocol_paths.proofs.DepthLemmas.{IsStepAt, all_gathered, no_step_left, numbered_all, steps_here, within_after}
 use Rattle.protocol_paths.proofs.ReferenceLemmas.{one_step, step_by}

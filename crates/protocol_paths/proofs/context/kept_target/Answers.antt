@@ -2,7 +2,7 @@
 use Rattle.std.proofs.Common.{◌≡◌, ◌∙◌, sym, Some, None}
 use Rattle.std.specs.List.{position}
 use Rattle.std.specs.Str.{bytes_eq}
-use Rattle.protocol_names.specs.Names.{protocol_of, protocol_words, texts}
+use Rattle.protocol_names.specs.Names.{protocol_of}
 use Rattle.protocol_paths.proofs.context.kept_target.Goals as goal
 
 pub returns-in_err-number : goal.returns-in_err-number
