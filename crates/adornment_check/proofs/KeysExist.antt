@@ -1,5 +1,5 @@
 -- The places of keys are places of parameters.
-use Rattle.std.proofs.Common.{◌≡◌, ℕ, ◌+◌, ◌<◌, ◌≤◌, List, [], ◌∷◌, length, map, arith, subst, sym}
+use Rattle.std.proofs.Common.{◌≡◌, ℕ, ◌+◌, ◌<◌, ◌≤◌, List, [], ◌∷◌, length, arith, subst, sym}
 use Rattle.std.specs.List.{All, filter, enumerate_from}
 use Rattle.std.proofs.lemmas.List.Elements.{All-nil, All-cons, All-map, All-filter}
 use Rattle.bspl_types.specs.declared.protocol.ParamInfo.{ParamInfo}

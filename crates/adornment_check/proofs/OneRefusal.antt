@@ -10,18 +10,18 @@ use Rattle.bspl_types.specs.declared.protocol.ParamInfo.{ParamInfo}
 use Rattle.bspl_types.specs.declared.refusals.Refusal.{Refusal}
 use Rattle.bspl_types.specs.declared.refusals.Refusal.TheVariants.{NoKey, NoMemory}
 use Rattle.bspl_types.specs.Admission.{IsAdmitted, IsAdmittedMessage}
-use Rattle.adornment_check.specs.Refusing.{IsMessageRefusal, IsNotAdmitted, RefusesBody, RefusesMessage}
+use Rattle.adornment_check.specs.NotAdmitted.{IsMessageRefusal, IsNotAdmitted, RefusesBody, RefusesMessage}
 use Rattle.adornment_check.proofs.OneReason.{early, message_never, message_once}
 
 -- the first message that is refused is one, and has one refusal
 first_once : (keys : List ℕ) (params : List ParamInfo) (messages : List Message) (r s : Refusal) → r ≢ NoMemory → s ≢ NoMemory → RefusesMessage keys params messages r → RefusesMessage keys params messages s → r ≡ s
-first_once keys params messages r s not_r not_s one other = elim (cases_order one.place other.place) [
+first_once keys params messages r s not_r not_s one other = elim (cases_order one.index other.index) [
   | inl same ↦
       let found : Some one.message ≡ Some other.message = sym one.there ∙ ap (slice_get messages) same ∙ other.there in
       let message : one.message ≡ other.message = cc in
       message_once keys params other.message r s not_r not_s (subst (λ (m : Message). IsMessageRefusal keys params m r) message one.refused) other.refused
-  | inr (inl less) ↦ absurd (message_never keys params one.message r not_r (early (IsAdmittedMessage keys) messages one.place other.place one.message other.before one.there less) one.refused)
-  | inr (inr more) ↦ absurd (message_never keys params other.message s not_s (early (IsAdmittedMessage keys) messages other.place one.place other.message one.before other.there more) other.refused)
+  | inr (inl less) ↦ absurd (message_never keys params one.message r not_r (early (IsAdmittedMessage keys) messages one.index other.index one.message other.before one.there less) one.refused)
+  | inr (inr more) ↦ absurd (message_never keys params other.message s not_s (early (IsAdmittedMessage keys) messages other.index one.index other.message one.before other.there more) other.refused)
 ]
 
 -- there is no key, or a message is refused
@@ -51,7 +51,7 @@ no_reason x r not_memory admitted (inl none) = no_key x.keys none.1 admitted.som
 no_reason x r not_memory admitted (inr body) =
     let first = body.message in
     message_never x.keys x.params first.message r not_memory
-    (early (IsAdmittedMessage x.keys) x.messages first.place (length x.messages) first.message (subst (All (IsAdmittedMessage x.keys)) (sym (take_all (length x.messages) x.messages (omega arith))) admitted.each_message) first.there (slice_get_within x.messages first.place first.message first.there))
+    (early (IsAdmittedMessage x.keys) x.messages first.index (length x.messages) first.message (subst (All (IsAdmittedMessage x.keys)) (sym (take_all (length x.messages) x.messages (omega arith))) admitted.each_message) first.there (slice_get_within x.messages first.index first.message first.there))
     first.refused
 
 -- so there is one refusal

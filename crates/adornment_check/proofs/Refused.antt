@@ -1,5 +1,5 @@
 -- A message that is refused makes the expansion refused.
-use Rattle.std.proofs.Common.{◌≡◌, ◌≢◌, ℕ, ◌+◌, ◌<◌, List, length, take, get_or, slice_get, Some, subst}
+use Rattle.std.proofs.Common.{◌≡◌, ◌≢◌, ℕ, ◌+◌, ◌<◌, List, length, take, get_or, subst}
 use Rattle.std.specs.List.{All}
 use Rattle.std.proofs.lemmas.Option.{slice_get-get_or}
 use Rattle.bspl_types.specs.declared.expanded.Expanded.{Expanded}
@@ -11,7 +11,7 @@ use Rattle.bspl_types.specs.declared.refusals.Refusal.{Refusal}
 use Rattle.bspl_types.specs.declared.refusals.Refusal.TheVariants as refusals
 use Rattle.bspl_types.specs.Admission.{IsAdmittedMessage}
 use Rattle.bspl_types.specs.Adornment.{Binds}
-use Rattle.adornment_check.specs.Refusing.{AreApart, IsMessageRefusal, RefusesMessage, RefusesBody, IsNotAdmitted}
+use Rattle.adornment_check.specs.NotAdmitted.{HasDistinctParams, IsMessageRefusal, RefusesMessage, RefusesBody, IsNotAdmitted}
 
 -- why a message is refused is why the expansion is
 of_kind : (x : Expanded) (refusal : Refusal) → RefusesBody x refusal → IsNotAdmitted x refusal
@@ -42,13 +42,13 @@ params_exist x = All-weaker (IsMessageOf (length x.roles) (length x.params)) (λ
 -- the first message that is refused, found by a loop over them
 pub refused_at : (keys : List ℕ) (params : List ParamInfo) (messages : List Message) (i : ℕ) (d : Message) (refusal : Refusal) → i < length messages → All (IsAdmittedMessage keys) (take i messages) → IsMessageRefusal keys params (get_or messages i d) refusal → RefusesMessage keys params messages refusal
 refused_at keys params messages i d refusal within passed refused =
-    record { place = i; message = get_or messages i d; there = slice_get-get_or messages i d within; before = passed; refused = refused }
+    record { index = i; message = get_or messages i d; there = slice_get-get_or messages i d within; before = passed; refused = refused }
 
 -- a message without a fault is admitted
-pub faultless : (keys : List ℕ) (m : Message) → m.sender ≢ m.receiver → AreApart m.carried → All (Binds m.carried) keys → IsAdmittedMessage keys m
-faultless keys m apart distinct whole = record { two_roles = apart; distinct = distinct; whole_key = whole }
+pub faultless : (keys : List ℕ) (m : Message) → m.sender ≢ m.receiver → HasDistinctParams m.carried → All (Binds m.carried) keys → IsAdmittedMessage keys m
+faultless keys m two_roles distinct whole = record { two_roles = two_roles; distinct = distinct; whole_key = whole }
 
 -- the messages that were passed are admitted, and so is one more
 pub admitted_more : (keys : List ℕ) (messages : List Message) (i : ℕ) (m : Message) → i < length messages → m ≡ get_or messages i m → All (IsAdmittedMessage keys) (take i messages) → IsAdmittedMessage keys m → All (IsAdmittedMessage keys) (take (i + 1) messages)
-admitted_more keys messages i m within stands passed admitted =
-    All-more (IsAdmittedMessage keys) messages i m within passed (subst (λ n. IsAdmittedMessage keys n) stands admitted)
+admitted_more keys messages i m within is_there passed admitted =
+    All-more (IsAdmittedMessage keys) messages i m within passed (subst (λ n. IsAdmittedMessage keys n) is_there admitted)

@@ -1,9 +1,9 @@
 //! Which expansions are admitted: each message goes to another role and binds the whole key.
 #![tactic(auto)]
 
-mod admitting;
+mod admission;
 mod laws;
 mod message;
 
-pub use admitting::admit;
+pub use admission::admit;
 pub use laws::refuses_once;

@@ -5,5 +5,5 @@ use Rattle.adornment_check.proofs.laws.refuses_once.Goals as goal
 pub returns-clause-refusals : goal.returns-clause-refusals
 returns-clause-refusals c = refused_once
 
-pub returns-clause-apart : goal.returns-clause-apart
-returns-clause-apart c = never_refused
+pub returns-clause-exclusive : goal.returns-clause-exclusive
+returns-clause-exclusive c = never_refused

@@ -1,5 +1,5 @@
 -- The messages that were passed are admitted.
-use Rattle.std.proofs.Common.{◌≡◌, ℕ, take}
+use Rattle.std.proofs.Common.{take}
 use Rattle.std.specs.List.{All}
 use Rattle.bspl_types.specs.Admission.{IsAdmittedMessage}
 use Rattle.adornment_check.proofs.message.check_all.Given as goal

@@ -1,5 +1,4 @@
 -- One key more is bound, and at the end all are.
-use Rattle.std.proofs.Common.{◌≡◌, ℕ, refl}
 use Rattle.std.proofs.lemmas.List.Elements.{All-more}
 use Rattle.bspl_types.specs.Adornment.{Binds}
 use Rattle.adornment_check.proofs.Firsts.{all_passed}

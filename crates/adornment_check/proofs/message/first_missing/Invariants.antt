@@ -1,5 +1,5 @@
 -- The keys that were passed are bound.
-use Rattle.std.proofs.Common.{◌≡◌, ℕ, take}
+use Rattle.std.proofs.Common.{take}
 use Rattle.std.specs.List.{All}
 use Rattle.bspl_types.specs.Adornment.{Binds}
 use Rattle.adornment_check.proofs.message.first_missing.Given as goal

@@ -1,24 +1,22 @@
-ghost use Rattle.std.specs.Prelude.{◌≡◌, IfOk, IfErr};
+ghost use Rattle.std.specs.Prelude.{◌≡◌, ◌↔◌, IfOk, IfErr, IsOk};
 ghost use Rattle.bspl_types.specs.Admission.{IsAdmitted};
-ghost use Rattle.adornment_check.specs.Refusing.{IsNotAdmitted};
+ghost use Rattle.adornment_check.specs.NotAdmitted.{IsNotAdmitted};
 
 use super::message::check_all;
 use bspl_types::{Admitted, Expanded, Refusal};
 
-#[tactic(auto, using(crate::proofs::KeysExist::keys_exist, crate::proofs::Refused::of_body, crate::proofs::Refused::params_exist))]
 /// Admits an expansion. A refusal drops it, and names the first message in order that is at fault:
 /// for its roles, then for a repeated parameter, then for the key (Singh 2011).
+#[tactic(auto, using(crate::proofs::KeysExist::keys_exist, crate::proofs::Refused::of_body, crate::proofs::Refused::params_exist))]
 pub fn admit(x: Expanded) -> Result<Admitted, Refusal>
     ensures same { IfOk result (λ admitted. admitted ≡ x) }
-    ensures admitted { IfOk result IsAdmitted }
+    ensures exact { IsOk result ↔ IsAdmitted x }
     ensures refused { IfErr result (IsNotAdmitted x) }
 {
     let keys = x.keys.as_slice();
     if keys.is_empty() {
         return Err(Refusal::NoKey);
     }
-    match check_all(keys, x.params.as_slice(), x.messages.as_slice()) {
-        Ok(()) => Ok(Admitted::seal(x)),
-        Err(refusal) => Err(refusal),
-    }
+    check_all(keys, x.params.as_slice(), x.messages.as_slice())?;
+    Ok(Admitted::seal(x))
 }
