@@ -11,6 +11,7 @@ use bspl_types::{Admitted, Expanded, Refusal};
 pub fn admit(x: Expanded) -> Result<Admitted, Refusal>
     ensures same { IfOk result (λ admitted. admitted ≡ x) }
     ensures exact { IsOk result ↔ IsAdmitted x }
+    ensures admitted { IfOk result IsAdmitted }
     ensures refused { IfErr result (IsNotAdmitted x) }
 {
     let keys = x.keys.as_slice();

@@ -7,7 +7,7 @@ use Rattle.std.proofs.lemmas.Option.{get_or_from_slice_get, slice_get_within}
 use Rattle.command_line.specs.Line.{IsSubject, is_generate}
 use Rattle.command_line.specs.declared.line.Subject.{Subject}
 use Rattle.command_line.specs.declared.line.Subject.TheVariants.{Protocol, Size}
-use Rattle.adornment_check.specs.Refusing.{IsMessageRefusal, IsNamed, IsNotAdmitted, RefusesBody}
+use Rattle.adornment_check.specs.NotAdmitted.{IsMessageRefusal, IsNameOfParam, IsNotAdmitted, RefusesBody}
 use Rattle.bspl_parser.specs.declared.document.Document.{Document}
 use Rattle.bspl_parser.specs.Judgement.{IsRefusedFor}
 use Rattle.bspl_types.specs.Name.{is_name}
@@ -66,7 +66,7 @@ all_at : {X : Type 0} (P : X → Type 0) (xs : List X) (k : ℕ) (x : X) → All
 all_at P xs k x all there = subst P (get_or_from_slice_get xs k x x there) (All-get_or P xs k x (slice_get_within xs k x there) all)
 
 -- the names of an expansion
-param_is_name : (x : Expanded) (p : ℕ) (name : List ℕ) → IsNamed x.params p name → IsTrue (is_name name)
+param_is_name : (x : Expanded) (p : ℕ) (name : List ℕ) → IsNameOfParam x.params p name → IsTrue (is_name name)
 param_is_name x p name param = subst (λ text. IsTrue (is_name text)) param.same (all_at (λ q. IsTrue (is_name q.name)) x.params p param.info x.shape.param_names.named param.there)
 
 -- a message that is not admitted

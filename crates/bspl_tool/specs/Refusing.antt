@@ -4,7 +4,7 @@ use Rattle.bspl_types.specs.declared.expanded.Expanded.{Expanded}
 use Rattle.bspl_types.specs.declared.refusals.Refusal.{Refusal}
 use Rattle.bspl_types.specs.declared.refusals.Refusal.TheVariants as refusal
 use Rattle.bspl_types.specs.declared.refusals.What.TheVariants as what
-use Rattle.adornment_check.specs.Refusing.{IsNotAdmitted}
+use Rattle.adornment_check.specs.NotAdmitted.{IsNotAdmitted}
 use Rattle.bspl_parser.specs.declared.document.Document.{Document}
 use Rattle.bspl_parser.specs.Judgement.{IsRefusedFor}
 use Rattle.enactment_model.specs.Producers.{HasOneProducer}

@@ -2,7 +2,7 @@
 use Rattle.std.proofs.Common.{◌≢◌, arith}
 use Rattle.std.proofs.lemmas.Result.{IfErr-weaker, err_from_is_err_and}
 use Rattle.bspl_types.specs.declared.refusals.Refusal.TheVariants.{NoMemory}
-use Rattle.adornment_check.specs.Refusing.{IsNotAdmitted}
+use Rattle.adornment_check.specs.NotAdmitted.{IsNotAdmitted}
 use Rattle.bspl_tool.specs.Refusing.{RefusesText}
 use Rattle.bspl_tool.specs.Refusing.RefusesText.{too_long, misspelled, not_expanded, not_admitted}
 use Rattle.bspl_tool.proofs.judging.protocol_of.Goals as goal

@@ -14,7 +14,7 @@ returns c = once.one_output (record {
     unexpanded = c.answers_once-2.ensures.refusals;
     expanded = c.answers_once-2.ensures.apart;
     unadmitted = c.refuses_once.ensures.refusals;
-    admitted = c.refuses_once.ensures.apart;
+    admitted = c.refuses_once.ensures.exclusive;
   };
   printed = c.prints_once.ensures;
 })
