@@ -1,4 +1,4 @@
--- ParseResult protocols and documents.
+-- Reading protocols and documents.
 use Rattle.std.proofs.Common.{◌≡◌, ◌≢◌, length, Bool, true, false, not, cond, List, [], ◌∷◌, ◌++◌, Ok, refl, ap, ◌∙◌, arith}
 use Rattle.std.specs.List.{All, flat_map}
 use Rattle.std.proofs.lemmas.List.Elements.{All-cons, All-head, All-tail}

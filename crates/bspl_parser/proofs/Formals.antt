@@ -1,4 +1,4 @@
--- ParseResult an adorned parameter.
+-- Reading an adorned parameter.
 use Rattle.std.proofs.Common.{◌≡◌, ℕ, Bool, true, false, cond, ◌&&◌, List, [], ◌∷◌, Option, Some, None, Ok, refl, ap, ◌∙◌}
 use Rattle.std.proofs.lemmas.Bool.{and_parts, and_right}
 use Rattle.bspl_parser.specs.declared.document.Adorn.{Adorn}

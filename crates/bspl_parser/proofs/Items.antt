@@ -1,4 +1,4 @@
--- ParseResult messages, references and items.
+-- Reading messages, references and items.
 use Rattle.std.proofs.Common.{◌≡◌, ◌≢◌, ◌<◌, length, Bool, true, false, cond, List, [], ◌∷◌, ◌++◌, Ok, refl, ap, ◌∙◌}
 use Rattle.bspl_parser.specs.declared.document.Formal.{Formal}
 use Rattle.bspl_parser.specs.declared.document.Schema.{Schema}

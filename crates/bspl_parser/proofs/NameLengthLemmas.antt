@@ -1,4 +1,4 @@
--- ParseResult byte by byte accepts a plain name with groups, and nothing else.
+-- Reading byte by byte accepts a plain name with groups, and nothing else.
 use Rattle.std.proofs.Common.{◌≡◌, ℕ, Bool, true, false, not, ◌&&◌, ◌||◌, eqb, List, [], ◌∷◌, one-add, add-one, Option, Some, None, inl, inr, refl, sym, ap, subst, ◌∙◌}
 use Rattle.std.specs.Char.{is_ascii_digit, is_ascii_alphanumeric}
 use Rattle.std.specs.List.{list_all, slice_split, onto_first, before_first, after_first}

@@ -1,4 +1,4 @@
--- ParseResult items and protocols is stable.
+-- What was read of items and protocols is read again, whatever follows.
 use Rattle.bspl_parser.specs.inner.GrammarParsers.{parse_item, parse_declaration}
 use Rattle.bspl_parser.proofs.PrefixStable.{PrefixStable}
 use Rattle.bspl_parser.proofs.PrefixStablePhrases.{item_stable, declaration_stable}

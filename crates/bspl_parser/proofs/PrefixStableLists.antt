@@ -14,7 +14,7 @@ use Rattle.bspl_parser.proofs.PrefixStable.{PrefixStable, StableSuccess, Alike, 
 use Rattle.bspl_parser.proofs.PrefixStableTokens.{symbol_stable}
 use Rattle.bspl_parser.proofs.LoopReading.{no_turn, has_more-nil}
 
--- two readings that give the same are stable together
+-- of two readings that give the same, each has the property if the other has it
 pub stable_same : {X : Type 0} (one other : List Token → ParseResult X) → ((ts : List Token) → one ts ≡ other ts) → PrefixStable one → PrefixStable other
 stable_same one other same stable =
     record {

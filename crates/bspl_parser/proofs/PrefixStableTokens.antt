@@ -1,4 +1,4 @@
--- ParseResult one token is stable.
+-- What was read of one token is read again, whatever follows.
 use Rattle.std.proofs.Common.{◌≡◌, ℕ, true, false, ◌&&◌, cond, List, [], ◌∷◌, Option, Some, None, Result, Ok, Err, refl, sym, ap, subst, ◌∙◌}
 use Rattle.std.specs.Option.{option_map_or}
 use Rattle.bspl_parser.specs.declared.document.Adorn.{Adorn}
@@ -63,7 +63,7 @@ module _ {X : Type 0} (one : List Token → ParseResult X) (takes : TakesOne one
   stops_first [] f e = (let none = takes.none in let is : End ≡ f = cc in (record { prefix = []; left = []; parts = refl; position = sym is; again = λ t after same more. absurd cc }, refl))
   stops_first (t ∷ ts) f e = stops_first_of t ts f (takes.give t) refl (sym (takes.some t ts) ∙ e)
 
-  -- it is stable
+  -- what it read is read again, whatever follows
   pub takes_stable : PrefixStable one
   takes_stable = record { success = success_at }
 

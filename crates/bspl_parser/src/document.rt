@@ -21,7 +21,7 @@ pub enum Adorn {
 
 impl Adorn {
     /// Whether the word `key` may follow the parameter.
-    pub fn takes_key(self) -> bool
+    pub(crate) fn takes_key(self) -> bool
         ensures { result ≡ takes_key self }
     {
         !matches!(self, Adorn::Nil)

@@ -102,7 +102,6 @@ impl Parse for Item {
 }
 
 /// Reads the private parameters, if there are any.
-/// Reads the private parameters, if there are any.
 #[tactic(auto, unfolding(crate::specs::inner::GrammarParsers::parse_private))]
 fn read_private(alloc: Global, stream: &mut TokenStream) -> Result<WordList, ParseError>
     ensures gives { Gives result stream.new (parse_private stream.old) }

@@ -17,7 +17,6 @@ pub trait Parse: Drop {
     ghost at: { List SpecToken → Result (Self × List SpecToken) SpecErrorPosition };
 
     /// Reads one.
-    /// Reads one.
     fn read(alloc: Global, stream: &mut TokenStream) -> Result<Self, ParseError>
         ensures gives { Gives result stream.new (at stream.old) }
         ensures shorter { OnOk result (length stream.new < length stream.old) };

@@ -1,4 +1,4 @@
--- ParseResult one token: a name, a symbol, an adornment, the word `key`.
+-- Reading one token: a name, a symbol, an adornment, the word `key`.
 use Rattle.std.specs.Prelude.{ℕ, Bool, true, false, ◌&&◌, if◌then◌else◌, List, [], ◌∷◌, Option}
 use Rattle.std.specs.Prelude.{Some, None, Ok, Err}
 use Rattle.std.specs.Option.{option_map_or}
