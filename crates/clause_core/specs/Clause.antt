@@ -3,7 +3,7 @@ use Rattle.std.specs.Prelude.{◌≡◌, ℕ, ◌<◌, ◌≤◌, ◌↔◌, Boo
 use Rattle.clause_core.specs.declared.literal.Lit.{Lit}
 use Rattle.clause_core.specs.Literal.{rank, MakesTrue}
 
--- each literal comes before the later ones in the order of literals, so none stands twice
+-- each literal comes before the later ones in the order of literals, so none is there twice
 pub record IsAscending (clause : List Lit) : Type 0 where
   pub ordered : AllPairs (λ l m. rank l < rank m) clause
 

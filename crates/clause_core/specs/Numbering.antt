@@ -1,4 +1,4 @@
--- Which clause has a number, from 1 on. A removed clause leaves its number without one.
+-- Which clause has a number. Numbers begin at 1, and a number may have no clause.
 use Rattle.std.specs.Prelude.{◌≡◌, ℕ, ◌-◌, ◌==◌, List, Option, Some, None, slice_get, if◌then◌else◌}
 use Rattle.clause_core.specs.declared.literal.Lit.{Lit}
 

@@ -5,7 +5,7 @@ use Rattle.clause_core.specs.declared.literal.Lit.{Lit}
 use Rattle.clause_core.specs.declared.formula.Formula.{Formula}
 use Rattle.clause_core.specs.Clause.{HasExactly}
 use Rattle.refutation_log.specs.LogText.{pivot_text}
-use Rattle.refutation_log.specs.Reading.{parts_in}
+use Rattle.refutation_log.specs.LineParts.{parts_in}
 use Rattle.dimacs.specs.declared.token.Token.{Token}
 use Rattle.dimacs.specs.declared.token.Token.TheVariants.{Literal, End}
 use Rattle.dimacs.specs.Dimacs.{IsDimacs, is_blank, is_word, line_words}

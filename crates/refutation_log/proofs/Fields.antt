@@ -7,10 +7,10 @@ use Rattle.refutation_log.specs.declared.line_error.LineError.{LineError}
 use Rattle.refutation_log.specs.declared.line_error.LineError.TheVariants as errors
 use Rattle.refutation_log.specs.declared.refutation.Link.{Link}
 use Rattle.refutation_log.specs.declared.refutation.Chain.{Chain}
-use Rattle.refutation_log.specs.declared.steps.Line.{Line}
-use Rattle.refutation_log.specs.declared.steps.Line.TheVariants.{Step, End}
+use Rattle.refutation_log.specs.declared.steps.BodyLine.{BodyLine}
+use Rattle.refutation_log.specs.declared.steps.BodyLine.TheVariants.{Step, End}
 use Rattle.refutation_log.specs.LogText.{StepInRange, numeral, link_fields, step_fields}
-use Rattle.refutation_log.specs.Reading.{IsReading, body_of, LineInRange}
+use Rattle.refutation_log.specs.LineParts.{IsReading, body_of, LineInRange}
 use Rattle.refutation_log.proofs.Numerals.{has_digits}
 use Rattle.refutation_log.proofs.Separators.{Lacks, parts-join}
 use Rattle.refutation_log.proofs.Readings.{IsPartOf}
@@ -56,7 +56,7 @@ step_read line rest (Err errors.Number) are read =
     (read.0, step_of_fields line (codes "step" ∷ rest) read.0 are (ap (λ (xs : List (List ℕ)). codes "step" ∷ xs) read.1), read.2)
 step_read line rest (Err errors.NoMemory) are read = tt
 
-as_step : (line : List ℕ) (value : Line) → line ≢ codes "end" → line ≡ body_of value → (step : Chain) × (line ≡ step_body step) × (LineInRange value → StepInRange step)
+as_step : (line : List ℕ) (value : BodyLine) → line ≢ codes "end" → line ≡ body_of value → (step : Chain) × (line ≡ step_body step) × (LineInRange value → StepInRange step)
 as_step line (Step step) other e = (step, e, λ good. good)
 as_step line End other e = absurd (other e)
 

@@ -10,10 +10,10 @@ use Rattle.refutation_log.specs.declared.line_error.LineError.TheVariants as err
 use Rattle.refutation_log.specs.declared.refusal.LogRefusal.TheVariants as refusals
 use Rattle.refutation_log.specs.declared.refutation.Kind.{Kind}
 use Rattle.refutation_log.specs.declared.refutation.Chain.{Chain}
-use Rattle.refutation_log.specs.declared.steps.Line.{Line as Spelled}
-use Rattle.refutation_log.specs.declared.steps.Line.TheVariants.{Step, End}
+use Rattle.refutation_log.specs.declared.steps.BodyLine.{BodyLine}
+use Rattle.refutation_log.specs.declared.steps.BodyLine.TheVariants.{Step, End}
 use Rattle.refutation_log.specs.LogText.{StepInRange, kind_name, step_line, header_line, end_line}
-use Rattle.refutation_log.specs.Reading.{IsReading, body_of, LineInRange, refusal_of_line}
+use Rattle.refutation_log.specs.LineParts.{IsReading, body_of, LineInRange, refusal_of_line}
 use Rattle.refutation_log.specs.Refusal.{Line, lines_of, HasNoEnd, HasForm, AreRight, IsMisformed, IsMisnumbered, IsFirstBad, IsRefusedLog}
 use Rattle.refutation_log.proofs.Separators.{Lacks, lines-then, lines-open}
 use Rattle.refutation_log.proofs.Fields.{step_body}
@@ -58,14 +58,14 @@ refused_here IsBad kind text rest steps number after so_far are bad = record {
 }
 
 -- a line with its LF is no step and no end where nothing is read of it
-no_form : (line : List ℕ) (header : Line) (others : List Line) → ((value : Spelled) → line ≡ body_of value → ⊥) → HasForm (header ∷ others) (line ++ codes "\n") → ⊥
+no_form : (line : List ℕ) (header : Line) (others : List Line) → ((value : BodyLine) → line ≡ body_of value → ⊥) → HasForm (header ∷ others) (line ++ codes "\n") → ⊥
 no_form line header others none form =
     elim form.1 [
       | inl step ↦ none (Step step.0) (append_cancel_right line (step_body step.0) (codes "\n") step.1)
       | inr is_end ↦ none End (append_cancel_right line (codes "end") (codes "\n") is_end)
     ]
 
-bad_number : (kind : Kind) (steps : List Chain) (line : List ℕ) (more : List Line) (value : Spelled) → line ≡ body_of value → (LineInRange value → ⊥) → IsMisnumbered (front_lines kind steps) ((line ++ codes "\n") ∷ more)
+bad_number : (kind : Kind) (steps : List Chain) (line : List ℕ) (more : List Line) (value : BodyLine) → line ≡ body_of value → (LineInRange value → ⊥) → IsMisnumbered (front_lines kind steps) ((line ++ codes "\n") ∷ more)
 bad_number kind steps line more (Step step) spelled bad =
     let whole : line ++ codes "\n" ≡ step_line step = ap (λ (body : List ℕ). body ++ codes "\n") spelled in
     ((steps_no_end steps, inl (step, whole)), (step, whole, bad))

@@ -9,7 +9,7 @@ use Rattle.refutation_log.specs.declared.line_error.LineError.TheVariants as err
 use Rattle.refutation_log.specs.declared.refutation.Link.{Link}
 use Rattle.refutation_log.specs.declared.refutation.Chain.{Chain}
 use Rattle.refutation_log.specs.LogText.{IsInRange, LinkInRange, StepInRange, numeral, pivot_text, link_fields}
-use Rattle.refutation_log.specs.Reading.{IsReading}
+use Rattle.refutation_log.specs.LineParts.{IsReading}
 use Rattle.refutation_log.proofs.Pivots.{PivotInRange}
 use Rattle.refutation_log.proofs.Readings.{IsJoined}
 

@@ -9,7 +9,7 @@ use Rattle.std.proofs.lemmas.Int.Digits.{digits_of_step, digits_value_push, digi
 use Rattle.std.proofs.lemmas.Str.{digit_value_digit}
 use Rattle.std.proofs.lemmas.Str.Parse.{digit_at, numerals_by_value, tells_by_index}
 use Rattle.refutation_log.specs.LogText.{numeral}
-use Rattle.refutation_log.specs.Reading.{AreDigits}
+use Rattle.refutation_log.specs.LineParts.{AreDigits}
 
 numeral_positive : (n : ℕ) → 0 < n → numeral n ≡ map (λ digit. 48 + digit) (digits_of 10 n)
 unfolding numeral

@@ -2,7 +2,7 @@
 use Rattle.std.proofs.Common.{◌≡◌, ◌≢◌, Err, refl}
 use Rattle.refutation_log.specs.declared.line_error.LineError.{LineError}
 use Rattle.refutation_log.specs.declared.line_error.LineError.TheVariants as errors
-use Rattle.refutation_log.specs.Reading.{IsReading}
+use Rattle.refutation_log.specs.LineParts.{IsReading}
 
 -- y is a spelling where x is one, of a value that is in range with that of x
 pub record IsPartOf {A B X Y : Type 0} (f : A → X) (InA : A → Type 0) (x : X) (g : B → Y) (InB : B → Type 0) (y : Y) : Type 0 where

@@ -6,7 +6,7 @@ use Rattle.std.proofs.lemmas.Grind.{flat_map-append}
 use Rattle.refutation_log.specs.declared.refutation.Link.{Link}
 use Rattle.refutation_log.specs.declared.refutation.Chain.{Chain}
 use Rattle.refutation_log.specs.LogText.{numeral, link_fields, step_line}
-use Rattle.refutation_log.specs.Writing.{spaced}
+use Rattle.refutation_log.specs.inner.LineFields.{spaced}
 
 -- fields with a space between them are the first one and the others, each after a space
 join-spaced : (field : List ℕ) (fields : List (List ℕ)) → join_with_byte 32 (field ∷ fields) ≡ field ++ spaced fields

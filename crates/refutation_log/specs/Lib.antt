@@ -1,5 +1,6 @@
-pub mod LogText
-pub mod Reading
-pub mod Refusal
+-- The definitions that the contracts cite, in reading order.
 pub mod Resolution
-pub mod Writing
+pub mod LogText
+pub mod Refusal
+pub mod LineParts
+pub mod inner

@@ -41,7 +41,7 @@ AreRight lines =
     (before after : List Line) (line : Line) → lines ≡ before ++ line ∷ after →
     HasForm before line × (¬ HasBadNumber line)
 
--- after right lines a line of another form stands, or none although `end` is missing
+-- after right lines comes a line of another form, or none although `end` is missing
 abbrev pub IsMisformed : List Line → List Line → Type 0
 IsMisformed before [] = HasNoEnd before
 IsMisformed before (line ∷ after) = ¬ HasForm before line

@@ -38,11 +38,6 @@ DerivesAll clauses (chain ∷ steps) [] = ⊥
 DerivesAll clauses (chain ∷ steps) (clause ∷ derived) =
     Derives (numbered clauses) chain clause × DerivesAll (clauses ++ clause ∷ []) steps derived
 
--- every step of the log has a clause
-pub record Resolves (f : Formula) (log : Log) : Type 0 where
-  pub derived : List (List Lit)
-  pub derives : DerivesAll f.clauses log.steps derived
-
 -- the log resolves, and a clause of the formula or of a step is empty
 pub record Accepts (f : Formula) (log : Log) : Type 0 where
   pub derived : List (List Lit)

@@ -1,5 +1,5 @@
 ghost use Rattle.std.specs.Prelude.{◌≡◌};
-ghost use Rattle.refutation_log.specs.Reading.{refusal_of_line};
+ghost use Rattle.refutation_log.specs.LineParts.{refusal_of_line};
 
 use super::refusal::LogRefusal;
 use list_base::NoMemory;
@@ -7,12 +7,16 @@ use list_base::NoMemory;
 /// Why a part of a line is not read.
 #[derive(Clone, Copy, Debug, PartialEq, Eq)]
 pub enum LineError {
+    /// It has another form.
     Form,
+    /// It has the form, and a number in it is out of range.
     Number,
+    /// Memory ran out.
     NoMemory,
 }
 
 impl LineError {
+    /// The refusal of the line of this number.
     pub fn at(self, line: u64) -> LogRefusal
         ensures { result ≡ refusal_of_line self line }
     {

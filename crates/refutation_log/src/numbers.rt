@@ -1,7 +1,7 @@
 ghost use Rattle.std.specs.Prelude.{◌≡◌, ℕ, ◌+◌, ◌↔◌, IsTrue, IsErrOf, min};
 ghost use Rattle.std.specs.Str.Parse.{digits_value};
 ghost use Rattle.refutation_log.specs.LogText.{IsInRange, numeral, pivot_text};
-ghost use Rattle.refutation_log.specs.Reading.{AreDigits, IsReading};
+ghost use Rattle.refutation_log.specs.LineParts.{AreDigits, IsReading};
 
 use super::line_error::LineError;
 use clause_core::Lit;

@@ -1,7 +1,7 @@
 ghost use Rattle.std.specs.Prelude.{◌≡◌, ◌≢◌, ◌==◌, ◌∷◌, ◌++◌, All, MatchOption};
 ghost use Rattle.std.specs.List.{slice_split};
 ghost use Rattle.std.specs.Option.{option_copied};
-ghost use Rattle.refutation_log.specs.Reading.{parts_in};
+ghost use Rattle.refutation_log.specs.LineParts.{parts_in};
 
 /// The bytes before the first separator, and those after it if it is there.
 pub fn split_once(bytes: &[u8], separator: u8) -> (&[u8], Option<&[u8]>)

@@ -10,7 +10,7 @@ use super::header::kind_of;
 use super::parts::split_once;
 use super::refusal::LogRefusal;
 use super::refutation::{ChainList, Kind, Log};
-use super::steps::{Line, line_of};
+use super::steps::{BodyLine, body_line};
 use list_base::Seq;
 use std::alloc::Global;
 
@@ -28,6 +28,7 @@ pub fn read_log(alloc: Global, text: &[u8]) -> Result<(Kind, Log), LogRefusal>
     log_of(alloc, text)
 }
 
+/// The kind and the log whose text this is, by the one way from the text to it.
 fn log_of(alloc: Global, text: &[u8]) -> Result<(Kind, Log), LogRefusal>
     ensures ok { IfOk result (λ read. IsTextOf text.now read.0 read.1) }
     ensures refused { IfErr result (IsRefusedLog text.now) }
@@ -58,10 +59,10 @@ fn log_after(alloc: Global, text: &[u8]) -> Result<Log, LogRefusal>
         let Some(after) = after else {
             return Err(LogRefusal::Form { line: number });
         };
-        match line_of(alloc, line) {
-            Ok(Line::Step(step)) => steps.push(step)?,
-            Ok(Line::End) if after.is_empty() => return Ok(Log { steps }),
-            Ok(Line::End) => return Err(LogRefusal::Form { line: number + 1 }),
+        match body_line(alloc, line) {
+            Ok(BodyLine::Step(step)) => steps.push(step)?,
+            Ok(BodyLine::End) if after.is_empty() => return Ok(Log { steps }),
+            Ok(BodyLine::End) => return Err(LogRefusal::Form { line: number + 1 }),
             Err(error) => return Err(error.at(number)),
         }
         number += 1;

@@ -5,10 +5,11 @@ use list_base::NoMemory;
 /// Why a text is not read. The line is the first bad one, counted from 1.
 #[derive(Clone, Copy, Debug, PartialEq, Eq)]
 pub enum LogRefusal {
-    /// The line has not the form that is wanted in its index, or is missing.
+    /// The line has not the form that is wanted there, or is missing.
     Form { line: u64 },
     /// The line has its form, and a number in it is 0 or over 2,147,483,647.
     Number { line: u64 },
+    /// Memory ran out.
     NoMemory,
 }
 

@@ -4,7 +4,9 @@ use list_base::Seq;
 /// What is refuted by a log: that a protocol is not safe, or that it is not live.
 #[derive(Clone, Copy, Debug, PartialEq, Eq)]
 pub enum Kind {
+    /// That it is not safe.
     Safety,
+    /// That it is not live.
     Liveness,
 }
 
@@ -15,6 +17,7 @@ pub struct Link {
     pub clause: u32,
 }
 
+/// Links, in order.
 pub type LinkList = Seq<Link>;
 
 /// One step: the first clause, by its number, resolved with that of each link in turn.
@@ -24,6 +27,7 @@ pub struct Chain {
     pub links: LinkList,
 }
 
+/// Steps, in order.
 pub type ChainList = Seq<Chain>;
 
 /// The steps of a refutation. Clauses are numbered from 1, those of the formula before those of

@@ -2,7 +2,7 @@ ghost use Rattle.std.specs.Prelude.{◌≡◌, [], ◌∷◌, All, Some};
 ghost use Rattle.std.specs.List.{flat_map, join_with_byte};
 ghost use Rattle.std.specs.Option.{option_copied};
 ghost use Rattle.refutation_log.specs.LogText.{LinkInRange, StepInRange, numeral, link_fields, step_fields};
-ghost use Rattle.refutation_log.specs.Reading.{IsReading, parts_in, body_of, LineInRange};
+ghost use Rattle.refutation_log.specs.LineParts.{IsReading, parts_in, body_of, LineInRange};
 
 use super::line_error::LineError;
 use super::numbers::{number_of, pivot_of};
@@ -13,20 +13,24 @@ use std::alloc::Global;
 
 /// A line after the header.
 #[derive(Drop)]
-pub enum Line {
+pub enum BodyLine {
+    /// A step.
     Step(Chain),
+    /// The line `end`.
     End,
 }
 
-pub fn line_of(alloc: Global, line: &[u8]) -> Result<Line, LineError>
+/// What the line spells.
+pub fn body_line(alloc: Global, line: &[u8]) -> Result<BodyLine, LineError>
     ensures { IsReading body_of LineInRange line.now result }
 {
     if line == b"end".as_slice() {
-        return Ok(Line::End);
+        return Ok(BodyLine::End);
     }
-    Ok(Line::Step(step_of(alloc, line)?))
+    Ok(BodyLine::Step(step_of(alloc, line)?))
 }
 
+/// The step that the line spells.
 fn step_of(alloc: Global, line: &[u8]) -> Result<Chain, LineError>
     ensures { IsReading (λ step. join_with_byte 32 (step_fields step))
         StepInRange line.now result }
@@ -41,7 +45,7 @@ fn step_of(alloc: Global, line: &[u8]) -> Result<Chain, LineError>
     }
 }
 
-/// The step with these fields after its name. A bad number is told only where the rest has its
+/// The step with these fields after its name. A bad number is reported only if the rest has its
 /// form.
 fn chain_of(alloc: Global, fields: &[u8]) -> Result<Chain, LineError>
     ensures { IsReading (λ step. numeral step.first ∷ flat_map link_fields step.links)
@@ -89,6 +93,7 @@ fn links_of(alloc: Global, fields: Option<&[u8]>) -> Result<LinkList, LineError>
     }
 }
 
+/// The link of a pivot and the number of a clause.
 fn link_of(pivot: &[u8], clause: &[u8]) -> Result<Link, LineError>
     ensures { IsReading link_fields LinkInRange (pivot.now ∷ clause.now ∷ []) result }
 {

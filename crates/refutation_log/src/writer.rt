@@ -1,6 +1,6 @@
 ghost use Rattle.std.specs.Prelude.{◌≡◌, ◌+◌, ◌∷◌, ◌++◌, IfOk, OnOk};
 ghost use Rattle.refutation_log.specs.LogText.{LogInRange, log_text, numeral, pivot_text, link_fields, step_line};
-ghost use Rattle.refutation_log.specs.Writing.{spaced};
+ghost use Rattle.refutation_log.specs.inner.LineFields.{spaced};
 
 use super::header::title;
 use super::refutation::{Chain, Kind, Link, Log};
@@ -22,6 +22,7 @@ pub fn write_log(alloc: Global, kind: Kind, log: &Log) -> Result<Bytes, NoMemory
     Ok(text)
 }
 
+/// Appends the line of a step.
 fn push_step(text: &mut Bytes, step: &Chain) -> Result<(), NoMemory>
     ensures { OnOk result (text.new ≡ text.old ++ step_line step.now) }
 {
@@ -33,6 +34,7 @@ fn push_step(text: &mut Bytes, step: &Chain) -> Result<(), NoMemory>
     text.push(b'\n')
 }
 
+/// Appends the fields of a link.
 fn push_link(text: &mut Bytes, link: Link) -> Result<(), NoMemory>
     ensures { OnOk result (text.new ≡ text.old ++ spaced (link_fields link)) }
 {
@@ -42,7 +44,8 @@ fn push_link(text: &mut Bytes, link: Link) -> Result<(), NoMemory>
     push_number(text, link.clause)
 }
 
-/// Puts the literal at the end, with a minus sign where it is a negation.
+/// Appends the literal, with a minus sign if it is a negation. If memory runs out, a part of it may
+/// have been appended.
 pub fn push_pivot(text: &mut Bytes, pivot: Lit) -> Result<(), NoMemory>
     ensures { OnOk result (text.new ≡ text.old ++ pivot_text pivot) }
 {
@@ -52,7 +55,7 @@ pub fn push_pivot(text: &mut Bytes, pivot: Lit) -> Result<(), NoMemory>
     push_number(text, pivot.var)
 }
 
-/// Puts the number at the end, in decimal.
+/// Appends the number in decimal. If memory runs out, a part of it may have been appended.
 pub fn push_number(text: &mut Bytes, number: u32) -> Result<(), NoMemory>
     ensures { OnOk result (text.new ≡ text.old ++ numeral number) }
 {

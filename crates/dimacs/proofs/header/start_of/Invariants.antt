@@ -1,7 +1,7 @@
 -- What is kept while the header is looked for.
 use Rattle.std.proofs.Common.{◌≡◌, length}
 use Rattle.std.specs.Option.{option_copied}
-use Rattle.refutation_log.specs.Reading.{parts_in}
+use Rattle.refutation_log.specs.LineParts.{parts_in}
 use Rattle.dimacs.specs.Dimacs.{text_words}
 use Rattle.dimacs.specs.Token.{lines_left}
 use Rattle.dimacs.proofs.header.start_of.Given as goal

@@ -1,7 +1,7 @@
 -- What is kept while lines are read.
 use Rattle.std.proofs.Common.{◌≡◌, ◌++◌, map, length}
 use Rattle.std.specs.Option.{option_copied}
-use Rattle.refutation_log.specs.Reading.{parts_in}
+use Rattle.refutation_log.specs.LineParts.{parts_in}
 use Rattle.dimacs.specs.Token.{lines_left, token_word}
 use Rattle.dimacs.proofs.lines.tokens_of.Given as goal
 

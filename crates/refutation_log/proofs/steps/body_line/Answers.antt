@@ -2,10 +2,10 @@
 use Rattle.std.proofs.Common.{◌≢◌, codes, rules}
 use Rattle.std.proofs.lemmas.Result.{err_from_is_err_and}
 use Rattle.refutation_log.specs.LogText.{StepInRange}
-use Rattle.refutation_log.specs.Reading.{body_of, LineInRange}
+use Rattle.refutation_log.specs.LineParts.{body_of, LineInRange}
 use Rattle.refutation_log.proofs.Readings.{error_of_whole}
 use Rattle.refutation_log.proofs.Fields.{step_body, line_part}
-use Rattle.refutation_log.proofs.steps.line_of.Goals as goal
+use Rattle.refutation_log.proofs.steps.body_line.Goals as goal
 
 pub returns-in_err-step_of : goal.returns-in_err-step_of
 returns-in_err-step_of c =

@@ -5,8 +5,8 @@ use Rattle.refutation_log.specs.declared.line_error.LineError.{LineError}
 use Rattle.refutation_log.specs.declared.line_error.LineError.TheVariants as errors
 use Rattle.refutation_log.specs.declared.refusal.LogRefusal.{LogRefusal}
 use Rattle.refutation_log.specs.declared.refusal.LogRefusal.TheVariants as refusals
-use Rattle.refutation_log.specs.declared.steps.Line.{Line}
-use Rattle.refutation_log.specs.declared.steps.Line.TheVariants.{Step, End}
+use Rattle.refutation_log.specs.declared.steps.BodyLine.{BodyLine}
+use Rattle.refutation_log.specs.declared.steps.BodyLine.TheVariants.{Step, End}
 use Rattle.refutation_log.specs.LogText.{StepInRange, step_fields}
 
 -- each byte is a decimal digit
@@ -33,11 +33,11 @@ parts_in separator None = []
 parts_in separator (Some bytes) = slice_split (λ byte. byte == separator) bytes
 
 -- a line after the header, without its LF
-abbrev pub body_of : Line → List ℕ
+abbrev pub body_of : BodyLine → List ℕ
 body_of (Step step) = join_with_byte 32 (step_fields step)
 body_of End = codes "end"
 
 -- the numbers of the line are in range
-abbrev pub LineInRange : Line → Type 0
+abbrev pub LineInRange : BodyLine → Type 0
 LineInRange (Step step) = StepInRange step
 LineInRange End = Unit {0}
