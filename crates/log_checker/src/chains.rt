@@ -55,7 +55,8 @@ fn link_resolvent(
     number: u64,
 ) -> Result<Clause, ChainError>
     ensures ok { IfOk result (ResolvesTo (numbered (formula.now ++ derived.now)) clause.now link) }
-    ensures err { IfErr result (LinkStops (numbered (formula.now ++ derived.now)) clause.now link number) }
+    ensures err { IfErr result
+        (LinkStops (numbered (formula.now ++ derived.now)) clause.now link number) }
 {
     let Some(other) = clause_of(formula, derived, link.clause) else {
         return Err(ChainError::NoClause);
