@@ -4,8 +4,8 @@ use Rattle.clap.specs.Walk.{Row, Rule, Text, has_row, used}
 use Rattle.clap.specs.Kinds.{Kinds, or_else}
 use Rattle.clap.specs.Faults.{use_fault}
 use Rattle.clap.specs.declared.error.kind.ErrorKind.{ErrorKind}
-use Rattle.command_line.specs.Part.{Part, Brief, Conflicts, Threads, Positional}
-use Rattle.command_line.specs.Said.{Said, IsLean, add}
+use Rattle.command_line.specs.Argument.{Argument, Brief, Conflicts, Threads, Positional}
+use Rattle.command_line.specs.ParsedArgs.{ParsedArgs, HasNoRepeats, add}
 use Rattle.command_line.proofs.Rows.{Rows, row, found, flag_row, value_row, rest_of, no_row, none_found, new_row, found_new, found_other}
 use Rattle.command_line.proofs.Rules.{with_one, brief_rule, conflicts_rule, threads_rule, command_rule, name_rule}
 
@@ -38,17 +38,17 @@ no_value : (id : Text) (values : List Text) → value_row id values ≡ None →
 no_value id [] none = refl
 no_value id (v ∷ values) none = (let bad : Some (row id v) ≡ None = none in cc)
 
-pub no_briefs : (rows : List Row) (s : Said) → Rows rows s → has_row (codes "brief") rows ≡ false → s.briefs ≡ 0
+pub no_briefs : (rows : List Row) (s : ParsedArgs) → Rows rows s → has_row (codes "brief") rows ≡ false → s.briefs ≡ 0
 no_briefs rows s are none = no_flag s.briefs (sym are.brief ∙ none_found (codes "brief") rows none)
 
-pub no_conflicts : (rows : List Row) (s : Said) → Rows rows s → has_row (codes "conflicts") rows ≡ false → s.conflicts ≡ []
+pub no_conflicts : (rows : List Row) (s : ParsedArgs) → Rows rows s → has_row (codes "conflicts") rows ≡ false → s.conflicts ≡ []
 no_conflicts rows s are none = no_value (codes "conflicts") s.conflicts (sym are.conflicts ∙ none_found (codes "conflicts") rows none)
 
-pub no_threads : (rows : List Row) (s : Said) → Rows rows s → has_row (codes "threads") rows ≡ false → s.threads ≡ []
+pub no_threads : (rows : List Row) (s : ParsedArgs) → Rows rows s → has_row (codes "threads") rows ≡ false → s.threads ≡ []
 no_threads rows s are none = no_value (codes "threads") s.threads (sym are.threads ∙ none_found (codes "threads") rows none)
 
 -- the rows with one more, where nothing of its kind was said
-pub with_brief : (rows : List Row) (s : Said) → Rows rows s → s.briefs ≡ 0 → has_row (codes "brief") rows ≡ false → Rows (used brief_rule [] rows) (add s Brief)
+pub with_brief : (rows : List Row) (s : ParsedArgs) → Rows rows s → s.briefs ≡ 0 → has_row (codes "brief") rows ≡ false → Rows (used brief_rule [] rows) (add s Brief)
 with_brief rows s are none free =
     let r = row (codes "brief") (codes "true") in
     let flag : flag_row (s.briefs + 1) ≡ Some r = rw none refl in
@@ -58,10 +58,10 @@ with_brief rows s are none free =
       threads = found_other (codes "threads") rows r refl ∙ are.threads;
       command = found_other (codes "command") rows r refl ∙ are.command;
       name = found_other (codes "name") rows r refl ∙ are.name;
-      lean = record { briefs = omega (arith, none); conflicts = are.lean.conflicts; threads = are.lean.threads; words = are.lean.words };
+      lean = record { briefs = omega (arith, none); conflicts = are.lean.conflicts; threads = are.lean.threads; positional = are.lean.positional };
     })
 
-pub with_conflicts : (rows : List Row) (s : Said) (v : Text) → Rows rows s → s.conflicts ≡ [] → has_row (codes "conflicts") rows ≡ false → Rows (used conflicts_rule (v ∷ []) rows) (add s (Conflicts v))
+pub with_conflicts : (rows : List Row) (s : ParsedArgs) (v : Text) → Rows rows s → s.conflicts ≡ [] → has_row (codes "conflicts") rows ≡ false → Rows (used conflicts_rule (v ∷ []) rows) (add s (Conflicts v))
 with_conflicts rows s v are none free =
     let r = row (codes "conflicts") v in
     let one : s.conflicts ++ v ∷ [] ≡ v ∷ [] = ap (λ vs. vs ++ v ∷ []) none in
@@ -72,10 +72,10 @@ with_conflicts rows s v are none free =
       threads = found_other (codes "threads") rows r refl ∙ are.threads;
       command = found_other (codes "command") rows r refl ∙ are.command;
       name = found_other (codes "name") rows r refl ∙ are.name;
-      lean = record { briefs = are.lean.briefs; conflicts = few; threads = are.lean.threads; words = are.lean.words };
+      lean = record { briefs = are.lean.briefs; conflicts = few; threads = are.lean.threads; positional = are.lean.positional };
     })
 
-pub with_threads : (rows : List Row) (s : Said) (v : Text) → Rows rows s → s.threads ≡ [] → has_row (codes "threads") rows ≡ false → Rows (used threads_rule (v ∷ []) rows) (add s (Threads v))
+pub with_threads : (rows : List Row) (s : ParsedArgs) (v : Text) → Rows rows s → s.threads ≡ [] → has_row (codes "threads") rows ≡ false → Rows (used threads_rule (v ∷ []) rows) (add s (Threads v))
 with_threads rows s v are none free =
     let r = row (codes "threads") v in
     let one : s.threads ++ v ∷ [] ≡ v ∷ [] = ap (λ vs. vs ++ v ∷ []) none in
@@ -86,14 +86,14 @@ with_threads rows s v are none free =
       threads = found_new (codes "threads") rows r (none_found (codes "threads") rows free) refl ∙ sym (ap (value_row (codes "threads")) one);
       command = found_other (codes "command") rows r refl ∙ are.command;
       name = found_other (codes "name") rows r refl ∙ are.name;
-      lean = record { briefs = are.lean.briefs; conflicts = are.lean.conflicts; threads = few; words = are.lean.words };
+      lean = record { briefs = are.lean.briefs; conflicts = are.lean.conflicts; threads = few; positional = are.lean.positional };
     })
 
-pub with_command : (rows : List Row) (s : Said) (w : Text) → Rows rows s → s.words ≡ [] → has_row (codes "command") rows ≡ false → Rows (used command_rule (w ∷ []) rows) (add s (Positional w))
+pub with_command : (rows : List Row) (s : ParsedArgs) (w : Text) → Rows rows s → s.positional ≡ [] → has_row (codes "command") rows ≡ false → Rows (used command_rule (w ∷ []) rows) (add s (Positional w))
 with_command rows s w are none free =
     let r = row (codes "command") w in
-    let one : s.words ++ w ∷ [] ≡ w ∷ [] = ap (λ ws. ws ++ w ∷ []) none in
-    let few : length (s.words ++ w ∷ []) ≤ 2 = (let size = ap length one in omega (arith, size)) in
+    let one : s.positional ++ w ∷ [] ≡ w ∷ [] = ap (λ ws. ws ++ w ∷ []) none in
+    let few : length (s.positional ++ w ∷ []) ≤ 2 = (let size = ap length one in omega (arith, size)) in
     let nothing : found (codes "name") rows ≡ None = are.name ∙ ap (λ ws. value_row (codes "name") (rest_of ws)) none in
     subst (λ rs. Rows rs (add s (Positional w))) (sym (new_row (codes "command") w rows free)) (record {
       brief = found_other (codes "brief") rows r refl ∙ are.brief;
@@ -101,14 +101,14 @@ with_command rows s w are none free =
       threads = found_other (codes "threads") rows r refl ∙ are.threads;
       command = found_new (codes "command") rows r (none_found (codes "command") rows free) refl ∙ sym (ap (value_row (codes "command")) one);
       name = found_other (codes "name") rows r refl ∙ nothing ∙ sym (ap (λ ws. value_row (codes "name") (rest_of ws)) one);
-      lean = record { briefs = are.lean.briefs; conflicts = are.lean.conflicts; threads = are.lean.threads; words = few };
+      lean = record { briefs = are.lean.briefs; conflicts = are.lean.conflicts; threads = are.lean.threads; positional = few };
     })
 
-pub with_name : (rows : List Row) (s : Said) (first w : Text) → Rows rows s → s.words ≡ first ∷ [] → has_row (codes "name") rows ≡ false → Rows (used name_rule (w ∷ []) rows) (add s (Positional w))
+pub with_name : (rows : List Row) (s : ParsedArgs) (first w : Text) → Rows rows s → s.positional ≡ first ∷ [] → has_row (codes "name") rows ≡ false → Rows (used name_rule (w ∷ []) rows) (add s (Positional w))
 with_name rows s first w are one free =
     let r = row (codes "name") w in
-    let two : s.words ++ w ∷ [] ≡ first ∷ w ∷ [] = ap (λ ws. ws ++ w ∷ []) one in
-    let few : length (s.words ++ w ∷ []) ≤ 2 = (let size = ap length two in omega (arith, size)) in
+    let two : s.positional ++ w ∷ [] ≡ first ∷ w ∷ [] = ap (λ ws. ws ++ w ∷ []) one in
+    let few : length (s.positional ++ w ∷ []) ≤ 2 = (let size = ap length two in omega (arith, size)) in
     let command : found (codes "command") rows ≡ Some (row (codes "command") first) = are.command ∙ ap (value_row (codes "command")) one in
     subst (λ rs. Rows rs (add s (Positional w))) (sym (new_row (codes "name") w rows free)) (record {
       brief = found_other (codes "brief") rows r refl ∙ are.brief;
@@ -116,5 +116,5 @@ with_name rows s first w are one free =
       threads = found_other (codes "threads") rows r refl ∙ are.threads;
       command = found_other (codes "command") rows r refl ∙ command ∙ sym (ap (value_row (codes "command")) two);
       name = found_new (codes "name") rows r (none_found (codes "name") rows free) refl ∙ sym (ap (λ ws. value_row (codes "name") (rest_of ws)) two);
-      lean = record { briefs = are.lean.briefs; conflicts = are.lean.conflicts; threads = are.lean.threads; words = few };
+      lean = record { briefs = are.lean.briefs; conflicts = are.lean.conflicts; threads = are.lean.threads; positional = few };
     })

@@ -10,9 +10,9 @@ use Rattle.clap.specs.Words.{matches_of}
 use Rattle.clap.specs.Faults.{fault_of}
 use Rattle.clap.specs.declared.builder.value_parser.Reading.TheVariants.{AsWritten}
 use Rattle.clap.specs.declared.parser.matches.ValueSource.TheVariants.{DefaultValue}
-use Rattle.command_line.specs.Clap.{told}
+use Rattle.command_line.specs.Clap.{cli_app}
 use Rattle.command_line.specs.Known.{is_known}
-use Rattle.command_line.specs.Said.{Said, IsLean, Says, nothing_said}
+use Rattle.command_line.specs.ParsedArgs.{ParsedArgs, HasNoRepeats, ParsesTo, nothing_parsed}
 use Rattle.command_line.proofs.Rows.{Rows, row, found, flag_row, value_row, rest_of, no_row, found_other, found_new}
 use Rattle.command_line.proofs.Rules.{rules, brief_rule, conflicts_rule, threads_rule, command_rule, name_rule, fault_is}
 use Rattle.command_line.proofs.Taking.{Taken, Ends, Holds, place, taking}
@@ -28,13 +28,13 @@ flag_text zero = codes "false"
 flag_text (suc n) = codes "true"
 
 -- what the getters read
-pub record Reads (rows : List Row) (s : Said) : Type 0 where
+pub record Reads (rows : List Row) (s : ParsedArgs) : Type 0 where
   pub brief : one_of (codes "brief") rows ≡ Some (flag_text s.briefs)
   pub conflicts : first_of (codes "conflicts") rows ≡ first s.conflicts
   pub threads : first_of (codes "threads") rows ≡ first s.threads
-  pub command : first_of (codes "command") rows ≡ first s.words
-  pub name : first_of (codes "name") rows ≡ first (rest_of s.words)
-  pub lean : IsLean s
+  pub command : first_of (codes "command") rows ≡ first s.positional
+  pub name : first_of (codes "name") rows ≡ first (rest_of s.positional)
+  pub lean : HasNoRepeats s
 
 -- the first value of a row
 value_first : (id : Text) (values : List Text) → option_and_then (λ (r : Row). slice_get r.values 0) (value_row id values) ≡ first values
@@ -75,7 +75,7 @@ one_default end =
     ∙ ap (λ rs. with_default (with_default rs command_rule) name_rule) third
     ∙ ap (λ rs. with_default rs name_rule) fourth ∙ fifth
 
-reads_rows : (rows : List Row) (s : Said) (n : ℕ) → s.briefs ≡ n → Rows rows s → Reads (with_default rows brief_rule) s
+reads_rows : (rows : List Row) (s : ParsedArgs) (n : ℕ) → s.briefs ≡ n → Rows rows s → Reads (with_default rows brief_rule) s
 reads_rows rows s zero e are =
     let none = no_row (codes "brief") rows (are.brief ∙ ap flag_row e) in
     let missing : found (codes "brief") rows ≡ None = are.brief ∙ ap flag_row e in
@@ -84,8 +84,8 @@ reads_rows rows s zero e are =
       brief = ap (option_and_then row_text) (found_new (codes "brief") rows default_row missing refl) ∙ sym (ap (λ k. Some (flag_text k)) e);
       conflicts = ap (option_and_then (λ (r : Row). slice_get r.values 0)) (found_other (codes "conflicts") rows default_row refl ∙ are.conflicts) ∙ value_first (codes "conflicts") s.conflicts;
       threads = ap (option_and_then (λ (r : Row). slice_get r.values 0)) (found_other (codes "threads") rows default_row refl ∙ are.threads) ∙ value_first (codes "threads") s.threads;
-      command = ap (option_and_then (λ (r : Row). slice_get r.values 0)) (found_other (codes "command") rows default_row refl ∙ are.command) ∙ value_first (codes "command") s.words;
-      name = ap (option_and_then (λ (r : Row). slice_get r.values 0)) (found_other (codes "name") rows default_row refl ∙ are.name) ∙ value_first (codes "name") (rest_of s.words);
+      command = ap (option_and_then (λ (r : Row). slice_get r.values 0)) (found_other (codes "command") rows default_row refl ∙ are.command) ∙ value_first (codes "command") s.positional;
+      name = ap (option_and_then (λ (r : Row). slice_get r.values 0)) (found_other (codes "name") rows default_row refl ∙ are.name) ∙ value_first (codes "name") (rest_of s.positional);
       lean = are.lean;
     })
 reads_rows rows s (suc n) e are =
@@ -96,29 +96,29 @@ reads_rows rows s (suc n) e are =
       brief = ap (option_and_then row_text) here ∙ sym (ap (λ k. Some (flag_text k)) e);
       conflicts = ap (option_and_then (λ (r : Row). slice_get r.values 0)) are.conflicts ∙ value_first (codes "conflicts") s.conflicts;
       threads = ap (option_and_then (λ (r : Row). slice_get r.values 0)) are.threads ∙ value_first (codes "threads") s.threads;
-      command = ap (option_and_then (λ (r : Row). slice_get r.values 0)) are.command ∙ value_first (codes "command") s.words;
-      name = ap (option_and_then (λ (r : Row). slice_get r.values 0)) are.name ∙ value_first (codes "name") (rest_of s.words);
+      command = ap (option_and_then (λ (r : Row). slice_get r.values 0)) are.command ∙ value_first (codes "command") s.positional;
+      name = ap (option_and_then (λ (r : Row). slice_get r.values 0)) are.name ∙ value_first (codes "name") (rest_of s.positional);
       lean = are.lean;
     })
 
--- before the words nothing is held
-start_rows : Rows [] nothing_said
-start_rows = record { brief = refl; conflicts = refl; threads = refl; command = refl; name = refl; lean = record { briefs = omega arith; conflicts = omega arith; threads = omega arith; words = omega arith } }
+-- before the arguments nothing is held
+start_rows : Rows [] nothing_parsed
+start_rows = record { brief = refl; conflicts = refl; threads = refl; command = refl; name = refl; lean = record { briefs = omega arith; conflicts = omega arith; threads = omega arith; positional = omega arith } }
 
--- where no word fails, the words say what the getters read
-pub record IsRead (words : List Text) : Type 0 where
-  pub after : Said
-  pub says : Says words nothing_said after
-  pub reads : Reads (matches_of told words) after
+-- where no argument fails, the arguments say what the getters read
+pub record IsRead (args : List Text) : Type 0 where
+  pub after : ParsedArgs
+  pub says : ParsesTo args nothing_parsed after
+  pub reads : Reads (matches_of cli_app args) after
 
-pub read_words : (words : List Text) → list_all is_known words ≡ true → fault_of told words ≡ [] → IsRead words
-read_words words known none =
-    let taken = (taking words known).ready [] None 1 nothing_said (record { fair = λ passes. start_rows; at = refl }) (sym (fault_is words) ∙ none) in
-    let end = (walk rules [] nothing_held words).held in
+pub read_words : (args : List Text) → list_all is_known args ≡ true → fault_of cli_app args ≡ [] → IsRead args
+read_words args known none =
+    let taken = (taking args known).ready [] None 1 nothing_parsed (record { fair = λ passes. start_rows; at = refl }) (sym (fault_is args) ∙ none) in
+    let end = (walk rules [] nothing_held args).held in
     let reads = reads_rows (settled rules end).rows taken.after taken.after.briefs refl taken.ends.rows in
     record { after = taken.after; says = taken.says; reads = subst (λ rs. Reads rs taken.after) (sym (one_default end)) reads }
 
--- words that say nothing too often do not fail
-pub read_passes : (words : List Text) → list_all is_known words ≡ true → (s : Said) → Says words nothing_said s → IsLean s → fault_of told words ≡ []
-read_passes words known s says lean =
-    fault_is words ∙ words_pass says.reads known [] None 1 nothing_said (record { none = refl; are = start_rows; at = refl }) (subst IsLean says.after_is lean)
+-- arguments that say nothing too often do not fail
+pub read_passes : (args : List Text) → list_all is_known args ≡ true → (s : ParsedArgs) → ParsesTo args nothing_parsed s → HasNoRepeats s → fault_of cli_app args ≡ []
+read_passes args known s says lean =
+    fault_is args ∙ words_pass says.reads known [] None 1 nothing_parsed (record { none = refl; are = start_rows; at = refl }) (subst HasNoRepeats says.after_is lean)

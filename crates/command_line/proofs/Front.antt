@@ -1,25 +1,25 @@
--- With which part words begin, as a function: with one at most.
+-- With which part arguments begin, as a function: with one at most.
 use Rattle.std.proofs.Common.{◌≡◌, ◌≢◌, ◌≤◌, ℕ, Bool, true, false, cond, List, [], ◌∷◌, length, ◌+◌, Option, Some, None, refl, sym, ap, subst, ◌∙◌, arith, codes}
 use Rattle.std.specs.Option.{option_map, unwrap_or}
 use Rattle.std.specs.Str.{bytes_eq}
 use Rattle.std.proofs.lemmas.Option.{none-some}
-use Rattle.command_line.specs.Part.{Part, Conflicts, Threads, begins_with_dash, IsAlone, BeginsWith, alone, conflicts_next, threads_next}
+use Rattle.command_line.specs.Argument.{Argument, Conflicts, Threads, begins_with_dash, IsAlone, BeginsWith, alone, conflicts_next, threads_next}
 use Rattle.command_line.proofs.Alone.{alone_of, alone_found, alone_wants_none}
 
--- the option with the next word as its value
-abbrev pub with_value : (List ℕ → Part) → List (List ℕ) → Option (Part × List (List ℕ))
+-- the option with the next argument as its value
+abbrev pub with_value : (List ℕ → Argument) → List (List ℕ) → Option (Argument × List (List ℕ))
 with_value make [] = None
 with_value make (value ∷ rest) = cond (begins_with_dash value) None (Some (make value, rest))
 
 -- the part at the front, and what is left
-abbrev pub front_of : List (List ℕ) → Option (Part × List (List ℕ))
+abbrev pub front_of : List (List ℕ) → Option (Argument × List (List ℕ))
 front_of [] = None
 front_of (word ∷ rest) = cond (bytes_eq word (codes "--conflicts")) (with_value Conflicts rest)
     (cond (bytes_eq word (codes "--threads")) (with_value Threads rest)
     (option_map (λ part. (part, rest)) (alone_of word)))
 
 -- the function finds the part
-pub front_found : {words : List (List ℕ)} {part : Part} {left : List (List ℕ)} → BeginsWith words part left → front_of words ≡ Some (part, left)
+pub front_found : {args : List (List ℕ)} {part : Argument} {left : List (List ℕ)} → BeginsWith args part left → front_of args ≡ Some (part, left)
 front_found (alone word part rest is) =
     let others = alone_wants_none is in
     let first : bytes_eq word (codes "--conflicts") ≡ false = others.0 in
@@ -28,16 +28,16 @@ front_found (alone word part rest is) =
 front_found (conflicts_next value rest plain) = rw plain refl
 front_found (threads_next value rest plain) = rw plain refl
 
--- words begin with one part
-pub same_front : {words : List (List ℕ)} {one other : Part} {left rest : List (List ℕ)} → BeginsWith words one left → BeginsWith words other rest → (one ≡ other) × (left ≡ rest)
+-- arguments begin with one part
+pub same_front : {args : List (List ℕ)} {one other : Argument} {left rest : List (List ℕ)} → BeginsWith args one left → BeginsWith args other rest → (one ≡ other) × (left ≡ rest)
 same_front {one = one} {other = other} {left = left} {rest = rest} first second =
     let e : Some (one, left) ≡ Some (other, rest) = sym (front_found first) ∙ front_found second in
-    (let first : (o : Option (Part × List (List ℕ))) → Part × List (List ℕ) = λ o. unwrap_or o (one, left) in (ap (λ (o : Option (Part × List (List ℕ))). (first o).0) e, ap (λ (o : Option (Part × List (List ℕ))). (first o).1) e))
+    (let first : (o : Option (Argument × List (List ℕ))) → Argument × List (List ℕ) = λ o. unwrap_or o (one, left) in (ap (λ (o : Option (Argument × List (List ℕ))). (first o).0) e, ap (λ (o : Option (Argument × List (List ℕ))). (first o).1) e))
 
--- no words begin with none
-pub no_words : {part : Part} {left : List (List ℕ)} → BeginsWith [] part left → ⊥
+-- no arguments begin with none
+pub no_words : {part : Argument} {left : List (List ℕ)} → BeginsWith [] part left → ⊥
 no_words {part = part} {left = left} begins = none-some (part, left) (front_found begins)
 
 -- no part begins at `--`
-pub no_end : (rest : List (List ℕ)) {part : Part} {left : List (List ℕ)} → BeginsWith (codes "--" ∷ rest) part left → ⊥
+pub no_end : (rest : List (List ℕ)) {part : Argument} {left : List (List ℕ)} → BeginsWith (codes "--" ∷ rest) part left → ⊥
 no_end rest {part = part} {left = left} begins = none-some (part, left) (front_found begins)

@@ -1,4 +1,4 @@
--- What the getters of the matches give is what is said.
+-- What the getters of the matches give is what is parsed.
 use Rattle.std.proofs.Common.{◌≡◌, ◌≤◌, ◌++◌, ℕ, zero, suc, Bool, true, false, cond, List, [], ◌∷◌, length, map, Option, Some, None, inl, inr, refl, sym, ap, subst, ◌∙◌, arith, codes}
 use Rattle.std.specs.Borrow.{Bor}
 use Rattle.std.specs.Option.{option_copied, option_to_list}
@@ -10,13 +10,13 @@ use Rattle.clap.specs.declared.error.Error.{Error}
 use Rattle.clap.specs.declared.error.kind.ErrorKind.TheVariants.{OutOfMemory}
 use Rattle.clap.specs.declared.parser.matches.Found.{Found}
 use Rattle.clap.proofs.WalkLemmas.{first_value-rows, one_text-rows}
-use Rattle.command_line.specs.declared.given.Given.{Given}
-use Rattle.command_line.specs.Given.{said_of}
-use Rattle.command_line.specs.Said.{Said}
+use Rattle.command_line.specs.declared.raw_args.RawArgs.{RawArgs}
+use Rattle.command_line.specs.RawArgs.{parsed_of}
+use Rattle.command_line.specs.ParsedArgs.{ParsedArgs}
 use Rattle.command_line.proofs.Rows.{rest_of}
 use Rattle.command_line.proofs.Final.{Reads, first, flag_text}
 
--- an error where no step fails is want of memory
+-- an error where no step fails is out of memory
 pub memory_only : (kinds : Kinds) (e : Error) → kinds ≡ [] → HasKind kinds e → kind_of e ≡ OutOfMemory
 memory_only [] e none (inl is) = is
 memory_only [] e none (inr bad) = absurd bad
@@ -39,10 +39,10 @@ flag_read (suc zero) on few yes_on no_on = rw (yes_on refl) refl
 flag_read (suc (suc n)) on few yes_on no_on = absurd (omega (arith, few))
 
 -- the getters give what the rows hold
-pub given_is : (given : Given) (f : Found) (rows : List Row) (s : Said) → rows_of f ≡ rows → Reads rows s
+pub given_is : (given : RawArgs) (f : Found) (rows : List Row) (s : ParsedArgs) → rows_of f ≡ rows → Reads rows s
     → (one_text f (codes "brief") ≡ Some (codes "true") → given.brief ≡ true) → (one_text f (codes "brief") ≡ Some (codes "false") → given.brief ≡ false)
     → option_copied given.conflicts ≡ first_value f (codes "conflicts") → option_copied given.threads ≡ first_value f (codes "threads")
-    → option_copied given.command ≡ first_value f (codes "command") → option_copied given.name ≡ first_value f (codes "name") → said_of given ≡ s
+    → option_copied given.command ≡ first_value f (codes "command") → option_copied given.name ≡ first_value f (codes "name") → parsed_of given ≡ s
 given_is given f rows s same reads is_on is_off conflicts threads command name =
     let flag = one_text-rows f (codes "brief") ∙ ap (one_of (codes "brief")) same ∙ reads.brief in
     let briefs = flag_read s.briefs given.brief reads.lean.briefs (λ e. is_on (flag ∙ ap Some e)) (λ e. is_off (flag ∙ ap Some e)) in
@@ -51,5 +51,5 @@ given_is given f rows s same reads is_on is_off conflicts threads command name =
     let threads_are = ap option_to_list (threads ∙ value_of (codes "threads") ∙ reads.threads) ∙ one_value s.threads reads.lean.threads in
     let command_is = ap option_to_list (command ∙ value_of (codes "command") ∙ reads.command) in
     let name_is = ap option_to_list (name ∙ value_of (codes "name") ∙ reads.name) in
-    let words = (λ i. command_is i ++ name_is i) ∙ two_values s.words reads.lean.words in
-    λ i. record { briefs = briefs i; conflicts = conflicts_are i; threads = threads_are i; words = words i }
+    let args = (λ i. command_is i ++ name_is i) ∙ two_values s.positional reads.lean.positional in
+    λ i. record { briefs = briefs i; conflicts = conflicts_are i; threads = threads_are i; positional = args i }

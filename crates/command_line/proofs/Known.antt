@@ -1,4 +1,4 @@
--- The words that a command line may have, one by one, and that it has no others.
+-- The arguments that a command line may have, one by one, and that it has no others.
 use Rattle.std.proofs.Common.{◌≡◌, ◌≢◌, ◌+◌, ◌++◌, ◌&&◌, ◌||◌, ℕ, Bool, true, false, not, eqb, List, [], ◌∷◌, take, drop, length, map, inl, inr, refl, sym, ap, subst, ◌∙◌, arith, codes, nat_eq}
 use Rattle.std.specs.Prelude.{IsTrue}
 use Rattle.std.specs.Char.{is_ascii_digit}
@@ -14,14 +14,14 @@ use Rattle.command_line.specs.declared.command.Command.TheVariants.{Verify, Chec
 use Rattle.command_line.specs.declared.line.CommandLine.{CommandLine}
 use Rattle.command_line.specs.declared.line.Subject.{Subject}
 use Rattle.command_line.specs.declared.line.Subject.TheVariants.{Protocol, Size}
-use Rattle.command_line.specs.Command.{command_word}
+use Rattle.command_line.specs.Command.{command_word, takes_size}
 use Rattle.command_line.specs.Known.{options, is_known}
-use Rattle.command_line.specs.Line.{IsSubject, IsLineOf, IsCommandLine, is_generate}
+use Rattle.command_line.specs.Line.{IsSubject, IsLineOf, IsCommandLine}
 use Rattle.command_line.specs.Number.{is_number}
-use Rattle.command_line.specs.Part.{Part, Brief, Conflicts, Threads, Positional, begins_with_dash, is_dashed, IsAlone, brief, conflicts_joined, threads_joined, positional, BeginsWith, alone, conflicts_next, threads_next, ReadsAs, nothing, the_end, next}
-use Rattle.command_line.specs.Said.{Said, add, said, nothing_said}
+use Rattle.command_line.specs.Argument.{Argument, Brief, Conflicts, Threads, Positional, begins_with_dash, is_dashed, IsAlone, brief, conflicts_joined, threads_joined, positional, BeginsWith, alone, conflicts_next, threads_next, ReadsAs, nothing, the_end, next}
+use Rattle.command_line.specs.ParsedArgs.{ParsedArgs, add, parsed, nothing_parsed}
 
--- the words that are known
+-- the arguments that are known
 pub data IsKnown : List ℕ → Type 0 where
   plain : (word : List ℕ) → begins_with_dash word ≡ false → IsKnown word
   the_dashes : IsKnown (codes "--")
@@ -82,16 +82,16 @@ known_tail word rest known = (and_parts (is_known word) (list_all is_known rest)
 plain_known : (word : List ℕ) → begins_with_dash word ≡ false → is_known word ≡ true
 plain_known word is = rw is refl
 
-alone_known : {word : List ℕ} {part : Part} → IsAlone word part → ((w : List ℕ) → part ≡ Positional w → begins_with_dash w ≡ false) → is_known word ≡ true
+alone_known : {word : List ℕ} {part : Argument} → IsAlone word part → ((w : List ℕ) → part ≡ Positional w → begins_with_dash w ≡ false) → is_known word ≡ true
 alone_known brief bare = refl
 alone_known (conflicts_joined value) bare = refl
 alone_known (threads_joined value) bare = refl
 alone_known (positional word other) bare = plain_known word (bare word refl)
 
--- no word begins with `-`
+-- no argument begins with `-`
 abbrev pub AllPlain : List (List ℕ) → Type 0
 AllPlain [] = Unit {0}
-AllPlain (word ∷ words) = (begins_with_dash word ≡ false) × AllPlain words
+AllPlain (word ∷ args) = (begins_with_dash word ≡ false) × AllPlain args
 
 plain_front : (xs ys : List (List ℕ)) → AllPlain (xs ++ ys) → AllPlain xs
 plain_front [] ys are = tt
@@ -101,35 +101,35 @@ plain_last : (xs : List (List ℕ)) (y : List ℕ) → AllPlain (xs ++ y ∷ [])
 plain_last [] y are = are.0
 plain_last (x ∷ xs) y are = plain_last xs y are.1
 
-plain_before : (s : Said) (part : Part) → AllPlain (add s part).words → AllPlain s.words
+plain_before : (s : ParsedArgs) (part : Argument) → AllPlain (add s part).positional → AllPlain s.positional
 plain_before s Brief are = are
 plain_before s (Conflicts value) are = are
 plain_before s (Threads value) are = are
-plain_before s (Positional word) are = plain_front s.words (word ∷ []) are
+plain_before s (Positional word) are = plain_front s.positional (word ∷ []) are
 
-plain_start : (s : Said) (parts : List Part) → AllPlain (fold add s parts).words → AllPlain s.words
+plain_start : (s : ParsedArgs) (parts : List Argument) → AllPlain (fold add s parts).positional → AllPlain s.positional
 plain_start s [] are = are
 plain_start s (part ∷ parts) are = plain_before s part (plain_start (add s part) parts are)
 
-plain_positional : (s : Said) (part : Part) (parts : List Part) → AllPlain (fold add (add s part) parts).words → (w : List ℕ) → part ≡ Positional w → begins_with_dash w ≡ false
+plain_positional : (s : ParsedArgs) (part : Argument) (parts : List Argument) → AllPlain (fold add (add s part) parts).positional → (w : List ℕ) → part ≡ Positional w → begins_with_dash w ≡ false
 plain_positional s part parts are w is =
-    let here : AllPlain (add s (Positional w)).words = subst (λ q. AllPlain (add s q).words) is (plain_start (add s part) parts are) in
-    plain_last s.words w here
+    let here : AllPlain (add s (Positional w)).positional = subst (λ q. AllPlain (add s q).positional) is (plain_start (add s part) parts are) in
+    plain_last s.positional w here
 
-rest_known : (s : Said) (rest : List (List ℕ)) → AllPlain (fold add s (map Positional rest)).words → list_all is_known rest ≡ true
+rest_known : (s : ParsedArgs) (rest : List (List ℕ)) → AllPlain (fold add s (map Positional rest)).positional → list_all is_known rest ≡ true
 rest_known s [] are = refl
 rest_known s (word ∷ rest) are =
     and_from (is_known word) (list_all is_known rest) (plain_known word (plain_positional s (Positional word) (map Positional rest) are word refl)) (rest_known (add s (Positional word)) rest are)
 
-part_known : {words : List (List ℕ)} {part : Part} {left : List (List ℕ)} → BeginsWith words part left → ((w : List ℕ) → part ≡ Positional w → begins_with_dash w ≡ false) → list_all is_known left ≡ true → list_all is_known words ≡ true
+part_known : {args : List (List ℕ)} {part : Argument} {left : List (List ℕ)} → BeginsWith args part left → ((w : List ℕ) → part ≡ Positional w → begins_with_dash w ≡ false) → list_all is_known left ≡ true → list_all is_known args ≡ true
 part_known (alone word part rest is) bare others = and_from (is_known word) (list_all is_known rest) (alone_known is bare) others
 part_known (conflicts_next value rest is) bare others = and_from (is_known value) (list_all is_known rest) (plain_known value is) others
 part_known (threads_next value rest is) bare others = and_from (is_known value) (list_all is_known rest) (plain_known value is) others
 
-reading_known : {words : List (List ℕ)} {parts : List Part} → ReadsAs words parts → (s : Said) → AllPlain (fold add s parts).words → list_all is_known words ≡ true
+reading_known : {args : List (List ℕ)} {parts : List Argument} → ReadsAs args parts → (s : ParsedArgs) → AllPlain (fold add s parts).positional → list_all is_known args ≡ true
 reading_known nothing s are = refl
 reading_known (the_end rest) s are = rest_known s rest are
-reading_known (next words part rest parts begins reads) s are = part_known begins (plain_positional s part parts are) (reading_known reads (add s part) are)
+reading_known (next args part rest parts begins reads) s are = part_known begins (plain_positional s part parts are) (reading_known reads (add s part) are)
 
 -- ---- a command and what it is about do not begin with `-`
 
@@ -172,8 +172,8 @@ subject_plain true word (Protocol name) is = absurd is
 subject_plain false word (Size n) is = absurd is
 subject_plain false word (Protocol name) is = name_plain word is.1
 
--- a command line has known words alone
-pub line_known : (words : List (List ℕ)) (line : CommandLine) → IsCommandLine words line → list_all is_known words ≡ true
-line_known words line is =
-    let two : AllPlain (command_word line.command ∷ is.line_of.word ∷ []) = (command_plain line.command, (subject_plain (is_generate line.command) is.line_of.word line.subject is.line_of.subject, tt)) in
-    reading_known is.reads nothing_said (subst AllPlain (sym is.line_of.words) two)
+-- a command line has known arguments alone
+pub line_known : (args : List (List ℕ)) (line : CommandLine) → IsCommandLine args line → list_all is_known args ≡ true
+line_known args line is =
+    let two : AllPlain (command_word line.command ∷ is.line_of.word ∷ []) = (command_plain line.command, (subject_plain (takes_size line.command) is.line_of.word line.subject is.line_of.subject, tt)) in
+    reading_known is.reads nothing_parsed (subst AllPlain (sym is.line_of.positional) two)

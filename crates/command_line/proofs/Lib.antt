@@ -11,4 +11,4 @@ pub mod Rows
 pub mod Rules
 pub mod Steps
 pub mod Taking
-pub mod Saying
+pub mod ParseLemmas

@@ -7,10 +7,10 @@ use Rattle.command_line.specs.declared.command.Command.TheVariants.{Verify, Chec
 use Rattle.command_line.specs.declared.line.CommandLine.{CommandLine}
 use Rattle.command_line.specs.declared.line.Subject.{Subject}
 use Rattle.command_line.specs.declared.line.Subject.TheVariants.{Protocol, Size}
-use Rattle.command_line.specs.Command.{command_word, takes_brief, takes_conflicts, takes_threads}
-use Rattle.command_line.specs.Line.{IsSubject, IsFlag, IsChosen, IsLineOf, IsCommandLine, IsSameSubject, IsSameLine, is_generate}
-use Rattle.command_line.specs.Said.{Said, IsLean, Says, nothing_said, said}
-use Rattle.command_line.proofs.Saying.{same_reading}
+use Rattle.command_line.specs.Command.{command_word, takes_brief, takes_conflicts, takes_threads, takes_size}
+use Rattle.command_line.specs.Line.{IsSubject, IsFlag, IsChosen, IsLineOf, IsCommandLine, IsSameSubject, IsSameLine}
+use Rattle.command_line.specs.ParsedArgs.{ParsedArgs, HasNoRepeats, ParsesTo, nothing_parsed, parsed}
+use Rattle.command_line.proofs.ParseLemmas.{same_reading}
 
 -- a flag or an option stands once at most
 flag_once : (belongs : Bool) (n : ℕ) (on : Bool) → IsFlag belongs n on → n ≤ 1
@@ -23,24 +23,24 @@ option_once belongs least most default [] n is = omega arith
 option_once belongs least most default (value ∷ []) n is = omega arith
 option_once belongs least most default (value ∷ other ∷ values) n is = absurd is
 
-pub line_lean : (s : Said) (line : CommandLine) → IsLineOf s line → IsLean s
-line_lean s line is = record {
+pub no_repeats : (s : ParsedArgs) (line : CommandLine) → IsLineOf s line → HasNoRepeats s
+no_repeats s line is = record {
   briefs = flag_once (takes_brief line.command) s.briefs line.brief is.brief;
   conflicts = option_once (takes_conflicts line.command) 1 20000 10000 s.conflicts line.conflicts is.conflicts;
   threads = option_once (takes_threads line.command) 0 8 1 s.threads line.threads is.threads;
-  words = (let two = ap length is.words in omega (arith, two));
+  positional = (let two = ap length is.positional in omega (arith, two));
 }
 
--- what is said makes the words a command line, or none
-pub line_of_words : {words : List (List ℕ)} (s : Said) (line : Option CommandLine) → Says words nothing_said s → MatchOption line ((l : CommandLine) → IsLineOf s l → ⊥) (IsLineOf s) → MatchOption line ((l : CommandLine) → IsCommandLine words l → ⊥) (IsCommandLine words)
-line_of_words s None says none = λ l is. none l (subst (λ t. IsLineOf t l) (ap said (same_reading is.reads says.reads) ∙ sym says.after_is) is.line_of)
+-- what is parsed makes the arguments a command line, or none
+pub line_of_words : {args : List (List ℕ)} (s : ParsedArgs) (line : Option CommandLine) → ParsesTo args nothing_parsed s → MatchOption line ((l : CommandLine) → IsLineOf s l → ⊥) (IsLineOf s) → MatchOption line ((l : CommandLine) → IsCommandLine args l → ⊥) (IsCommandLine args)
+line_of_words s None says none = λ l is. none l (subst (λ t. IsLineOf t l) (ap parsed (same_reading is.reads says.reads) ∙ sym says.after_is) is.line_of)
 line_of_words s (Some line) says is = record { parts = says.parts; reads = says.reads; line_of = subst (λ t. IsLineOf t line) says.after_is is }
 
--- where too much is said, the words are none
-pub none_from_words : {words : List (List ℕ)} → ((s : Said) → Says words nothing_said s → IsLean s → ⊥) → (l : CommandLine) → IsCommandLine words l → ⊥
-none_from_words often l is = often (said is.parts) (record { parts = is.parts; reads = is.reads; after_is = refl }) (line_lean (said is.parts) l is.line_of)
+-- where too much is said, the arguments are none
+pub none_from_words : {args : List (List ℕ)} → ((s : ParsedArgs) → ParsesTo args nothing_parsed s → HasNoRepeats s → ⊥) → (l : CommandLine) → IsCommandLine args l → ⊥
+none_from_words often l is = often (parsed is.parts) (record { parts = is.parts; reads = is.reads; after_is = refl }) (no_repeats (parsed is.parts) l is.line_of)
 
--- the command that the word names
+-- the command that the argument names
 abbrev named : List ℕ → Command
 named word = cond (bytes_eq word (codes "verify")) Verify
     (cond (bytes_eq word (codes "check")) Check
@@ -82,21 +82,21 @@ second_item : List (List ℕ) → List ℕ
 second_item [] = []
 second_item (x ∷ xs) = first_item xs
 
-same_line : (s : Said) (a b : CommandLine) → IsLineOf s a → IsLineOf s b → IsSameLine a b
+same_line : (s : ParsedArgs) (a b : CommandLine) → IsLineOf s a → IsLineOf s b → IsSameLine a b
 unfolding first_item second_item
 same_line s a b one other =
-    let words = sym one.words ∙ other.words in
-    let command : a.command ≡ b.command = sym (names_it a.command) ∙ ap (λ ws. named (first_item ws)) words ∙ names_it b.command in
-    let word : one.word ≡ other.word = ap second_item words in
-    let subject = subst (λ w. IsSubject (is_generate a.command) w a.subject) word one.subject in
+    let args = sym one.positional ∙ other.positional in
+    let command : a.command ≡ b.command = sym (names_it a.command) ∙ ap (λ ws. named (first_item ws)) args ∙ names_it b.command in
+    let word : one.word ≡ other.word = ap second_item args in
+    let subject = subst (λ w. IsSubject (takes_size a.command) w a.subject) word one.subject in
     record {
       command = command;
-      subject = same_subject (is_generate b.command) other.word a.subject b.subject (subst (λ k. IsSubject (is_generate k) other.word a.subject) command subject) other.subject;
+      subject = same_subject (takes_size b.command) other.word a.subject b.subject (subst (λ k. IsSubject (takes_size k) other.word a.subject) command subject) other.subject;
       brief = same_flag (takes_brief b.command) s.briefs a.brief b.brief (subst (λ k. IsFlag (takes_brief k) s.briefs a.brief) command one.brief) other.brief;
       conflicts = same_choice (takes_conflicts b.command) 1 20000 10000 s.conflicts a.conflicts b.conflicts (subst (λ k. IsChosen (takes_conflicts k) 1 20000 10000 s.conflicts a.conflicts) command one.conflicts) other.conflicts;
       threads = same_choice (takes_threads b.command) 0 8 1 s.threads a.threads b.threads (subst (λ k. IsChosen (takes_threads k) 0 8 1 s.threads a.threads) command one.threads) other.threads;
     }
 
--- words are one command line at most
-pub same_line_of_words : (words : List (List ℕ)) (a b : CommandLine) → IsCommandLine words a → IsCommandLine words b → IsSameLine a b
-same_line_of_words words a b one other = same_line (said other.parts) a b (subst (λ ps. IsLineOf (said ps) a) (same_reading one.reads other.reads) one.line_of) other.line_of
+-- arguments are one command line at most
+pub same_line_of_words : (args : List (List ℕ)) (a b : CommandLine) → IsCommandLine args a → IsCommandLine args b → IsSameLine a b
+same_line_of_words args a b one other = same_line (parsed other.parts) a b (subst (λ ps. IsLineOf (parsed ps) a) (same_reading one.reads other.reads) one.line_of) other.line_of

@@ -4,23 +4,23 @@ use Rattle.std.specs.List.{fold, list_all}
 use Rattle.clap.specs.Walk.{Row, Text, Walk, Waiting, idle, option, has_row, with_default, walked, finished, settled}
 use Rattle.clap.specs.Kinds.{Kinds, or_else}
 use Rattle.clap.specs.Faults.{turn_fault, defaults_fault, check_fault, walk_fault}
-use Rattle.command_line.specs.Part.{Part, Brief, Conflicts, Threads, Positional, begins_with_dash, is_dashed, IsAlone, BeginsWith, alone, conflicts_next, threads_next, brief, conflicts_joined, threads_joined, positional, ReadsAs, nothing, the_end, next}
+use Rattle.command_line.specs.Argument.{Argument, Brief, Conflicts, Threads, Positional, begins_with_dash, is_dashed, IsAlone, BeginsWith, alone, conflicts_next, threads_next, brief, conflicts_joined, threads_joined, positional, ReadsAs, nothing, the_end, next}
 use Rattle.command_line.specs.Known.{is_known}
 use Rattle.command_line.proofs.Known.{IsKnown, plain, the_dashes, the_flag, conflicts_apart, threads_apart, conflicts_with, threads_with, known_head, known_tail}
-use Rattle.command_line.specs.Said.{Said, IsLean, add}
+use Rattle.command_line.specs.ParsedArgs.{ParsedArgs, HasNoRepeats, add}
 use Rattle.command_line.proofs.Rows.{Rows, found, flag_row, value_row, rest_of, no_row}
 use Rattle.command_line.proofs.Rules.{rules, shape, brief_rule, conflicts_rule, threads_rule, command_rule, name_rule, tail_fault, whole_fault, no_fault, whole_next}
 use Rattle.command_line.proofs.Steps
 use Rattle.command_line.proofs.Steps.{Pending, held, walking, trailing, pending_fault, settled_by, plain_word_is}
 use Rattle.command_line.proofs.Adding.{free_to, brief_to, with_brief, with_conflicts, with_threads, with_command, with_name}
-use Rattle.command_line.proofs.Saying.{add_words, lean_before}
+use Rattle.command_line.proofs.ParseLemmas.{add_words, lean_before}
 use Rattle.command_line.proofs.Taking.{place}
 
--- nothing that is pending fails, and the rows hold what is said
-pub record Clean (rows : List Row) (pending : Pending) (p : ℕ) (s : Said) : Type 0 where
+-- nothing that is pending fails, and the rows hold what is parsed
+pub record Clean (rows : List Row) (pending : Pending) (p : ℕ) (s : ParsedArgs) : Type 0 where
   pub none : pending_fault rows pending ≡ []
   pub are : Rows (settled_by rows pending) s
-  pub at : p ≡ place s.words
+  pub at : p ≡ place s.positional
 
 -- ---- the end
 
@@ -44,10 +44,10 @@ defaults_pass rows =
 end_passes : (rows : List Row) (pending : Pending) → pending_fault rows pending ≡ [] → tail_fault (held rows pending) ≡ []
 end_passes rows pending none = no_fault _ _ none (no_fault _ _ (defaults_pass (settled_by rows pending)) refl)
 
--- ---- one word
+-- ---- one argument
 
 -- what may be said once more was not said
-no_brief : (s : Said) → IsLean (add s Brief) → s.briefs ≡ 0
+no_brief : (s : ParsedArgs) → HasNoRepeats (add s Brief) → s.briefs ≡ 0
 no_brief s lean = (let h = lean.briefs in omega arith)
 
 empty : (xs : List Text) (x : Text) → length (xs ++ x ∷ []) ≤ 1 → xs ≡ []
@@ -57,11 +57,11 @@ empty (y ∷ ys) x few = absurd (omega (arith, few, length-append ys (x ∷ []))
 word_passes : (w after : Walk) (word : Text) (rest : List Text) → walked rules [] w word ≡ after → turn_fault shape [] w word ≡ [] → whole_fault after rest ≡ [] → whole_fault w (word ∷ rest) ≡ []
 word_passes w after word rest is turn others = whole_next w after word rest is ∙ no_fault _ _ turn others
 
--- the words do not fail from any clean state from which they say nothing too often
-abbrev pub Passing : List Text → List Part → Type 0
-Passing words parts = (rows : List Row) (pending : Pending) (p : ℕ) (s : Said) → Clean rows pending p s → IsLean (fold add s parts) → whole_fault (walking rows pending idle p) words ≡ []
+-- the arguments do not fail from any clean state from which they say nothing too often
+abbrev pub Passing : List Text → List Argument → Type 0
+Passing args parts = (rows : List Row) (pending : Pending) (p : ℕ) (s : ParsedArgs) → Clean rows pending p s → HasNoRepeats (fold add s parts) → whole_fault (walking rows pending idle p) args ≡ []
 
-flag_passes : (rest : List Text) (parts : List Part) → Passing rest parts → Passing (codes "--brief" ∷ rest) (Brief ∷ parts)
+flag_passes : (rest : List Text) (parts : List Argument) → Passing rest parts → Passing (codes "--brief" ∷ rest) (Brief ∷ parts)
 flag_passes rest parts passing rows pending p s clean lean =
     let now = settled_by rows pending in
     let zero_said = no_brief s (lean_before (add s Brief) parts lean) in
@@ -70,7 +70,7 @@ flag_passes rest parts passing rows pending p s clean lean =
     let more : Clean _ None p (add s Brief) = record { none = refl; are = with_brief now s clean.are zero_said free; at = clean.at } in
     word_passes _ _ (codes "--brief") rest (Steps.brief_walk rows pending p) turn (passing _ None p (add s Brief) more lean)
 
-conflicts_pass : (v : Text) (rest : List Text) (parts : List Part) → Passing rest parts → Passing ((codes "--conflicts=" ++ v) ∷ rest) (Conflicts v ∷ parts)
+conflicts_pass : (v : Text) (rest : List Text) (parts : List Argument) → Passing rest parts → Passing ((codes "--conflicts=" ++ v) ∷ rest) (Conflicts v ∷ parts)
 conflicts_pass v rest parts passing rows pending p s clean lean =
     let now = settled_by rows pending in
     let none_said = empty s.conflicts v (lean_before (add s (Conflicts v)) parts lean).conflicts in
@@ -79,7 +79,7 @@ conflicts_pass v rest parts passing rows pending p s clean lean =
     let more : Clean _ None p (add s (Conflicts v)) = record { none = refl; are = with_conflicts now s v clean.are none_said free; at = clean.at } in
     word_passes _ _ (codes "--conflicts=" ++ v) rest (Steps.conflicts_walk rows pending p v) turn (passing _ None p (add s (Conflicts v)) more lean)
 
-threads_pass : (v : Text) (rest : List Text) (parts : List Part) → Passing rest parts → Passing ((codes "--threads=" ++ v) ∷ rest) (Threads v ∷ parts)
+threads_pass : (v : Text) (rest : List Text) (parts : List Argument) → Passing rest parts → Passing ((codes "--threads=" ++ v) ∷ rest) (Threads v ∷ parts)
 threads_pass v rest parts passing rows pending p s clean lean =
     let now = settled_by rows pending in
     let none_said = empty s.threads v (lean_before (add s (Threads v)) parts lean).threads in
@@ -88,7 +88,7 @@ threads_pass v rest parts passing rows pending p s clean lean =
     let more : Clean _ None p (add s (Threads v)) = record { none = refl; are = with_threads now s v clean.are none_said free; at = clean.at } in
     word_passes _ _ (codes "--threads=" ++ v) rest (Steps.threads_walk rows pending p v) turn (passing _ None p (add s (Threads v)) more lean)
 
-conflicts_apart_pass : (v : Text) → begins_with_dash v ≡ false → (rest : List Text) (parts : List Part) → Passing rest parts → Passing (codes "--conflicts" ∷ v ∷ rest) (Conflicts v ∷ parts)
+conflicts_apart_pass : (v : Text) → begins_with_dash v ≡ false → (rest : List Text) (parts : List Argument) → Passing rest parts → Passing (codes "--conflicts" ∷ v ∷ rest) (Conflicts v ∷ parts)
 conflicts_apart_pass v is rest parts passing rows pending p s clean lean =
     let now = settled_by rows pending in
     let none_said = empty s.conflicts v (lean_before (add s (Conflicts v)) parts lean).conflicts in
@@ -98,7 +98,7 @@ conflicts_apart_pass v is rest parts passing rows pending p s clean lean =
     let others = word_passes _ _ v rest (Steps.conflicts_value now p v plain) (Steps.value_turn now (codes "conflicts") p v plain) (passing now _ p (add s (Conflicts v)) more lean) in
     word_passes _ _ (codes "--conflicts") (v ∷ rest) (Steps.conflicts_waits rows pending p) (Steps.conflicts_waits_turn rows pending p ∙ no_fault _ _ clean.none refl) others
 
-threads_apart_pass : (v : Text) → begins_with_dash v ≡ false → (rest : List Text) (parts : List Part) → Passing rest parts → Passing (codes "--threads" ∷ v ∷ rest) (Threads v ∷ parts)
+threads_apart_pass : (v : Text) → begins_with_dash v ≡ false → (rest : List Text) (parts : List Argument) → Passing rest parts → Passing (codes "--threads" ∷ v ∷ rest) (Threads v ∷ parts)
 threads_apart_pass v is rest parts passing rows pending p s clean lean =
     let now = settled_by rows pending in
     let none_said = empty s.threads v (lean_before (add s (Threads v)) parts lean).threads in
@@ -108,23 +108,23 @@ threads_apart_pass v is rest parts passing rows pending p s clean lean =
     let others = word_passes _ _ v rest (Steps.threads_value now p v plain) (Steps.value_turn now (codes "threads") p v plain) (passing now _ p (add s (Threads v)) more lean) in
     word_passes _ _ (codes "--threads") (v ∷ rest) (Steps.threads_waits rows pending p) (Steps.threads_waits_turn rows pending p ∙ no_fault _ _ clean.none refl) others
 
--- ---- a positional word
+-- ---- a positional argument
 
-command_clean : (rows : List Row) (s : Said) (word : Text) → Rows rows s → s.words ≡ [] → Clean rows (Some (codes "command", word ∷ [])) 2 (add s (Positional word))
+command_clean : (rows : List Row) (s : ParsedArgs) (word : Text) → Rows rows s → s.positional ≡ [] → Clean rows (Some (codes "command", word ∷ [])) 2 (add s (Positional word))
 command_clean rows s word are none =
     let free = no_row (codes "command") rows (are.command ∙ ap (value_row (codes "command")) none) in
     record { none = free_to command_rule word rows free; are = with_command rows s word are none free; at = sym (ap (λ ws. place (ws ++ word ∷ [])) none) }
 
-name_clean : (rows : List Row) (s : Said) (first word : Text) → Rows rows s → s.words ≡ first ∷ [] → Clean rows (Some (codes "name", word ∷ [])) 3 (add s (Positional word))
+name_clean : (rows : List Row) (s : ParsedArgs) (first word : Text) → Rows rows s → s.positional ≡ first ∷ [] → Clean rows (Some (codes "name", word ∷ [])) 3 (add s (Positional word))
 name_clean rows s first word are one =
     let free = no_row (codes "name") rows (are.name ∙ ap (λ ws. value_row (codes "name") (rest_of ws)) one) in
     record { none = free_to name_rule word rows free; are = with_name rows s first word are one free; at = sym (ap (λ ws. place (ws ++ word ∷ [])) one) }
 
-too_many : (s : Said) (x y : Text) (xs : List Text) (word : Text) → s.words ≡ x ∷ y ∷ xs → IsLean (add s (Positional word)) → ⊥
-too_many s x y xs word e lean = (let few = lean.words in let size = ap length e in omega (arith, few, size, length-append s.words (word ∷ [])))
+too_many : (s : ParsedArgs) (x y : Text) (xs : List Text) (word : Text) → s.positional ≡ x ∷ y ∷ xs → HasNoRepeats (add s (Positional word)) → ⊥
+too_many s x y xs word e lean = (let few = lean.positional in let size = ap length e in omega (arith, few, size, length-append s.positional (word ∷ [])))
 
-plain_passes : (word : Text) → begins_with_dash word ≡ false → (rest : List Text) (parts : List Part) → Passing rest parts → (rows : List Row) (pending : Pending) (s : Said) (ws : List Text) → s.words ≡ ws → pending_fault rows pending ≡ [] → Rows (settled_by rows pending) s
-    → IsLean (fold add (add s (Positional word)) parts) → whole_fault (walking rows pending idle (place ws)) (word ∷ rest) ≡ []
+plain_passes : (word : Text) → begins_with_dash word ≡ false → (rest : List Text) (parts : List Argument) → Passing rest parts → (rows : List Row) (pending : Pending) (s : ParsedArgs) (ws : List Text) → s.positional ≡ ws → pending_fault rows pending ≡ [] → Rows (settled_by rows pending) s
+    → HasNoRepeats (fold add (add s (Positional word)) parts) → whole_fault (walking rows pending idle (place ws)) (word ∷ rest) ≡ []
 plain_passes word is rest parts passing rows pending s [] e none are lean =
     let plain = plain_word_is word is in
     word_passes _ _ word rest (Steps.plain_walk rows pending 1 word plain ∙ Steps.command_held rows pending idle word) (Steps.plain_turn rows pending 1 word plain ∙ Steps.command_step rows pending ∙ none)
@@ -135,7 +135,7 @@ plain_passes word is rest parts passing rows pending s (x ∷ []) e none are lea
     (passing _ _ 3 (add s (Positional word)) (name_clean (settled_by rows pending) s x word are e) lean)
 plain_passes word is rest parts passing rows pending s (x ∷ y ∷ xs) e none are lean = absurd (too_many s x y xs word e (lean_before (add s (Positional word)) parts lean))
 
-behind_passes : (words : List Text) (rows : List Row) (pending : Pending) (s : Said) (ws : List Text) → s.words ≡ ws → pending_fault rows pending ≡ [] → Rows (settled_by rows pending) s → IsLean (add_words s words) → whole_fault (trailing rows pending idle (place ws)) words ≡ []
+behind_passes : (args : List Text) (rows : List Row) (pending : Pending) (s : ParsedArgs) (ws : List Text) → s.positional ≡ ws → pending_fault rows pending ≡ [] → Rows (settled_by rows pending) s → HasNoRepeats (add_words s args) → whole_fault (trailing rows pending idle (place ws)) args ≡ []
 unfolding walk_fault
 behind_passes [] rows pending s ws e none are lean = end_passes rows pending none
 behind_passes (word ∷ rest) rows pending s [] e none are lean =
@@ -148,12 +148,12 @@ behind_passes (word ∷ rest) rows pending s (x ∷ []) e none are lean =
     (behind_passes rest (settled_by rows pending) _ (add s (Positional word)) (x ∷ word ∷ []) (ap (λ ws. ws ++ word ∷ []) e) more.none more.are lean)
 behind_passes (word ∷ rest) rows pending s (x ∷ y ∷ xs) e none are lean = absurd (too_many s x y xs word e (lean_words (add s (Positional word)) rest lean))
   where
-    lean_words : (t : Said) (others : List Text) → IsLean (add_words t others) → IsLean t
+    lean_words : (t : ParsedArgs) (others : List Text) → HasNoRepeats (add_words t others) → HasNoRepeats t
     lean_words t others l = lean_before t (map Positional others) l
 
--- ---- all words
+-- ---- all arguments
 
--- a word that may stand there and is no option does not begin with `-`
+-- a argument that may stand there and is no option does not begin with `-`
 no_dash : {word : Text} → IsKnown word → is_dashed word ≡ false → begins_with_dash word ≡ false
 no_dash (plain word is) other = is
 no_dash the_dashes other = absurd (let bad : true ≡ false = other in cc)
@@ -163,22 +163,22 @@ no_dash threads_apart other = absurd (let bad : true ≡ false = other in cc)
 no_dash (conflicts_with v) other = absurd (let bad : true ≡ false = other in cc)
 no_dash (threads_with v) other = absurd (let bad : true ≡ false = other in cc)
 
-alone_passes : {word : Text} {part : Part} → IsAlone word part → IsKnown word → (rest : List Text) (parts : List Part) → Passing rest parts → Passing (word ∷ rest) (part ∷ parts)
+alone_passes : {word : Text} {part : Argument} → IsAlone word part → IsKnown word → (rest : List Text) (parts : List Argument) → Passing rest parts → Passing (word ∷ rest) (part ∷ parts)
 alone_passes brief known rest parts passing = flag_passes rest parts passing
 alone_passes (conflicts_joined v) known rest parts passing = conflicts_pass v rest parts passing
 alone_passes (threads_joined v) known rest parts passing = threads_pass v rest parts passing
 alone_passes (positional word other) known rest parts passing = λ rows pending p s clean lean.
-    subst (λ q. whole_fault (walking rows pending idle q) (word ∷ rest) ≡ []) (sym clean.at) (plain_passes word (no_dash known other) rest parts passing rows pending s s.words refl clean.none clean.are lean)
+    subst (λ q. whole_fault (walking rows pending idle q) (word ∷ rest) ≡ []) (sym clean.at) (plain_passes word (no_dash known other) rest parts passing rows pending s s.positional refl clean.none clean.are lean)
 
-part_passes : {words : List Text} {part : Part} {left : List Text} → BeginsWith words part left → list_all is_known words ≡ true → (parts : List Part) → (list_all is_known left ≡ true → Passing left parts) → Passing words (part ∷ parts)
+part_passes : {args : List Text} {part : Argument} {left : List Text} → BeginsWith args part left → list_all is_known args ≡ true → (parts : List Argument) → (list_all is_known left ≡ true → Passing left parts) → Passing args (part ∷ parts)
 part_passes (alone word part rest is) known parts passing = alone_passes is (known_head word rest known) rest parts (passing (known_tail word rest known))
 part_passes (conflicts_next v rest is) known parts passing = conflicts_apart_pass v is rest parts (passing (known_tail v rest (known_tail (codes "--conflicts") (v ∷ rest) known)))
 part_passes (threads_next v rest is) known parts passing = threads_apart_pass v is rest parts (passing (known_tail v rest (known_tail (codes "--threads") (v ∷ rest) known)))
 
-pub words_pass : {words : List Text} {parts : List Part} → ReadsAs words parts → list_all is_known words ≡ true → Passing words parts
+pub words_pass : {args : List Text} {parts : List Argument} → ReadsAs args parts → list_all is_known args ≡ true → Passing args parts
 unfolding walk_fault
 words_pass nothing known = λ rows pending p s clean lean. end_passes rows pending clean.none
 words_pass (the_end rest) known = λ rows pending p s clean lean.
-    let others = subst (λ q. whole_fault (trailing rows pending idle q) rest ≡ []) (sym clean.at) (behind_passes rest rows pending s s.words refl clean.none clean.are lean) in
+    let others = subst (λ q. whole_fault (trailing rows pending idle q) rest ≡ []) (sym clean.at) (behind_passes rest rows pending s s.positional refl clean.none clean.are lean) in
     word_passes _ _ (codes "--") rest (Steps.end_walk rows pending p idle) (Steps.end_turn rows pending p idle) others
-words_pass (next words part rest parts begins reads) known = part_passes begins known parts (λ k. words_pass reads k)
+words_pass (next args part rest parts begins reads) known = part_passes begins known parts (λ k. words_pass reads k)

@@ -6,9 +6,9 @@ use Rattle.std.proofs.lemmas.Bool.{cases_Bool}
 use Rattle.clap.specs.Walk.{Row, Text, has_row, with_values, without}
 use Rattle.clap.specs.declared.builder.value_parser.Reading.TheVariants.{AsWritten}
 use Rattle.clap.specs.declared.parser.matches.ValueSource.TheVariants.{CommandLine, DefaultValue}
-use Rattle.command_line.specs.Said.{Said, IsLean}
+use Rattle.command_line.specs.ParsedArgs.{ParsedArgs, HasNoRepeats}
 
--- the row of an id with one value from the words
+-- the row of an id with one value from the arguments
 abbrev pub row : Text → Text → Row
 row id value = record { id = id; values = value ∷ []; count = None; source = Some CommandLine; reading = AsWritten }
 
@@ -29,14 +29,14 @@ abbrev pub rest_of : List Text → List Text
 rest_of [] = []
 rest_of (x ∷ xs) = xs
 
--- the rows hold what is said
-pub record Rows (rows : List Row) (s : Said) : Type 0 where
+-- the rows hold what is parsed
+pub record Rows (rows : List Row) (s : ParsedArgs) : Type 0 where
   pub brief : found (codes "brief") rows ≡ flag_row s.briefs
   pub conflicts : found (codes "conflicts") rows ≡ value_row (codes "conflicts") s.conflicts
   pub threads : found (codes "threads") rows ≡ value_row (codes "threads") s.threads
-  pub command : found (codes "command") rows ≡ value_row (codes "command") s.words
-  pub name : found (codes "name") rows ≡ value_row (codes "name") (rest_of s.words)
-  pub lean : IsLean s
+  pub command : found (codes "command") rows ≡ value_row (codes "command") s.positional
+  pub name : found (codes "name") rows ≡ value_row (codes "name") (rest_of s.positional)
+  pub lean : HasNoRepeats s
 
 -- a row is there, or it is not
 pub no_row : (id : Text) (rows : List Row) → found id rows ≡ None → has_row id rows ≡ false
@@ -53,7 +53,7 @@ none_found id (r ∷ rows) none = elim (cases_Bool (bytes_eq r.id id)) [
   | inr miss ↦ rw miss (none_found id rows (rw miss at none))
 ]
 
--- a new row stands behind the others
+-- a new row stands after the others
 pub new_row : (id value : Text) (rows : List Row) → has_row id rows ≡ false → with_values id AsWritten CommandLine (value ∷ []) (without id rows) ≡ rows ++ row id value ∷ []
 new_row id value [] none = refl
 new_row id value (r ∷ rows) none = elim (cases_Bool (bytes_eq r.id id)) [

@@ -1,4 +1,4 @@
--- The command that `clap` builds, and how a walk over words begins and ends.
+-- The command that `clap` builds, and how a walk over arguments begins and ends.
 use Rattle.std.proofs.Common.{◌≡◌, ◌≤◌, ◌+◌, ◌++◌, ◌&&◌, ℕ, Bool, true, false, List, [], ◌∷◌, Option, Some, None, refl, sym, ap, subst, ◌∙◌, codes}
 use Rattle.std.specs.List.{fold}
 use Rattle.std.specs.Option.{option_map_or}
@@ -10,20 +10,20 @@ use Rattle.clap.specs.Kinds.{Kinds, or_else}
 use Rattle.clap.specs.Faults.{fault_of, entered_fault, level_fault, settle_fault, defaults_fault, check_fault, walk_fault, turn_fault, is_simple_and_free}
 use Rattle.clap.specs.declared.builder.action.ArgAction.TheVariants.{Set, SetTrue}
 use Rattle.clap.specs.declared.builder.value_parser.ValueParser.TheVariants as vp
-use Rattle.command_line.specs.Clap.{told, brief_told, conflicts_told, threads_told}
+use Rattle.command_line.specs.Clap.{cli_app, brief_arg, conflicts_arg, threads_arg}
 
 -- the arguments with what `clap` fills in
 abbrev pub with_one : Rule → Rule
 with_one a = record a { action = Some Set; range = Some (record { start_inclusive = 1; end_inclusive = 1 }); parser = Some vp.String }
 
 abbrev pub brief_rule : Rule
-brief_rule = record brief_told { range = Some (record { start_inclusive = 0; end_inclusive = 0 }); defaults = codes "false" ∷ []; missing = codes "true" ∷ []; parser = Some vp.Bool }
+brief_rule = record brief_arg { range = Some (record { start_inclusive = 0; end_inclusive = 0 }); defaults = codes "false" ∷ []; missing = codes "true" ∷ []; parser = Some vp.Bool }
 
 abbrev pub conflicts_rule : Rule
-conflicts_rule = with_one conflicts_told
+conflicts_rule = with_one conflicts_arg
 
 abbrev pub threads_rule : Rule
-threads_rule = with_one threads_told
+threads_rule = with_one threads_arg
 
 abbrev pub command_rule : Rule
 command_rule = record (with_one (new_rule (codes "command"))) { index = Some 1 }
@@ -40,14 +40,14 @@ shape = record (new_shape (codes "bspl")) { rules = rules; no_binary_name = true
 abbrev app : App
 app = record { top = shape; subs = [] }
 
-pub built_is : built told ≡ app
+pub built_is : built cli_app ≡ app
 built_is = refl
 
-pub told_is_simple : is_simple told ≡ true
-told_is_simple = refl
+pub app_is_simple : is_simple cli_app ≡ true
+app_is_simple = refl
 
-pub told_is_free : is_simple_and_free told ≡ true
-told_is_free = refl
+pub app_is_free : is_simple_and_free cli_app ≡ true
+app_is_free = refl
 
 -- ---- the fault of a walk
 
@@ -57,7 +57,7 @@ tail_fault end = or_else (settle_fault rules false end) (or_else (defaults_fault
 
 -- what fails from here on
 abbrev pub whole_fault : Walk → List Text → Kinds
-whole_fault w words = or_else (walk_fault shape [] w words) (tail_fault (fold (walked rules []) w words).held)
+whole_fault w args = or_else (walk_fault shape [] w args) (tail_fault (fold (walked rules []) w args).held)
 
 no_entry : {X Y : Type 0} (o : Option X) → option_and_then (λ (x : X). let none : Option Y = None in none) o ≡ None
 no_entry None = refl
@@ -67,9 +67,9 @@ no_entry_fault : {X : Type 0} (o : Option X) → option_map_or (λ (x : X). let 
 no_entry_fault None = refl
 no_entry_fault (Some x) = refl
 
-pub fault_is : (words : List Text) → fault_of told words ≡ whole_fault (walk_from nothing_held) words
-fault_is words =
-    let stop = (walk rules [] nothing_held words).stopped in
+pub fault_is : (args : List Text) → fault_of cli_app args ≡ whole_fault (walk_from nothing_held) args
+fault_is args =
+    let stop = (walk rules [] nothing_held args).stopped in
     let inside : entered_fault app stop ≡ [] = no_entry_fault stop in
     let alone : is_some (entered app stop) ≡ false = ap is_some (no_entry stop) in
     rw (inside, alone) refl
@@ -86,7 +86,7 @@ either_way : (a b c : Kinds) → or_else (or_else a b) c ≡ or_else a (or_else 
 either_way [] b c = refl
 either_way (k ∷ ks) b c = refl
 
--- one word, and the others
+-- one argument, and the others
 pub whole_next : (w after : Walk) (word : Text) (rest : List Text) → walked rules [] w word ≡ after → whole_fault w (word ∷ rest) ≡ or_else (turn_fault shape [] w word) (whole_fault after rest)
 unfolding walk_fault
 whole_next w after word rest is =

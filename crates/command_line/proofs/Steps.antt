@@ -1,21 +1,21 @@
--- What one word does to a walk.
+-- What one argument does to a walk.
 use Rattle.std.proofs.Common.{◌≡◌, ◌≢◌, ◌≤◌, ◌+◌, ◌++◌, ◌&&◌, ℕ, Bool, true, false, cond, eqb, List, [], ◌∷◌, length, Option, Some, None, refl, sym, ap, subst, ◌∙◌, codes}
 use Rattle.std.specs.Str.{bytes_eq}
 use Rattle.clap.specs.Lexer.{long_of, short_of}
 use Rattle.clap.specs.Walk.{Held, Row, Rule, Text, Walk, Waiting, idle, option, positional, Step, value, settled_rows, walked, word_met, plain_word, after_step, used}
 use Rattle.clap.specs.Kinds.{Kinds, or_else}
 use Rattle.clap.specs.Faults.{settle_fault, use_fault, react_fault, turn_fault, word_fault, step_fault, stray_fault}
-use Rattle.command_line.specs.Part.{begins_with_dash}
+use Rattle.command_line.specs.Argument.{begins_with_dash}
 use Rattle.command_line.proofs.Rules.{rules, shape, brief_rule, conflicts_rule, threads_rule, command_rule, name_rule}
 
--- what is held between two words
+-- what is held between two arguments
 abbrev pub Pending : Type 0
 Pending = Option (Text × List Text)
 
 abbrev pub held : List Row → Pending → Held
 held rows pending = record { rows = rows; pending = pending; skip = 0 }
 
--- a walk before `--`, and one behind it
+-- a walk before `--`, and one after it
 abbrev pub walking : List Row → Pending → Waiting → ℕ → Walk
 walking rows pending waiting p = record { held = held rows pending; waiting = waiting; position = p; is_trailing = false; stopped = None }
 
@@ -79,9 +79,9 @@ module _ (rows : List Row) (pending : Pending) (p : ℕ) where
   end_turn (option id) = refl
   end_turn positional = refl
 
--- ---- words that do not begin with `-`
+-- ---- arguments that do not begin with `-`
 
--- such a word is no flag
+-- such a argument is no flag
 pub record IsPlain (word : Text) : Type 0 where
   pub no_end : bytes_eq word (45 ∷ 45 ∷ []) ≡ false
   pub no_long : long_of word ≡ None
@@ -116,7 +116,7 @@ never : (b : Bool) → (b && false) ≡ false
 never true = refl
 never false = refl
 
--- a walk before `--` at a word that goes to a positional is as one behind it
+-- a walk before `--` at a argument that goes to a positional is as one after it
 pub plain_walk : (rows : List Row) (pending : Pending) (p : ℕ) (word : Text) → IsPlain word → walked rules [] (walking rows pending idle p) word ≡ after_step rules word (walking rows pending idle p) (held rows pending) value
 unfolding walked
 plain_walk rows pending p word plain = ap (λ met. after_step rules word (walking rows pending idle p) met.0 met.1) (plain_met rows pending p word plain)
@@ -133,7 +133,7 @@ trailing_walk rows pending waiting p word = refl
 pub trailing_turn : (rows : List Row) (pending : Pending) (waiting : Waiting) (p : ℕ) (word : Text) → turn_fault shape [] (trailing rows pending waiting p) word ≡ step_fault shape p (held rows pending) value
 trailing_turn rows pending waiting p word = refl
 
--- the first positional word is the command, the second the name, and there is no third
+-- the first positional argument is the command, the second the name, and there is no third
 pub command_step : (rows : List Row) (pending : Pending) → step_fault shape 1 (held rows pending) value ≡ pending_fault rows pending
 command_step rows pending = rw never refl
 

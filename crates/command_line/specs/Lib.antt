@@ -1,8 +1,8 @@
 pub mod Clap
 pub mod Command
-pub mod Given
+pub mod RawArgs
 pub mod Known
 pub mod Line
 pub mod Number
-pub mod Part
-pub mod Said
+pub mod Argument
+pub mod ParsedArgs

@@ -1,58 +1,48 @@
--- Which words are a command line, and what it asks for.
+-- Which arguments are a command line, and what it asks for.
 use Rattle.std.specs.Prelude.{◌≡◌, ◌≤◌, ℕ, Bool, true, false, List, [], ◌∷◌, zero, suc, IsTrue, map}
 use Rattle.bspl_types.specs.Name.{is_name}
-use Rattle.command_line.specs.declared.command.Command.{Command}
-use Rattle.command_line.specs.declared.command.Command.TheVariants.{Verify, Check, Replay, Expand, Run, Generate}
 use Rattle.command_line.specs.declared.line.CommandLine.{CommandLine}
 use Rattle.command_line.specs.declared.line.Subject.{Subject}
 use Rattle.command_line.specs.declared.line.Subject.TheVariants.{Protocol, Size}
-use Rattle.command_line.specs.Command.{command_word, takes_brief, takes_conflicts, takes_threads}
+use Rattle.command_line.specs.Command.{command_word, takes_brief, takes_conflicts, takes_size, takes_threads}
 use Rattle.command_line.specs.Number.{IsNumberIn}
-use Rattle.command_line.specs.Part.{Part, ReadsAs}
-use Rattle.command_line.specs.Said.{Said, said}
+use Rattle.command_line.specs.Argument.{Argument, ReadsAs}
+use Rattle.command_line.specs.ParsedArgs.{ParsedArgs, parsed}
 
--- it is `generate`
-abbrev pub is_generate : Command → Bool
-is_generate Verify = false
-is_generate Check = false
-is_generate Replay = false
-is_generate Expand = false
-is_generate Run = false
-is_generate Generate = true
-
--- the second word is a number from 1 to 16 for `generate`, and a name for the others
+-- the second argument is a number from 1 to 16 for a command that takes one, and else a name
 abbrev pub IsSubject : Bool → List ℕ → Subject → Type 0
 IsSubject true word (Size n) = IsNumberIn 1 16 word n
 IsSubject true word (Protocol name) = ⊥
 IsSubject false word (Size n) = ⊥
 IsSubject false word (Protocol name) = (name.now ≡ word) × IsTrue (is_name word)
 
--- how often a flag stands: not at all, or once where it belongs to the command
+-- how often a flag is given: not at all, or once if it belongs to the command
 abbrev pub IsFlag : Bool → ℕ → Bool → Type 0
 IsFlag belongs zero on = on ≡ false
 IsFlag belongs (suc zero) on = (on ≡ true) × IsTrue belongs
 IsFlag belongs (suc (suc n)) on = ⊥
 
--- an option's values: none, and it has its default; or one that is a number in the range, where it belongs to the command
+-- an option's values: none, and it has its default; or a number in the range, if it belongs to the
+-- command
 abbrev pub IsChosen : Bool → ℕ → ℕ → ℕ → List (List ℕ) → ℕ → Type 0
 IsChosen belongs least most default [] n = n ≡ default
 IsChosen belongs least most default (value ∷ []) n = IsNumberIn least most value n × IsTrue belongs
 IsChosen belongs least most default (value ∷ other ∷ values) n = ⊥
 
--- what is said is this command line
-pub record IsLineOf (s : Said) (line : CommandLine) : Type 0 where
+-- what is parsed is this command line
+pub record IsLineOf (s : ParsedArgs) (line : CommandLine) : Type 0 where
   pub word : List ℕ
-  pub words : s.words ≡ command_word line.command ∷ word ∷ []
-  pub subject : IsSubject (is_generate line.command) word line.subject
+  pub positional : s.positional ≡ command_word line.command ∷ word ∷ []
+  pub subject : IsSubject (takes_size line.command) word line.subject
   pub brief : IsFlag (takes_brief line.command) s.briefs line.brief
   pub conflicts : IsChosen (takes_conflicts line.command) 1 20000 10000 s.conflicts line.conflicts
   pub threads : IsChosen (takes_threads line.command) 0 8 1 s.threads line.threads
 
--- the words are this command line
-pub record IsCommandLine (words : List (List ℕ)) (line : CommandLine) : Type 0 where
-  pub parts : List Part
-  pub reads : ReadsAs words parts
-  pub line_of : IsLineOf (said parts) line
+-- the arguments are this command line
+pub record IsCommandLine (args : List (List ℕ)) (line : CommandLine) : Type 0 where
+  pub parts : List Argument
+  pub reads : ReadsAs args parts
+  pub line_of : IsLineOf (parsed parts) line
 
 -- the same name, or the same size
 abbrev pub IsSameSubject : Subject → Subject → Type 0
@@ -68,3 +58,9 @@ pub record IsSameLine (one other : CommandLine) : Type 0 where
   pub brief : one.brief ≡ other.brief
   pub conflicts : one.conflicts ≡ other.conflicts
   pub threads : one.threads ≡ other.threads
+
+-- arguments are one command line at most
+abbrev pub OneLine : Type 0
+OneLine = (args : List (List ℕ)) (one other : CommandLine) → IsCommandLine args one
+    → IsCommandLine args other
+    → IsSameLine one other

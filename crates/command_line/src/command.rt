@@ -1,8 +1,8 @@
 ghost use Rattle.std.specs.Prelude.{◌≡◌, ◌≢◌, MatchOption};
 ghost use Rattle.command_line.specs.declared.command.Command.{Command as Kind};
-ghost use Rattle.command_line.specs.Command.{command_word, takes_brief, takes_conflicts, takes_threads};
+ghost use Rattle.command_line.specs.Command.{command_word, takes_brief, takes_conflicts, takes_size, takes_threads};
 
-/// What the program is asked to do.
+/// What the program does.
 #[derive(Clone, Copy, Debug, PartialEq, Eq)]
 pub enum Command {
     Verify,
@@ -13,30 +13,59 @@ pub enum Command {
     Generate,
 }
 
+/// What belongs to a command.
+#[derive(Clone, Copy, Debug)]
+pub struct CommandRow {
+    /// `--brief`.
+    pub brief: bool,
+    /// `--conflicts`.
+    pub conflicts: bool,
+    /// `--threads`.
+    pub threads: bool,
+    /// A number in place of a name.
+    pub sized: bool,
+}
+
+/// No option, and a name.
+const PLAIN: CommandRow = CommandRow {
+    brief: false,
+    conflicts: false,
+    threads: false,
+    sized: false,
+};
+
 impl Command {
-    /// Whether `--brief` belongs to it.
-    pub fn takes_brief(self) -> bool
-        ensures { result ≡ takes_brief self }
+    /// What belongs to it.
+    pub fn row(self) -> CommandRow
+        ensures brief { result.brief ≡ takes_brief self }
+        ensures conflicts { result.conflicts ≡ takes_conflicts self }
+        ensures threads { result.threads ≡ takes_threads self }
+        ensures sized { result.sized ≡ takes_size self }
     {
-        matches!(self, Command::Verify | Command::Run)
-    }
-
-    /// Whether `--conflicts` belongs to it.
-    pub fn takes_conflicts(self) -> bool
-        ensures { result ≡ takes_conflicts self }
-    {
-        matches!(self, Command::Verify | Command::Run | Command::Generate)
-    }
-
-    /// Whether `--threads` belongs to it.
-    pub fn takes_threads(self) -> bool
-        ensures { result ≡ takes_threads self }
-    {
-        matches!(self, Command::Run | Command::Generate)
+        match self {
+            Command::Verify => CommandRow {
+                brief: true,
+                conflicts: true,
+                ..PLAIN
+            },
+            Command::Check | Command::Replay | Command::Expand => PLAIN,
+            Command::Run => CommandRow {
+                brief: true,
+                conflicts: true,
+                threads: true,
+                ..PLAIN
+            },
+            Command::Generate => CommandRow {
+                conflicts: true,
+                threads: true,
+                sized: true,
+                ..PLAIN
+            },
+        }
     }
 }
 
-/// The command that the word is.
+/// The command that the argument names.
 pub fn command_of(word: &[u8]) -> Option<Command>
     ensures { MatchOption result ((command : Kind) → command_word command ≢ word.now)
         (λ command. command_word command ≡ word.now) }

@@ -1,18 +1,14 @@
-//! Which words are a command line, and what it asks for.
+//! Which arguments are a command line, and what it asks for.
 #![tactic(auto)]
 
+mod clap_args;
+mod clap_matches;
 mod command;
-mod given;
-mod judging;
 mod laws;
 mod line;
 mod number;
-#[cfg(test)]
-mod option_tests;
-mod reading;
-mod telling;
-#[cfg(test)]
-mod tests;
+mod raw_args;
+mod validation;
 
 pub use command::Command;
 pub use laws::one_line;

@@ -2,9 +2,9 @@ ghost use Rattle.std.specs.Prelude.{IfOk, map, string_bytes, MatchOption};
 ghost use Rattle.command_line.specs.declared.line.CommandLine.{CommandLine as Line};
 ghost use Rattle.command_line.specs.Line.{IsCommandLine};
 
+use super::clap_matches::{are_known, raw_args_of};
 use super::command::Command;
-use super::judging::line_of;
-use super::reading::{are_known, given_of};
+use super::validation::line_of;
 use bspl_types::NoMemory;
 use std::alloc::Global;
 
@@ -27,19 +27,19 @@ pub struct CommandLine<'a> {
     pub threads: u32,
 }
 
-/// The command line that the words are, if they are one.
+/// The command line that the arguments are, if they are one.
 pub fn command_line<'a>(
     alloc: Global,
-    words: &'a [String],
+    args: &'a [String],
 ) -> Result<Option<CommandLine<'a>>, NoMemory>
     ensures { IfOk result (λ found. MatchOption found
-        ((line : Line) → ¬ IsCommandLine (map string_bytes words.now) line)
-        (IsCommandLine (map string_bytes words.now))) }
+        ((line : Line) → ¬ IsCommandLine (map string_bytes args.now) line)
+        (IsCommandLine (map string_bytes args.now))) }
 {
-    if !are_known(words) {
+    if !are_known(args) {
         return Ok(None);
     }
-    match given_of(alloc, words)? {
+    match raw_args_of(alloc, args)? {
         Some(given) => Ok(line_of(given)),
         None => Ok(None),
     }

@@ -1,6 +1,6 @@
-/// What the words say, each option once at most, and two positional words at most.
+/// What the arguments set: each option once at most, and two positional arguments at most.
 #[derive(Clone, Copy, Debug)]
-pub struct Given<'a> {
+pub struct RawArgs<'a> {
     pub brief: bool,
     pub conflicts: Option<&'a str>,
     pub threads: Option<&'a str>,

@@ -1,29 +1,32 @@
 ghost use Rattle.std.specs.Prelude.{◌≡◌, IfOk, IsTrue, MatchOption, map, string_bytes};
 ghost use Rattle.std.specs.List.{list_all, list_any};
 ghost use Rattle.std.specs.Str.{bytes_eq};
-ghost use Rattle.command_line.specs.Given.{said_of};
+ghost use Rattle.command_line.specs.RawArgs.{parsed_of};
 ghost use Rattle.command_line.specs.Known.{options, is_known};
-ghost use Rattle.command_line.specs.Part.{begins_with_dash};
-ghost use Rattle.command_line.specs.Said.{IsLean, Said, Says, nothing_said};
+ghost use Rattle.command_line.specs.Argument.{begins_with_dash};
+ghost use Rattle.command_line.specs.ParsedArgs.{HasNoRepeats, ParsedArgs, ParsesTo, nothing_parsed};
 
-use super::given::Given;
-use super::telling::tell;
+use super::clap_args::clap_command;
+use super::raw_args::RawArgs;
 use bspl_types::NoMemory;
 use clap::error::ErrorKind;
 use std::alloc::Global;
 
+/// Whether it begins with `-`.
 fn begins_with_dash(word: &[u8]) -> bool
     ensures { result ≡ begins_with_dash word.now }
 {
     matches!(word, [b'-', ..])
 }
 
+/// Whether it is that text.
 fn is_text(word: &[u8], text: &[u8]) -> bool
     ensures { result ≡ bytes_eq word.now text.now }
 {
     word == text
 }
 
+/// Whether it is an option, or `--`.
 fn is_option(word: &[u8]) -> bool
     ensures { result ≡ list_any (bytes_eq word.now) options }
 {
@@ -33,7 +36,7 @@ fn is_option(word: &[u8]) -> bool
         || is_text(word, b"--threads")
 }
 
-/// Whether a command line may have the word.
+/// Whether a command line may have the argument.
 fn is_known(word: &[u8]) -> bool
     ensures { result ≡ is_known word.now }
 {
@@ -43,22 +46,22 @@ fn is_known(word: &[u8]) -> bool
         || word.starts_with(b"--threads=")
 }
 
-/// Whether a command line may have these words. `clap` takes more of them, as `-` for a value.
-pub fn are_known(words: &[String]) -> bool
-    ensures { result ≡ list_all (λ word. is_known (string_bytes word)) words.now }
+/// Whether a command line may have these arguments. `clap` takes more of them, as `-` for a value.
+pub fn are_known(args: &[String]) -> bool
+    ensures { result ≡ list_all (λ word. is_known (string_bytes word)) args.now }
 {
-    words.iter().all(|word| is_known(word.as_bytes()))
+    args.iter().all(|word| is_known(word.as_bytes()))
 }
 
-/// What the words say, if no part of it stands too often.
-pub fn given_of<'a>(alloc: Global, words: &'a [String]) -> Result<Option<Given<'a>>, NoMemory>
-    requires { IsTrue (list_all (λ word. is_known (string_bytes word)) words.now) }
+/// What the arguments set, if none is given too often.
+pub fn raw_args_of<'a>(alloc: Global, args: &'a [String]) -> Result<Option<RawArgs<'a>>, NoMemory>
+    requires { IsTrue (list_all (λ word. is_known (string_bytes word)) args.now) }
     ensures { IfOk result (λ found. MatchOption found
-        ((s : Said) → Says (map string_bytes words.now) nothing_said s → ¬ IsLean s)
-        (λ given. Says (map string_bytes words.now) nothing_said (said_of given))) }
+        ((s : ParsedArgs) → ParsesTo (map string_bytes args.now) nothing_parsed s → ¬ HasNoRepeats s)
+        (λ given. ParsesTo (map string_bytes args.now) nothing_parsed (parsed_of given))) }
 {
-    let command = tell(alloc)?;
-    let matches = match command.try_get_matches_from(words) {
+    let command = clap_command(alloc)?;
+    let matches = match command.try_get_matches_from(args) {
         Ok(matches) => matches,
         Err(error) => {
             return match error.kind() {
@@ -67,7 +70,7 @@ pub fn given_of<'a>(alloc: Global, words: &'a [String]) -> Result<Option<Given<'
             };
         }
     };
-    Ok(Some(Given {
+    Ok(Some(RawArgs {
         brief: matches.get_flag("brief"),
         conflicts: matches.get_str("conflicts"),
         threads: matches.get_str("threads"),

@@ -1,14 +1,14 @@
 ghost use Rattle.std.specs.Prelude.{◌≡◌, IfOk};
 ghost use Rattle.clap.specs.Words.{app_of};
-ghost use Rattle.command_line.specs.Clap.{told};
+ghost use Rattle.command_line.specs.Clap.{cli_app};
 
 use clap::{Arg, ArgAction, Command};
 use std::alloc::{AllocError, Global};
 
-/// The options and the positional words, as `clap` is told of them. What their values may be is
+/// The options and the positional arguments, as `clap` is cli_app of them. What their values may be is
 /// judged later.
-pub fn tell<'a>(alloc: Global) -> Result<Command<'a>, AllocError>
-    ensures { IfOk result (λ command. app_of command ≡ told) }
+pub fn clap_command<'a>(alloc: Global) -> Result<Command<'a>, AllocError>
+    ensures { IfOk result (λ command. app_of command ≡ cli_app) }
 {
     let brief = Arg::new(alloc, "brief")
         .long("brief")

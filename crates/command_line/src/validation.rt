@@ -2,16 +2,16 @@ ghost use Rattle.std.specs.Prelude.{◌≡◌, ℕ, MatchOption};
 ghost use Rattle.std.specs.Option.{option_copied, option_to_list};
 ghost use Rattle.command_line.specs.declared.line.CommandLine.{CommandLine as Line};
 ghost use Rattle.command_line.specs.declared.line.Subject.{Subject as Aim};
-ghost use Rattle.command_line.specs.Given.{said_of};
-ghost use Rattle.command_line.specs.Line.{IsChosen, IsFlag, IsLineOf, IsSubject, is_generate};
+ghost use Rattle.command_line.specs.RawArgs.{parsed_of};
+ghost use Rattle.command_line.specs.Line.{IsChosen, IsLineOf, IsSubject};
 
-use super::command::{Command, command_of};
-use super::given::Given;
+use super::command::command_of;
 use super::line::{CommandLine, Subject};
 use super::number::number_in;
+use super::raw_args::RawArgs;
 use bspl_types::is_name;
 
-/// The numbers that an option takes, and the one that stands for it where it is left out.
+/// The numbers that an option takes, and the one that it has if it is left out.
 #[derive(Clone, Copy, Debug)]
 struct Choice {
     least: u32,
@@ -31,6 +31,7 @@ const THREADS: Choice = Choice {
     default: 1,
 };
 
+/// The number that an option has: its value, or the default.
 fn chosen(belongs: bool, choice: Choice, value: Option<&str>) -> Option<u32>
     ensures { MatchOption result
         ((n : ℕ) → ¬ IsChosen belongs choice.least choice.most choice.default
@@ -48,12 +49,13 @@ fn chosen(belongs: bool, choice: Choice, value: Option<&str>) -> Option<u32>
     }
 }
 
-fn subject_of(command: Command, word: &[u8]) -> Option<Subject<'_>>
+/// What a command is about: a size if a number follows it, and else a protocol.
+fn subject_of(sized: bool, word: &[u8]) -> Option<Subject<'_>>
     ensures { MatchOption result
-        ((subject : Aim) → ¬ IsSubject (is_generate command) word.now subject)
-        (IsSubject (is_generate command) word.now) }
+        ((subject : Aim) → ¬ IsSubject sized word.now subject)
+        (IsSubject sized word.now) }
 {
-    if command == Command::Generate {
+    if sized {
         let size = number_in(word, 1, 16)?;
         return Some(Subject::Size(size));
     }
@@ -65,20 +67,21 @@ fn subject_of(command: Command, word: &[u8]) -> Option<Subject<'_>>
 }
 
 /// The command line that is given, if it is one.
-pub fn line_of(given: Given<'_>) -> Option<CommandLine<'_>>
-    ensures { MatchOption result ((line : Line) → ¬ IsLineOf (said_of given.entry) line)
-        (IsLineOf (said_of given.entry)) }
+pub fn line_of(given: RawArgs<'_>) -> Option<CommandLine<'_>>
+    ensures { MatchOption result ((line : Line) → ¬ IsLineOf (parsed_of given.entry) line)
+        (IsLineOf (parsed_of given.entry)) }
 {
     let (Some(first), Some(second)) = (given.command, given.name) else {
         return None;
     };
     let command = command_of(first.as_bytes())?;
-    let subject = subject_of(command, second.as_bytes())?;
-    if given.brief && !command.takes_brief() {
+    let row = command.row();
+    let subject = subject_of(row.sized, second.as_bytes())?;
+    if given.brief && !row.brief {
         return None;
     }
-    let conflicts = chosen(command.takes_conflicts(), CONFLICTS, given.conflicts)?;
-    let threads = chosen(command.takes_threads(), THREADS, given.threads)?;
+    let conflicts = chosen(row.conflicts, CONFLICTS, given.conflicts)?;
+    let threads = chosen(row.threads, THREADS, given.threads)?;
     Some(CommandLine {
         command,
         subject,
