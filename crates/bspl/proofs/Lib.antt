@@ -1,1 +1,1 @@
-mod Suiting
+-- This crate has no lemmas of its own.

@@ -1,1 +1,1 @@
-pub mod Answer
+-- This crate has no definitions of its own.

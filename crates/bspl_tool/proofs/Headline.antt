@@ -1,64 +1,69 @@
--- `safety safe` is a line of no other text than the verdict.
-use Rattle.std.proofs.Common.{◌≡◌, ℕ, List, [], length, take, Option, Some, None, codes, refl, sym, ◌∙◌, subst, arith, append-nil}
+-- A line that claims something is written only of a protocol of which it is true.
+use Rattle.std.proofs.Common.{◌≡◌, ℕ, List, [], codes, length, take, Option, Some, None, refl, sym, ◌∙◌, subst, arith, append-nil}
+use Rattle.std.specs.Prelude.{IsTrue}
 use Rattle.std.specs.Io.KnownBytes.{Appends}
 use Rattle.std.proofs.lemmas.List.{append_cancel_left, take_all}
-use Rattle.bspl_types.specs.declared.expanded.Expanded.{Expanded}
+use Rattle.bspl_types.specs.Name.{is_name}
 use Rattle.bspl_io.specs.Sink.{AppendsPrefix}
-use Rattle.bspl_tool.specs.declared.asking.Task.{Task}
-use Rattle.bspl_tool.specs.declared.asking.Task.TheVariants.{Expand, Verify}
-use Rattle.bspl_tool.specs.declared.reply.Reply.{Reply}
-use Rattle.bspl_tool.specs.declared.reply.Reply.TheVariants as reply
-use Rattle.bspl_tool.specs.Call.{AreLeft, SaysLine, SafeWhereSaid, DeclaresSafe}
-use Rattle.bspl_tool.specs.Command.{Asks}
-use Rattle.bspl_tool.specs.Output.{IsAnswer}
-use Rattle.bspl_tool.specs.Reading.{Declares}
-use Rattle.bspl_tool.specs.Reply.{reply_text, RepliesTo}
-use Rattle.bspl_tool.specs.Texts.{verdict_safe}
-use Rattle.bspl_tool.proofs.CalmText.{printed_is_other}
-use Rattle.bspl_tool.proofs.Otherwise.{IsOther, front_says_other, other_line}
-use Rattle.bspl_tool.proofs.RefusalLines.{refused_otherwise}
+use Rattle.bspl_tool.specs.declared.rejection.Rejection.{Rejection}
+use Rattle.bspl_tool.specs.declared.request.Task.{Task}
+use Rattle.bspl_tool.specs.declared.status.Status.{Status}
+use Rattle.bspl_tool.specs.Call.{AreRemaining}
+use Rattle.bspl_tool.specs.Headline.{IsTrueOf, TrueWhereSaid}
+use Rattle.bspl_tool.specs.Output.{IsDone, Output, usage, refused, done}
+use Rattle.bspl_tool.specs.Parts.{protocol_text}
+use Rattle.bspl_tool.specs.Refusals.{Refuses, RefusesInput}
+use Rattle.bspl_tool.specs.Texts.{safety_safe}
+use Rattle.bspl_tool.proofs.ClaimsNothing.{ClaimsNothing, line_claims_nothing, says_nothing}
+use Rattle.bspl_tool.proofs.RejectedNames.{HasNames, requested_is_name, text_rejection_names}
+use Rattle.bspl_tool.proofs.RejectionLines.{rejection_claims_nothing}
+use Rattle.bspl_tool.proofs.TaskLaws.{laws_of}
 
--- an answer that says it is a verdict
-said_by_answer : (words : List (List ℕ)) (left : Option (List ℕ)) (bytes : List ℕ) (task : Task) (name : List ℕ) (x : Expanded) (out : List ℕ) (n : ℕ) → AreLeft left bytes → Asks words task name → Declares name bytes x → IsAnswer task name x out → SaysLine (take n out) verdict_safe → DeclaresSafe words left
-said_by_answer words left bytes Expand name x out n told asked declares answer says =
-    absurd (front_says_other out n (subst IsOther (sym answer.layout) (printed_is_other answer.flat)) says)
-said_by_answer words left bytes (Verify brief) name x out n told asked declares answer says = record {
-  brief = brief;
-  name = name;
-  asked = asked;
-  bytes = bytes;
-  told = told;
-  protocol = x;
-  declares = declares;
-  safe = answer.safe;
-}
+-- the names in a refusal of an input are names
+input_names : (task : Task) (name input : List ℕ) {r : Rejection} → IsTrue (is_name name) → RefusesInput task name input r → HasNames r
+input_names task name input named (RefusesInput.no_part part lacks) = record { first = tt; second = tt }
+input_names task name input named (RefusesInput.text part q r has reason is) = text_rejection_names name (protocol_text input) q r named reason is
+input_names task name input named (RefusesInput.part part x r has judged reason) = (laws_of task).names x part r reason
 
--- so only a verdict says it, whole or in a front
-said_by_verdict : (words : List (List ℕ)) (left left' : Option (List ℕ)) (r : Reply) (n : ℕ) → RepliesTo words left left' r → SaysLine (take n (reply_text r)) verdict_safe → DeclaresSafe words left
-said_by_verdict words left left' reply.Usage n replies says =
-    absurd (front_says_other _ n (other_line (codes "usage: bspl COMMAND NAME [--brief] [--conflicts N] [--threads N]") refl (λ is. omega arith)) says)
-said_by_verdict words left left' (reply.Refused text) n replies says =
-    let refused = replies.right in
-    absurd (front_says_other text n (subst IsOther (sym refused.text) (refused_otherwise words replies.bytes refused.complaint refused.refuses)) says)
-said_by_verdict words left left' (reply.Done text) n replies says =
-    let done = replies.right in
-    said_by_answer words left replies.bytes done.task done.name done.protocol text n replies.told done.asked done.declares done.answer says
+-- so are those in each refusal
+refused_names : (args : List (List ℕ)) (bytes : List ℕ) {r : Rejection} → Refuses args bytes r → HasNames r
+refused_names args bytes (Refuses.unsupported requests) = record { first = tt; second = tt }
+refused_names args bytes (Refuses.too_long task name requests reads long) = record { first = tt; second = tt }
+refused_names args bytes (Refuses.read task name r read refuses) = input_names task name bytes (requested_is_name args task name read.requested) refuses
 
--- what was appended is a front of what was to be written
-pub safe_after_front : (words : List (List ℕ)) (left left' old new : Option (List ℕ)) (r : Reply) → RepliesTo words left left' r → AppendsPrefix old new (reply_text r) → SafeWhereSaid words left old new
-safe_after_front words left left' None new r replies (n, appended) = tt
-safe_after_front words left left' (Some before) None r replies (n, appended) = tt
-safe_after_front words left left' (Some before) (Some after) r replies (n, appended) = λ out is_after says.
-    said_by_verdict words left left' r n replies (subst (λ t. SaysLine t verdict_safe) (append_cancel_left before out (take n (reply_text r)) (sym is_after ∙ appended)) says)
+-- a prefix of a text that claims nothing
+nothing_said : (args : List (List ℕ)) (remaining : Option (List ℕ)) (text : List ℕ) (n : ℕ) → ClaimsNothing text → IsTrueOf args remaining (take n text)
+nothing_said args remaining text n nothing = record { safe = λ says. absurd (says_nothing safety_safe text n (λ rest. refl) nothing says) }
+
+-- a prefix of an answer
+truly_said : (args : List (List ℕ)) (remaining : Option (List ℕ)) (bytes out : List ℕ) (status : Status) (n : ℕ) → AreRemaining remaining bytes → IsDone args bytes out status → IsTrueOf args remaining (take n out)
+truly_said args remaining bytes out status n input made =
+    let answered = made.answered in
+    let honest = (laws_of made.task).honest answered.protocol answered.part out status n answered.answer in record {
+      safe = λ says. (answered.protocol, record { task = made.task; name = made.name; requested = made.read.requested; bytes = bytes; input = input; judged = answered.judged }, honest.safe says);
+    }
+
+-- a prefix of an output
+said_by_output : (args : List (List ℕ)) (remaining : Option (List ℕ)) (bytes out : List ℕ) (status : Status) (n : ℕ) → AreRemaining remaining bytes → Output args bytes out status → IsTrueOf args remaining (take n out)
+said_by_output args remaining bytes _ _ n input (usage none) =
+    nothing_said args remaining _ n (line_claims_nothing (codes "usage: bspl COMMAND NAME [--brief] [--conflicts N] [--threads N]") refl refl)
+said_by_output args remaining bytes _ _ n input (refused r refuses) = nothing_said args remaining _ n (rejection_claims_nothing r (refused_names args bytes refuses))
+said_by_output args remaining bytes _ _ n input (done out status made) = truly_said args remaining bytes out status n input made
+
+-- what was appended is a prefix of an output
+pub true_after_prefix : (args : List (List ℕ)) (remaining remaining_after old new : Option (List ℕ)) (bytes out : List ℕ) (status : Status) → AreRemaining remaining bytes → Output args bytes out status → AppendsPrefix old new out → TrueWhereSaid args (record { remaining = remaining; remaining_after = remaining_after; contents = old; contents_after = new })
+true_after_prefix args remaining remaining_after None new bytes out status input output (n, appended) = tt
+true_after_prefix args remaining remaining_after (Some before) None bytes out status input output (n, appended) = tt
+true_after_prefix args remaining remaining_after (Some before) (Some after) bytes out status input output (n, appended) = λ written is.
+    subst (IsTrueOf args remaining) (append_cancel_left before (take n out) written (sym appended ∙ is)) (said_by_output args remaining bytes out status n input output)
 
 -- perhaps the whole of it
-pub safe_after_text : (words : List (List ℕ)) (left left' old new : Option (List ℕ)) (r : Reply) → RepliesTo words left left' r → Appends old new (reply_text r) → SafeWhereSaid words left old new
-safe_after_text words left left' old new r replies appended =
-    safe_after_front words left left' old new r replies (length (reply_text r), subst (Appends old new) (sym (take_all (length (reply_text r)) (reply_text r) (omega arith))) appended)
+pub true_after_text : (args : List (List ℕ)) (remaining remaining_after old new : Option (List ℕ)) (bytes out : List ℕ) (status : Status) → AreRemaining remaining bytes → Output args bytes out status → Appends old new out → TrueWhereSaid args (record { remaining = remaining; remaining_after = remaining_after; contents = old; contents_after = new })
+true_after_text args remaining remaining_after old new bytes out status input output appended =
+    true_after_prefix args remaining remaining_after old new bytes out status input output (length out, subst (Appends old new) (sym (take_all (length out) out (omega arith))) appended)
 
 -- or nothing
-pub safe_after_nothing : (words : List (List ℕ)) (left old : Option (List ℕ)) → SafeWhereSaid words left old old
-safe_after_nothing words left None = tt
-safe_after_nothing words left (Some before) = λ out is_same says.
-    let nothing : out ≡ [] = append_cancel_left before out [] (sym is_same ∙ sym (append-nil before)) in
-    absurd (front_says_other (codes "\n") 0 (other_line [] refl (λ is. omega arith)) (subst (λ t. SaysLine t verdict_safe) nothing says))
+pub true_after_nothing : (args : List (List ℕ)) (remaining remaining_after old : Option (List ℕ)) → TrueWhereSaid args (record { remaining = remaining; remaining_after = remaining_after; contents = old; contents_after = old })
+true_after_nothing args remaining remaining_after None = tt
+true_after_nothing args remaining remaining_after (Some before) = λ written is.
+    subst (IsTrueOf args remaining) (append_cancel_left before [] written (append-nil before ∙ is)) (nothing_said args remaining (codes "\n") 0 (record { first = refl; later = refl }))

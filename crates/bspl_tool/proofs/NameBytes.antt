@@ -3,13 +3,14 @@ use Rattle.std.proofs.Common.{◌≡◌, ◌≢◌, ℕ, Bool, true, false, not,
 use Rattle.std.specs.Prelude.{IsTrue}
 use Rattle.std.specs.Char.{is_ascii_digit}
 use Rattle.std.specs.List.{after_first, before_first, join_with_byte, list_all, slice_split}
-use Rattle.std.proofs.lemmas.Bool.{and_parts, cases_Bool, eqb-true, false≢true, or_from, or_parts}
+use Rattle.std.proofs.lemmas.Bool.{and_parts, cases_Bool, eqb-true, false_from_ne_true, false≢true, or_cases, or_from, or_parts}
 use Rattle.std.proofs.lemmas.List.Splits.{join_with_byte-slice_split}
 use Rattle.bspl_types.specs.Name.{begins_name, goes_on, is_group, is_grouped, is_name, is_name_rest, is_plain_name, is_positive_number, is_reserved}
-use Rattle.bspl_tool.specs.Texts.{verdict_safe}
-use Rattle.bspl_tool.proofs.Otherwise.{has_byte, has_lf, joined_has_none}
+use Rattle.bspl_tool.specs.Texts.{safety_safe}
+use Rattle.bspl_tool.proofs.ClaimsNothing.{claims, starts, starts_rest}
+use Rattle.bspl_tool.proofs.Unbroken.{has_byte, has_lf, joined_has_none}
 
--- the byte stands in no name
+-- no name has the byte
 record IsOutside (c : ℕ) : Type 0 where
   not_first : begins_name c ≡ false
   not_later : (rest : List ℕ) → goes_on c rest ≡ false
@@ -25,7 +26,7 @@ passes test b c one other =
       | inr differ ↦ differ
     ]
 
--- the byte is none of those behind the first of a plain name
+-- the byte is none of those after the first of a plain name
 rest_has_none : (c : ℕ) → IsOutside c → (text : List ℕ) → is_name_rest text ≡ true → has_byte c text ≡ false
 rest_has_none c outside [] rest = refl
 rest_has_none c outside (b ∷ text) rest =
@@ -49,13 +50,13 @@ dotted_has_none c outside [] digits plain = refl
 dotted_has_none c outside (b ∷ text) digits plain =
     elim (cases_Bool (eqb b 46)) [
       | inl dot ↦
-          let behind : after_first is_dot (b ∷ text) ≡ text = rw dot refl in
-          or_from (eqb b c) (has_byte c text) (ap (λ d. eqb d c) (eqb-true b 46 dot) ∙ outside.no_dot) (plain_has_none c outside text (ap is_plain_name (sym behind) ∙ plain))
+          let after : after_first is_dot (b ∷ text) ≡ text = rw dot refl in
+          or_from (eqb b c) (has_byte c text) (ap (λ d. eqb d c) (eqb-true b 46 dot) ∙ outside.no_dot) (plain_has_none c outside text (ap is_plain_name (sym after) ∙ plain))
       | inr other ↦
-          let front : before_first is_dot (b ∷ text) ≡ b ∷ before_first is_dot text = rw (other, one-add) refl in
-          let behind : after_first is_dot (b ∷ text) ≡ after_first is_dot text = rw (other, one-add, add-one, add-one) refl in
-          let parts = and_parts (is_ascii_digit b) (list_all is_ascii_digit (before_first is_dot text)) (ap (list_all is_ascii_digit) (sym front) ∙ digits) in
-          or_from (eqb b c) (has_byte c text) (passes is_ascii_digit b c parts.0 outside.no_digit) (dotted_has_none c outside text parts.1 (ap is_plain_name (sym behind) ∙ plain))
+          let before : before_first is_dot (b ∷ text) ≡ b ∷ before_first is_dot text = rw (other, one-add) refl in
+          let after : after_first is_dot (b ∷ text) ≡ after_first is_dot text = rw (other, one-add, add-one, add-one) refl in
+          let parts = and_parts (is_ascii_digit b) (list_all is_ascii_digit (before_first is_dot text)) (ap (list_all is_ascii_digit) (sym before) ∙ digits) in
+          or_from (eqb b c) (has_byte c text) (passes is_ascii_digit b c parts.0 outside.no_digit) (dotted_has_none c outside text parts.1 (ap is_plain_name (sym after) ∙ plain))
     ]
 
 -- a number has digits alone
@@ -71,7 +72,7 @@ group_has_none c outside text group =
     let parts = and_parts (is_positive_number (before_first is_dot text)) (is_plain_name (after_first is_dot text)) group in
     dotted_has_none c outside text (positive_is_digits (before_first is_dot text) parts.0) parts.1
 
--- a first piece, and groups behind `#`
+-- a first piece, and groups after `#`
 pieces_have_none : (c : ℕ) → IsOutside c → (first : List ℕ) (groups : List (List ℕ)) → has_byte c first ≡ false → list_all is_group groups ≡ true → has_byte c (join_with_byte 35 (first ∷ groups)) ≡ false
 pieces_have_none c outside first [] none groups = none
 pieces_have_none c outside first (group ∷ more) none groups =
@@ -86,7 +87,7 @@ grouped_has_none c outside (plain ∷ groups) grouped =
     let parts = and_parts (is_plain_name plain) (list_all is_group groups) grouped in
     pieces_have_none c outside plain groups (plain_has_none c outside plain parts.0) parts.1
 
--- so the byte stands in no name
+-- so no name has the byte
 name_has_none : (c : ℕ) → IsOutside c → (name : List ℕ) → IsTrue (is_name name) → has_byte c name ≡ false
 unfolding is_name
 name_has_none c outside name named =
@@ -111,23 +112,33 @@ space_not_later (b ∷ rest) = refl
 name_has_no_space : (name : List ℕ) → IsTrue (is_name name) → has_byte 32 name ≡ false
 name_has_no_space name named = name_has_none 32 (record { not_first = refl; not_later = space_not_later; no_digit = refl; no_hash = refl; no_dot = refl }) name named
 
--- what stands behind the first space of two equal texts
-behind_space : (one other x y : List ℕ) → has_byte 32 one ≡ false → has_byte 32 other ≡ false → one ++ 32 ∷ x ≡ other ++ 32 ∷ y → x ≡ y
-behind_space [] [] x y none_in_one none_in_other same = cc
-behind_space [] (b ∷ other) x y none_in_one none_in_other same =
+-- what comes after the first space of two equal texts
+after_space_same : (one other x y : List ℕ) → has_byte 32 one ≡ false → has_byte 32 other ≡ false → one ++ 32 ∷ x ≡ other ++ 32 ∷ y → x ≡ y
+after_space_same [] [] x y none_in_one none_in_other same = cc
+after_space_same [] (b ∷ other) x y none_in_one none_in_other same =
     let is : b ≡ 32 = cc in
     let no : eqb 32 32 ≡ false = ap (λ d. eqb d 32) (sym is) ∙ (or_parts (eqb b 32) (has_byte 32 other) none_in_other).0 in
     absurd (cc)
-behind_space (b ∷ one) [] x y none_in_one none_in_other same =
+after_space_same (b ∷ one) [] x y none_in_one none_in_other same =
     let is : b ≡ 32 = cc in
     let no : eqb 32 32 ≡ false = ap (λ d. eqb d 32) (sym is) ∙ (or_parts (eqb b 32) (has_byte 32 one) none_in_one).0 in
     absurd (cc)
-behind_space (b ∷ one) (c ∷ other) x y none_in_one none_in_other same =
+after_space_same (b ∷ one) (c ∷ other) x y none_in_one none_in_other same =
     let tails : one ++ 32 ∷ x ≡ other ++ 32 ∷ y = cc in
-    behind_space one other x y (or_parts (eqb b 32) (has_byte 32 one) none_in_one).1 (or_parts (eqb c 32) (has_byte 32 other) none_in_other).1 tails
+    after_space_same one other x y (or_parts (eqb b 32) (has_byte 32 one) none_in_one).1 (or_parts (eqb c 32) (has_byte 32 other) none_in_other).1 tails
 
--- a name, a space and a brace do not begin the verdict
-pub name_is_no_verdict : (name x rest : List ℕ) → IsTrue (is_name name) → name ++ 32 ∷ 123 ∷ x ≢ verdict_safe ++ rest
-name_is_no_verdict name x rest named same =
-    let behind = behind_space name (codes "safety") (123 ∷ x) (codes "safe" ++ rest) (name_has_no_space name named) refl same in
-    false≢true (ap (λ t. eqb (get_or t 0 0) 115) behind)
+-- a name, a space and a brace do not begin the line that says that a protocol is safe
+name_is_not_safe : (name x rest : List ℕ) → IsTrue (is_name name) → name ++ 32 ∷ 123 ∷ x ≢ safety_safe ++ rest
+name_is_not_safe name x rest named same =
+    let after = after_space_same name (codes "safety") (123 ∷ x) (codes "safe" ++ rest) (name_has_no_space name named) refl same in
+    false≢true (ap (λ t. eqb (get_or t 0 0) 115) after)
+
+-- nor any line that claims something
+pub name_claims_nothing : (name x : List ℕ) → IsTrue (is_name name) → claims (name ++ 32 ∷ 123 ∷ x) ≡ false
+name_claims_nothing name x named =
+    false_from_ne_true (claims (name ++ 32 ∷ 123 ∷ x)) (λ is. elim (or_cases (starts safety_safe (name ++ 32 ∷ 123 ∷ x)) false is) [
+      | inl safe ↦
+          let found = starts_rest safety_safe (name ++ 32 ∷ 123 ∷ x) safe in
+          name_is_not_safe name x found.0 named found.1
+      | inr none ↦ false≢true none
+    ])

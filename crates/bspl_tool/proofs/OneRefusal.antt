@@ -8,11 +8,10 @@ use Rattle.adornment_check.specs.NotAdmitted.{IsNotAdmitted}
 use Rattle.bspl_parser.specs.declared.document.Document.{Document}
 use Rattle.bspl_parser.specs.Judgement.{AreExclusive, IsBadSyntax, IsRefusedFor, IsText}
 use Rattle.bspl_parser.specs.Tokens.{IsBadByte}
-use Rattle.protocol_expand.specs.Expansion.{IsExpansion}
-use Rattle.protocol_expand.specs.Refusing.{IsNotExpanded}
-use Rattle.bspl_tool.specs.Parts.{protocol_text}
-use Rattle.bspl_tool.specs.Reading.{Declares, IsSpelled}
-use Rattle.bspl_tool.specs.Refusing.{RefusesText}
+use Rattle.protocol_expand.specs.Expansion.{Expands, IsExpansion}
+use Rattle.protocol_expand.specs.Refusals.{IsNotExpanded}
+use Rattle.bspl_tool.specs.Input.{Declares, IsSpelled}
+use Rattle.bspl_tool.specs.Refusals.{RefusesText}
 
 -- the parser, the expansion and the admission have one answer each
 pub record OneReading : Type 0 where
@@ -22,7 +21,7 @@ pub record OneReading : Type 0 where
   pub parsed : (text : List ℕ) (a b : ℕ) (d : Document) → AreExclusive (IsText text d) (IsBadByte text a) (IsBadSyntax text b)
   pub expansions : (d : Document) (name : List ℕ) (x y : Expanded) → IsExpansion d name x → IsExpansion d name y → x ≡ y
   pub unexpanded : (d : Document) (name : List ℕ) (r s : Refusal) → r ≢ NoMemory → s ≢ NoMemory → IsNotExpanded d name r → IsNotExpanded d name s → r ≡ s
-  pub expanded : (d : Document) (name : List ℕ) (x : Expanded) (r : Refusal) → r ≢ NoMemory → IsExpansion d name x → ¬ IsNotExpanded d name r
+  pub expanded : (d : Document) (name : List ℕ) (x : Expanded) (r : Refusal) → r ≢ NoMemory → Expands d name x → ¬ IsNotExpanded d name r
   pub unadmitted : (x : Expanded) (r s : Refusal) → r ≢ NoMemory → s ≢ NoMemory → IsNotAdmitted x r → IsNotAdmitted x s → r ≡ s
   pub admitted : (x : Expanded) (r : Refusal) → r ≢ NoMemory → IsAdmitted x → ¬ IsNotAdmitted x r
 
@@ -59,12 +58,12 @@ same_unexpanded : OneReading → (text name : List ℕ) (d e : Document) (r : Re
 same_unexpanded law text name d e r spells spells_too = subst (λ f. IsNotExpanded f name r) (law.documents text e d spells_too.spelled spells.spelled)
 
 -- the text has one expansion for a name
-pub expanded_once : OneReading → (text name : List ℕ) (d e : Document) (x y : Expanded) → IsSpelled text d → IsSpelled text e → IsExpansion d name x → IsExpansion e name y → x ≡ y
+expanded_once : OneReading → (text name : List ℕ) (d e : Document) (x y : Expanded) → IsSpelled text d → IsSpelled text e → IsExpansion d name x → IsExpansion e name y → x ≡ y
 expanded_once law text name d e x y spells spells_too one other =
     law.expansions d name x y one (same_expansion law text name d e y spells spells_too other)
 
 -- or none
-expanded_or_not : OneReading → (text name : List ℕ) (d e : Document) (x : Expanded) (r : Refusal) → r ≢ NoMemory → IsSpelled text d → IsSpelled text e → IsExpansion d name x → IsNotExpanded e name r → ⊥
+expanded_or_not : OneReading → (text name : List ℕ) (d e : Document) (x : Expanded) (r : Refusal) → r ≢ NoMemory → IsSpelled text d → IsSpelled text e → Expands d name x → IsNotExpanded e name r → ⊥
 expanded_or_not law text name d e x r not_memory spells spells_too expands refused =
     law.expanded d name x r not_memory expands (same_unexpanded law text name d e r spells spells_too refused)
 
@@ -89,17 +88,22 @@ one_refusal law name text (RefusesText.not_admitted d x r not_memory spells expa
 one_refusal law name text (RefusesText.not_admitted d x r not_memory spells expands one) (RefusesText.not_expanded e s not_memory_too spells_too other) =
     absurd (expanded_or_not law text name d e x s not_memory_too spells spells_too expands other)
 one_refusal law name text (RefusesText.not_admitted d x r not_memory spells expands one) (RefusesText.not_admitted e y s not_memory_too spells_too expands_too other) =
-    law.unadmitted x r s not_memory not_memory_too one (subst (λ z. IsNotAdmitted z s) (expanded_once law text name e d y x spells_too spells expands_too expands) other)
+    law.unadmitted x r s not_memory not_memory_too one (subst (λ z. IsNotAdmitted z s) (expanded_once law text name e d y x spells_too spells expands_too.expansion expands.expansion) other)
 
 -- nor is one in which the protocol of the name is admitted
-not_refused : OneReading → (name text : List ℕ) (d : Document) (x : Expanded) {r : Refusal} → IsSpelled text d → IsExpansion d name x → IsAdmitted x → RefusesText name text r → ⊥
+not_refused : OneReading → (name text : List ℕ) (d : Document) (x : Expanded) {r : Refusal} → IsSpelled text d → Expands d name x → IsAdmitted x → RefusesText name text r → ⊥
 not_refused law name text d x spells expands admitted (RefusesText.too_long long) = omega arith
 not_refused law name text d x spells expands admitted (RefusesText.misspelled r not_memory short refused) = spelled_or_misspelled law text d r not_memory spells refused
 not_refused law name text d x spells expands admitted (RefusesText.not_expanded e r not_memory spells_too refused) = expanded_or_not law text name d e x r not_memory spells spells_too expands refused
 not_refused law name text d x spells expands admitted (RefusesText.not_admitted e y r not_memory spells_too expands_too refused) =
-    law.admitted x r not_memory admitted (subst (λ z. IsNotAdmitted z r) (expanded_once law text name e d y x spells_too spells expands_too expands) refused)
+    law.admitted x r not_memory admitted (subst (λ z. IsNotAdmitted z r) (expanded_once law text name e d y x spells_too spells expands_too.expansion expands.expansion) refused)
 
 -- a text that declares a protocol is not refused
-pub declared_or_refused : OneReading → (name input : List ℕ) (x : Expanded) {r : Refusal} → Declares name input x → RefusesText name (protocol_text input) r → ⊥
-declared_or_refused law name input x declares refused =
-    not_refused law name (protocol_text input) declares.document x declares.reads declares.expands declares.admitted refused
+pub declared_or_refused : OneReading → (name text : List ℕ) (x : Expanded) {r : Refusal} → Declares name text x → RefusesText name text r → ⊥
+declared_or_refused law name text x declares refused =
+    not_refused law name text declares.document x declares.read (record { faultless = declares.faultless; within = declares.within; expansion = declares.expands }) declares.admitted refused
+
+-- and it declares one
+pub declared_once : OneReading → (name text : List ℕ) (x y : Expanded) → Declares name text x → Declares name text y → x ≡ y
+declared_once law name text x y one other =
+    expanded_once law text name one.document other.document x y one.read other.read one.expands other.expands

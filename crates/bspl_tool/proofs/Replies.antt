@@ -1,97 +1,150 @@
--- What a reply says of the words and of the bytes that were left.
-use Rattle.std.proofs.Common.{◌≢◌, ◌↔◌, ℕ, ◌<◌, Bool, List, [], length, Option, Some, None, refl, subst, inl, inr}
-use Rattle.bspl_types.specs.declared.expanded.Expanded.{Expanded}
+-- What is answered, rejected or aborted, by the arguments and by the bytes that remained.
+use Rattle.std.proofs.Common.{◌≡◌, ◌≢◌, ◌↔◌, ℕ, ◌<◌, ◌≤◌, true, List, [], ◌++◌, length, Option, Some, None, Result, Err, refl, sym, ◌∙◌, ap, subst, arith, length-append}
+use Rattle.std.specs.Prelude.{IsErrOf, IfSome}
+use Rattle.std.specs.Io.KnownBytes.{Consumes}
+use Rattle.bspl_types.specs.Limits.{input_limit}
 use Rattle.bspl_types.specs.declared.refusals.Refusal.{Refusal}
 use Rattle.bspl_types.specs.declared.refusals.Refusal.TheVariants as refusal
-use Rattle.bspl_io.specs.Source.{IsLonger, ReadsAll, Takes}
-use Rattle.command_line.proofs.LineLemmas.{same_line_of_words}
-use Rattle.enactment_model.specs.Producers.{HasOneProducer}
-use Rattle.bspl_tool.specs.declared.asking.Task.{Task}
-use Rattle.bspl_tool.specs.declared.asking.Task.TheVariants.{Verify}
-use Rattle.bspl_tool.specs.declared.complaint.Complaint.TheVariants.{Input, Text}
-use Rattle.bspl_tool.specs.declared.limits.TheConstants.{INPUT_LIMIT}
-use Rattle.bspl_tool.specs.declared.refusal.InputRefusal.TheVariants.{TooLong, NotBuilt}
+use Rattle.bspl_io.specs.Source.{ReadsAll, Takes}
+use Rattle.bspl_io.specs.declared.source.ReadRefusal.{ReadRefusal}
+use Rattle.bspl_io.specs.declared.source.ReadRefusal.TheVariants as read
+use Rattle.command_line.specs.Line.{OneLine}
+use Rattle.bspl_tool.specs.declared.answer_error.Aborted.{Aborted}
+use Rattle.bspl_tool.specs.declared.answer_error.Aborted.TheVariants as aborted
+use Rattle.bspl_tool.specs.declared.answer_error.AnswerError.{AnswerError}
+use Rattle.bspl_tool.specs.declared.answer_error.AnswerError.TheVariants as error
+use Rattle.bspl_tool.specs.declared.rejection.Rejection.{Rejection}
 use Rattle.bspl_tool.specs.declared.reply.Reply.{Reply}
-use Rattle.bspl_tool.specs.declared.reply.Reply.TheVariants as reply
-use Rattle.bspl_tool.specs.Call.{AreLeft}
-use Rattle.bspl_tool.specs.Command.{Asks, AsksUnbuilt, IsCommandLine}
+use Rattle.bspl_tool.specs.declared.request.Task.{Task}
+use Rattle.bspl_tool.specs.declared.status.Status.{Status}
+use Rattle.bspl_tool.specs.declared.status.Status.TheVariants as status
+use Rattle.bspl_tool.specs.Call.{AreRemaining, RequestsInput, TakesInput}
+use Rattle.bspl_tool.specs.Output.{AnswersInput, Output, usage, refused, done}
 use Rattle.bspl_tool.specs.Parts.{protocol_text}
-use Rattle.bspl_tool.specs.Reading.{Declares}
-use Rattle.bspl_tool.specs.Refusing.{HasLine, Refuses, RefusesInput, RefusesText}
-use Rattle.bspl_tool.specs.Reply.{AnswersOn, IsRefusal, Judges, RepliesTo}
-use Rattle.bspl_tool.proofs.OneTask.{task_or_unbuilt}
+use Rattle.bspl_tool.specs.Refusals.{Refuses, RefusesInput, RefusesText}
+use Rattle.bspl_tool.specs.Rejection.{not_built, over_limit, rejection_line, text_rejection}
+use Rattle.bspl_tool.specs.Request.{HasCommandLine, Requests, RequestsUnsupported}
+use Rattle.bspl_tool.specs.Texts.{usage_text}
+use Rattle.bspl_tool.specs.inner.Error.{RejectsFor, error_for, read_error}
+use Rattle.bspl_tool.specs.inner.Reply.{IsAborted, IsCause, IsRejected, IsReply}
+use Rattle.bspl_tool.proofs.OneRequest.{all_read, needs_no_part, requests_input, task_or_unsupported}
 
--- rival producers are refused
-pub rivals_refused : (brief : Bool) (name : List ℕ) (x : Expanded) (r : Reply) → ¬ HasOneProducer x → IsRefusal (Input NotBuilt) r → AnswersOn (Verify brief) name x r
-rivals_refused brief name x reply.Usage rivals is_refusal = is_refusal
-rivals_refused brief name x (reply.Done written) rivals is_refusal = absurd is_refusal
-rivals_refused brief name x (reply.Refused written) rivals is_refusal = (rivals, is_refusal.0)
-
--- the answer on the protocol that the input declares is the input's
-pub answered : (task : Task) (name input : List ℕ) (x : Expanded) (r : Reply) → Declares name input x → AnswersOn task name x r → Judges task name input r
-answered task name input x reply.Usage declares answers = answers
-answered task name input x (reply.Done written) declares answers = record { protocol = x; declares = declares; answer = answers }
-answered task name input x (reply.Refused written) declares answers = record { complaint = Input NotBuilt; refuses = RefusesInput.rivals x declares answers.0; text = answers.1 }
-
--- so is the refusal of its protocol text
-pub text_refused : (task : Task) (name input : List ℕ) (q : Refusal) (r : Reply) → (q ≢ refusal.NoMemory → RefusesText name (protocol_text input) q) → IsRefusal (Text q) r → Judges task name input r
-text_refused task name input q reply.Usage refuses is_refusal = is_refusal
-text_refused task name input q (reply.Done written) refuses is_refusal = absurd is_refusal
-text_refused task name input q (reply.Refused written) refuses is_refusal = record {
-  complaint = Text q;
-  refuses = RefusesInput.text q (refuses (λ out_of_memory. subst (λ s. HasLine (Text s)) out_of_memory is_refusal.1));
-  text = is_refusal.0;
+-- nothing is taken where the arguments request no input
+takes_nothing : (args : List (List ℕ)) (bytes : List ℕ) (remaining : Option (List ℕ)) (s : Status) → ¬ RequestsInput args → TakesInput args bytes remaining remaining s
+takes_nothing args bytes remaining s none = record {
+  nothing = λ _. refl;
+  all = λ requests. absurd (none requests);
+  more = λ requests. absurd (none requests);
 }
 
--- what is judged of the whole input is right
-pub judged : (task : Task) (name input : List ℕ) (left left' : Option (List ℕ)) (r : Reply) → ReadsAll left left' INPUT_LIMIT input → Judges task name input r → (words : List (List ℕ)) → Asks words task name → RepliesTo words left left' r
-judged task name input left left' reply.Usage all judges words asks = absurd judges
-judged task name input left left' (reply.Done written) all judges words asks = record {
-  bytes = input;
-  told = all.whole;
-  right = record { task = task; name = name; asked = asks; short = all.within; protocol = judges.protocol; declares = judges.declares; answer = judges.answer };
-  read = all.at_end;
-}
-judged task name input left left' (reply.Refused written) all judges words asks = record {
-  bytes = input;
-  told = all.whole;
-  right = record { complaint = judges.complaint; refuses = Refuses.read task name judges.complaint asks all.within judges.refuses; text = judges.text };
-  read = record { unbuilt = λ unbuilt. absurd (task_or_unbuilt same_line_of_words words task name asks unbuilt); built = λ asks_again. inl all.at_end };
+-- some bytes remain
+some_bytes : (remaining : Option (List ℕ)) → (bytes : List ℕ) × AreRemaining remaining bytes
+some_bytes None = ([], tt)
+some_bytes (Some known) = (known, refl)
+
+-- arguments that are no command line get the usage line
+pub usage_replied : (args : List (List ℕ)) (remaining : Option (List ℕ)) (text : List ℕ) → ¬ HasCommandLine args → text ≡ usage_text → IsReply args remaining remaining (record { status = status.Usage; text = text })
+usage_replied args remaining text none is = record {
+  bytes = (some_bytes remaining).0;
+  input = (some_bytes remaining).1;
+  output = subst (λ t. Output args (some_bytes remaining).0 t status.Usage) (sym is) (usage none);
+  taken = takes_nothing args (some_bytes remaining).0 remaining status.Usage (λ requests. none (requests.requested.line, requests.requested.is_line));
 }
 
--- more bytes than the limit are left
-longer_left : {Q : Type 0} (left left' : Option (List ℕ)) → (Q → IsLonger left INPUT_LIMIT) → Takes left left' (λ bytes. Q ↔ (INPUT_LIMIT < length bytes)) → Q → (bytes : List ℕ) × AreLeft left bytes × (INPUT_LIMIT < length bytes)
-longer_left None left' longer taken is_long = (taken.0, tt, taken.2.0 is_long)
-longer_left (Some told) left' longer taken is_long = (told, refl, longer is_long)
+-- a command that is not supported is rejected
+pub unsupported_rejected : OneLine → (args : List (List ℕ)) (remaining : Option (List ℕ)) → RequestsUnsupported args → IsRejected args remaining remaining not_built
+unsupported_rejected line args remaining requests = record {
+  bytes = (some_bytes remaining).0;
+  input = (some_bytes remaining).1;
+  refuses = Refuses.unsupported requests;
+  taken = takes_nothing args (some_bytes remaining).0 remaining status.Refused (λ reads. task_or_unsupported line args reads.task reads.name reads.requested requests);
+}
 
--- an input that is too long is refused
-pub too_long : {Q : Type 0} (task : Task) (name : List ℕ) (left left' : Option (List ℕ)) (r : Reply) → (Q → IsLonger left INPUT_LIMIT) → Takes left left' (λ bytes. Q ↔ (INPUT_LIMIT < length bytes)) → Q → IsRefusal (Input (TooLong INPUT_LIMIT)) r → (words : List (List ℕ)) → Asks words task name → RepliesTo words left left' r
-too_long task name left left' reply.Usage longer taken is_long is_refusal words asks = absurd is_refusal
-too_long task name left left' (reply.Done written) longer taken is_long is_refusal words asks = absurd is_refusal
-too_long task name left left' (reply.Refused written) longer taken is_long is_refusal words asks =
-    let long = longer_left left left' longer taken is_long in record {
-      bytes = long.0;
-      told = long.1;
-      right = record { complaint = Input (TooLong INPUT_LIMIT); refuses = Refuses.too_long task name asks long.2; text = is_refusal.0 };
-      read = record { unbuilt = λ unbuilt. absurd (task_or_unbuilt same_line_of_words words task name asks unbuilt); built = λ asks_again. inr long.2 };
+-- memory ran out before anything was read
+pub aborted_before : (args : List (List ℕ)) (remaining : Option (List ℕ)) → IsCause args remaining remaining (error_for None)
+aborted_before args remaining = record { nothing = λ _. refl; read = λ is. absurd (cc) }
+
+-- reading failed, or memory ran out, for arguments that request the input
+aborted_after : (args : List (List ℕ)) (remaining after : Option (List ℕ)) (cause : Aborted) → RequestsInput args → IsAborted args remaining after cause
+aborted_after args remaining after cause requests = record { nothing = λ none. absurd (none requests); read = λ _. requests }
+
+-- more bytes than the limit were taken
+too_long : (args : List (List ℕ)) (task : Task) (name : List ℕ) (remaining after : Option (List ℕ)) → Requests args task name → Takes remaining after (λ bytes. input_limit < length bytes) → IsRejected args remaining after (over_limit input_limit)
+too_long args task name None after requests taken = record {
+  bytes = taken.0;
+  input = tt;
+  refuses = Refuses.too_long task name requests (all_read task) taken.2;
+  taken = record {
+    nothing = λ none. absurd (none (requests_input args task name requests));
+    all = λ _ _ short. absurd (let long = taken.2 in omega arith);
+    more = λ _ _ _. taken;
+  };
+}
+too_long args task name (Some known) None requests taken = absurd taken.1
+too_long args task name (Some known) (Some left) requests taken =
+    let sizes = ap length taken.1 in
+    let long : input_limit < length known = (let more = taken.2 in omega (arith, sizes, length-append taken.0 left)) in record {
+      bytes = known;
+      input = refl;
+      refuses = Refuses.too_long task name requests (all_read task) long;
+      taken = record {
+        nothing = λ none. absurd (none (requests_input args task name requests));
+        all = λ _ _ short. absurd (omega arith);
+        more = λ _ _ _. taken;
+      };
     }
 
--- where nothing is read, some bytes are left
-any_left : (left : Option (List ℕ)) → (bytes : List ℕ) × AreLeft left bytes
-any_left None = ([], tt)
-any_left (Some told) = (told, refl)
+-- an input was not read to its end
+pub not_read : {X : Type 0} (args : List (List ℕ)) (task : Task) (name : List ℕ) (remaining after : Option (List ℕ)) (why : ReadRefusal) → Requests args task name → Takes remaining after (λ bytes. IsErrOf {T = X} (Err why) read.TooLong ↔ (input_limit < length bytes)) → IsCause args remaining after (read_error why)
+not_read args task name remaining after read.TooLong requests taken = too_long args task name remaining after requests (taken.0, taken.1, taken.2.0 refl)
+not_read args task name remaining after read.ReadFault requests taken = aborted_after args remaining after aborted.ReadFault (requests_input args task name requests)
+not_read args task name remaining after read.NoMemory requests taken = aborted_after args remaining after aborted.NoMemory (requests_input args task name requests)
 
--- words that are no command line get the usage line
-pub no_command : (words : List (List ℕ)) (left : Option (List ℕ)) → ¬ IsCommandLine words → RepliesTo words left left reply.Usage
-no_command words left other = record { bytes = (any_left left).0; told = (any_left left).1; right = (other, refl); read = refl }
-
--- a command that is still to be built is refused
-pub unbuilt_refused : (words : List (List ℕ)) (left : Option (List ℕ)) (r : Reply) → AsksUnbuilt words → IsRefusal (Input NotBuilt) r → RepliesTo words left left r
-unbuilt_refused words left reply.Usage unbuilt is_refusal = absurd is_refusal
-unbuilt_refused words left (reply.Done written) unbuilt is_refusal = absurd is_refusal
-unbuilt_refused words left (reply.Refused written) unbuilt is_refusal = record {
-  bytes = (any_left left).0;
-  told = (any_left left).1;
-  right = record { complaint = Input NotBuilt; refuses = Refuses.unbuilt unbuilt; text = is_refusal.0 };
-  read = record { unbuilt = λ again. refl; built = λ asks. absurd (task_or_unbuilt same_line_of_words words asks.0 asks.1 asks.2 unbuilt) };
+-- all of an input was taken
+takes_all : (args : List (List ℕ)) (task : Task) (name bytes : List ℕ) (remaining after : Option (List ℕ)) (s : Status) → Requests args task name → ReadsAll remaining after input_limit bytes → TakesInput args bytes remaining after s
+takes_all args task name bytes remaining after s requests all = record {
+  nothing = λ none. absurd (none (requests_input args task name requests));
+  all = λ _ _ _. all.at_end;
+  more = λ _ _ long. absurd (let short = all.within in omega arith);
 }
+
+-- an answer on an input that was read
+pub answer_replied : (args : List (List ℕ)) (task : Task) (name bytes : List ℕ) (remaining after : Option (List ℕ)) (r : Reply) → Requests args task name → ReadsAll remaining after input_limit bytes → AnswersInput task name bytes r.text r.status → IsReply args remaining after r
+answer_replied args task name bytes remaining after r requests all answered = record {
+  bytes = bytes;
+  input = all.whole;
+  output = done r.text r.status (record { task = task; name = name; read = record { requested = requests; short = λ _. all.within }; answered = answered });
+  taken = takes_all args task name bytes remaining after r.status requests all;
+}
+
+-- why there is none
+pub input_refused : (args : List (List ℕ)) (task : Task) (name bytes : List ℕ) (remaining after : Option (List ℕ)) (e : AnswerError) → Requests args task name → ReadsAll remaining after input_limit bytes → RejectsFor (RefusesInput task name bytes) e → IsCause args remaining after e
+input_refused args task name bytes remaining after (error.Rejected r) requests all refuses = record {
+  bytes = bytes;
+  input = all.whole;
+  refuses = Refuses.read task name r (record { requested = requests; short = λ _. all.within }) refuses;
+  taken = takes_all args task name bytes remaining after status.Refused requests all;
+}
+input_refused args task name bytes remaining after (error.Aborted aborted.ReadFault) requests all refuses = absurd refuses
+input_refused args task name bytes remaining after (error.Aborted aborted.NoMemory) requests all refuses = aborted_after args remaining after aborted.NoMemory (requests_input args task name requests)
+
+-- a refusal of the protocol text
+pub text_refused : (task : Task) (name input : List ℕ) (q : Refusal) → (q ≢ refusal.NoMemory → RefusesText name (protocol_text input) q) → RejectsFor (RefusesInput task name input) (error_for (text_rejection q))
+text_refused task name input q refuses =
+    (elim (text_rejection q) as (λ o. text_rejection q ≡ o → RejectsFor (RefusesInput task name input) (error_for o)) [
+      | None ↦ λ is. tt
+      | Some r ↦ λ is. RefusesInput.text [] q r (needs_no_part task input) (refuses (λ out_of_memory. let none : None ≡ Some r = ap text_rejection (sym out_of_memory) ∙ is in absurd (cc))) is
+    ]) refl
+
+-- the reply of a rejection
+pub rejection_replied : (args : List (List ℕ)) (remaining after : Option (List ℕ)) (r : Rejection) (text : List ℕ) → IsRejected args remaining after r → text ≡ rejection_line r → IsReply args remaining after (record { status = status.Refused; text = text })
+rejection_replied args remaining after r text rejected is = record {
+  bytes = rejected.bytes;
+  input = rejected.input;
+  output = subst (λ t. Output args rejected.bytes t status.Refused) (sym is) (refused r rejected.refuses);
+  taken = rejected.taken;
+}
+
+-- memory ran out where a rejection was to be written
+pub rejection_aborted : (args : List (List ℕ)) (remaining after : Option (List ℕ)) (r : Rejection) → IsRejected args remaining after r → IsAborted args remaining after aborted.NoMemory
+rejection_aborted args remaining after r rejected = record { nothing = rejected.taken.nothing; read = λ is. absurd (cc) }

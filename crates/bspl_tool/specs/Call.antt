@@ -1,65 +1,82 @@
--- What one call of the tool does to its source and its sink, which may tell their bytes.
-use Rattle.std.specs.Prelude.{◌≡◌, ℕ, Bool, List, ◌++◌, Option, IfSome, ◌⊎◌}
-use Rattle.std.specs.Io.KnownBytes.{Appends, Keeps}
-use Rattle.std.specs.List.{Contains}
+-- What one call of the tool reads and writes.
+use Rattle.std.specs.Prelude.{◌≡◌, ℕ, ◌<◌, ◌≤◌, true, List, length, Option, IfSome, ◌⊎◌}
+use Rattle.std.specs.Io.KnownBytes.{Appends, IsAtEnd, Keeps}
+use Rattle.bspl_io.specs.Faults.{HasCounted}
 use Rattle.bspl_io.specs.Sink.{AppendsPrefix}
-use Rattle.bspl_types.specs.declared.expanded.Expanded.{Expanded}
-use Rattle.enactment_model.specs.Safety.{SafeProtocol}
-use Rattle.bspl_tool.specs.declared.asking.Task.TheVariants.{Verify}
+use Rattle.bspl_io.specs.Source.{Takes}
+use Rattle.bspl_io.specs.Traffic.{Traffic}
+use Rattle.bspl_types.specs.Limits.{input_limit}
+use Rattle.bspl_tool.specs.declared.request.Task.{Task}
 use Rattle.bspl_tool.specs.declared.status.Status.{Status}
-use Rattle.bspl_tool.specs.declared.status.Status.TheVariants.{Done, Usage, Refused, ReadFault, WriteFault, NoMemory}
-use Rattle.bspl_tool.specs.Command.{Asks}
-use Rattle.bspl_tool.specs.Output.{Output, Read}
-use Rattle.bspl_tool.specs.Parts.{lines}
-use Rattle.bspl_tool.specs.Reading.{Declares}
-use Rattle.bspl_tool.specs.Texts.{verdict_safe}
+use Rattle.bspl_tool.specs.declared.status.Status.TheVariants.{ReadFault, WriteFault, NoMemory}
+use Rattle.bspl_tool.specs.Output.{Output}
+use Rattle.bspl_tool.specs.Request.{Requests}
+use Rattle.bspl_tool.specs.Status.{is_answered}
+use Rattle.bspl_tool.specs.Task.{reads_input}
 
--- the bytes that were left, where they are told
-abbrev pub AreLeft : Option (List ℕ) → List ℕ → Type 0
-AreLeft left bytes = IfSome left (λ told. bytes ≡ told)
+-- these bytes remain, where the remaining bytes are known
+abbrev pub AreRemaining : Option (List ℕ) → List ℕ → Type 0
+AreRemaining remaining bytes = IfSome remaining (λ known. bytes ≡ known)
 
--- for some bytes, those left where they are told, the whole output was written
-pub record Answers (words : List (List ℕ)) (left left' old new : Option (List ℕ)) (status : Status) : Type 0 where
-  pub bytes : List ℕ
-  pub told : AreLeft left bytes
+-- the arguments request a task that reads the input
+pub record RequestsInput (args : List (List ℕ)) : Type 0 where
+  pub task : Task
+  pub name : List ℕ
+  pub requested : Requests args task name
+  pub reads : reads_input task ≡ true
+
+-- how much of the input is taken: nothing unless the arguments request it, whatever the status;
+-- else, with an output made, all of it, or more bytes than the limit if it is longer
+pub record TakesInput (args : List (List ℕ)) (bytes : List ℕ)
+    (remaining remaining_after : Option (List ℕ)) (status : Status) : Type 0 where
+  pub nothing : ¬ RequestsInput args → remaining_after ≡ remaining
+  pub all : RequestsInput args → is_answered status ≡ true → length bytes ≤ input_limit
+      → IsAtEnd remaining_after
+  pub more : RequestsInput args → is_answered status ≡ true → input_limit < length bytes
+      → Takes remaining remaining_after (λ taken. input_limit < length taken)
+
+-- an output for the arguments and the bytes was written whole
+pub record WritesOutput (args : List (List ℕ)) (bytes : List ℕ) (old new : Option (List ℕ))
+    (status : Status) : Type 0 where
   pub out : List ℕ
-  pub right : Output words bytes out status
-  pub read : Read words bytes left left' status
+  pub output : Output args bytes out status
   pub appended : Appends old new out
 
--- for some bytes, those left where they are told, a front of an output was written
-pub record WritesFront (words : List (List ℕ)) (left old new : Option (List ℕ)) : Type 0 where
-  pub bytes : List ℕ
-  pub told : AreLeft left bytes
+-- a prefix of one was written
+pub record WritesPrefix (args : List (List ℕ)) (bytes : List ℕ)
+    (old new : Option (List ℕ)) : Type 0 where
   pub out : List ℕ
   pub status : Status
-  pub right : Output words bytes out status
+  pub output : Output args bytes out status
   pub appended : AppendsPrefix old new out
 
--- what was read and written stands in the output relation where the status is an answer
-abbrev pub IsRight : List (List ℕ) → Option (List ℕ) → Option (List ℕ) → Option (List ℕ) → Option (List ℕ) → Status → Type 0
-IsRight words left left' old new Done = Answers words left left' old new Done
-IsRight words left left' old new Usage = Answers words left left' old new Usage
-IsRight words left left' old new Refused = Answers words left left' old new Refused
-IsRight words left left' old new ReadFault = Keeps old new
-IsRight words left left' old new WriteFault = WritesFront words left old new
-IsRight words left left' old new NoMemory = Keeps old new ⊎ WritesFront words left old new
+-- how far an output came: nothing, a prefix, a prefix or nothing, or whole, by the status
+abbrev pub Writes : List (List ℕ) → List ℕ → Option (List ℕ) → Option (List ℕ) → Status → Type 0
+Writes args bytes old new ReadFault = Keeps old new
+Writes args bytes old new WriteFault = WritesPrefix args bytes old new
+Writes args bytes old new NoMemory = Keeps old new ⊎ WritesPrefix args bytes old new
+Writes args bytes old new status = WritesOutput args bytes old new status
 
--- one of the text's lines is this one
-abbrev pub SaysLine : List ℕ → List ℕ → Type 0
-SaysLine text said = Contains (lines text) said
-
--- the words ask whether a protocol is safe that the input declares, and it is
-pub record DeclaresSafe (words : List (List ℕ)) (left : Option (List ℕ)) : Type 0 where
-  pub brief : Bool
-  pub name : List ℕ
-  pub asked : Asks words (Verify brief) name
+-- for some bytes, those that remained where they are known, the call wrote an output for these
+-- arguments as far as its status says, and took as much of the input as they request
+pub record IsCall (args : List (List ℕ)) (t : Traffic) (status : Status) : Type 0 where
   pub bytes : List ℕ
-  pub told : AreLeft left bytes
-  pub protocol : Expanded
-  pub declares : Declares name bytes protocol
-  pub safe : SafeProtocol protocol
+  pub input : AreRemaining t.remaining bytes
+  pub taken : TakesInput args bytes t.remaining t.remaining_after status
+  pub written : Writes args bytes t.contents t.contents_after status
+  pub read : status ≡ ReadFault → RequestsInput args
 
--- so it is wherever the line `safety safe` was written
-abbrev pub SafeWhereSaid : List (List ℕ) → Option (List ℕ) → Option (List ℕ) → Option (List ℕ) → Type 0
-SafeWhereSaid words left old new = IfSome old (λ before. IfSome new (λ after. (out : List ℕ) → after ≡ before ++ out → SaysLine out verdict_safe → DeclaresSafe words left))
+-- the counts of faults of the source and of the sink, before the call and after it
+pub record FaultCounts : Type 0 where
+  pub reads : ℕ
+  pub reads_after : ℕ
+  pub writes : ℕ
+  pub writes_after : ℕ
+
+-- a status says that reading or writing failed only if that was counted; after any other status
+-- neither count is another
+pub record AreCounted (counts : FaultCounts) (status : Status) : Type 0 where
+  pub read_fault : status ≡ ReadFault → HasCounted counts.reads counts.reads_after
+  pub write_fault : status ≡ WriteFault → HasCounted counts.writes counts.writes_after
+  pub no_read_fault : ¬ (status ≡ ReadFault) → counts.reads_after ≡ counts.reads
+  pub no_write_fault : ¬ (status ≡ WriteFault) → counts.writes_after ≡ counts.writes

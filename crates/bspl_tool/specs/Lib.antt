@@ -1,10 +1,17 @@
-pub mod Texts
-pub mod Parts
-pub mod Command
-pub mod Reading
-pub mod Refusing
-pub mod Refusals
-pub mod Output
+-- What the tool promises, in the order in which it is read; what private functions cite is last.
+pub mod Headline
 pub mod Call
-pub mod Reply
+pub mod Output
+pub mod Request
+pub mod Task
+pub mod Answer
+pub mod ExpandAnswer
+pub mod VerifyAnswer
+pub mod Input
+pub mod Parts
+pub mod Refusals
+pub mod Rejection
+pub mod Texts
 pub mod Status
+pub mod Laws
+pub mod inner

@@ -1,58 +1,76 @@
--- The lines in which refusals are written.
-use Rattle.std.specs.Prelude.{ℕ, List, [], ◌∷◌, ◌++◌, codes}
-use Rattle.std.specs.Fmt.{decimal}
-use Rattle.std.specs.List.{flat_map}
+-- Why an input is refused, in the order in which the reasons are judged.
+use Rattle.std.specs.Prelude.{◌≡◌, ◌≢◌, ℕ, ◌<◌, ◌≤◌, true, List, [], length, Option, None, Some}
+use Rattle.bspl_types.specs.declared.expanded.Expanded.{Expanded}
 use Rattle.bspl_types.specs.declared.refusals.Refusal.{Refusal}
-use Rattle.bspl_types.specs.declared.refusals.Refusal.TheVariants.{Byte, Syntax, NoProtocol, Duplicate, Unknown, Arity, BadAdornment, Recursion, Limit, NoKey, NotWholeKey, ForeignKey, SelfMessage, RepeatedParam, NoMemory}
-use Rattle.bspl_types.specs.declared.refusals.What.{What}
+use Rattle.bspl_types.specs.declared.refusals.Refusal.TheVariants as refusal
 use Rattle.bspl_types.specs.declared.refusals.What.TheVariants as what
-use Rattle.bspl_tool.specs.declared.complaint.Complaint.{Complaint}
-use Rattle.bspl_tool.specs.declared.complaint.Complaint.TheVariants as complaint
-use Rattle.bspl_tool.specs.declared.refusal.InputRefusal.{InputRefusal}
-use Rattle.bspl_tool.specs.declared.refusal.InputRefusal.TheVariants as input
-use Rattle.bspl_tool.specs.Texts.{line}
+use Rattle.bspl_types.specs.Limits.{input_limit, text_limit}
+use Rattle.adornment_check.specs.NotAdmitted.{IsNotAdmitted}
+use Rattle.bspl_parser.specs.declared.document.Document.{Document}
+use Rattle.bspl_parser.specs.Judgement.{IsRefusedFor}
+use Rattle.protocol_expand.specs.Expansion.{Expands}
+use Rattle.protocol_expand.specs.Refusals.{IsNotExpanded}
+use Rattle.bspl_tool.specs.declared.parts.Part.{Part}
+use Rattle.bspl_tool.specs.declared.rejection.Rejection.{Rejection}
+use Rattle.bspl_tool.specs.declared.request.Task.{Task}
+use Rattle.bspl_tool.specs.Answer.{IsPartRefused}
+use Rattle.bspl_tool.specs.Input.{IsSpelled}
+use Rattle.bspl_tool.specs.Parts.{first_part, protocol_text}
+use Rattle.bspl_tool.specs.Rejection.{lacks_part, not_built, over_limit, text_rejection}
+use Rattle.bspl_tool.specs.Request.{Requests, RequestsUnsupported}
+use Rattle.bspl_tool.specs.Task.{Judged, part_of, reads_input}
 
--- `refused`, a code, and each field after a space
-abbrev pub refused_line : List ℕ → List (List ℕ) → List ℕ
-refused_line code fields = line (codes "refused " ++ code ++ flat_map (λ field. 32 ∷ field) fields)
+-- why a protocol text declares nothing for the name
+pub data RefusesText (name text : List ℕ) : Refusal → Type 0 where
+  -- it has too many bytes
+  too_long : text_limit < length text
+      → RefusesText name text (refusal.Limit what.Text (length text))
+  -- it is short enough, and spells no document
+  misspelled : (r : Refusal) → r ≢ refusal.NoMemory → length text ≤ text_limit
+      → IsRefusedFor text r → RefusesText name text r
+  -- it spells one, in which the protocol of the name has no expansion
+  not_expanded : (d : Document) (r : Refusal) → r ≢ refusal.NoMemory
+      → IsSpelled text d → IsNotExpanded d name r → RefusesText name text r
+  -- the protocol has an expansion, which is not admitted
+  not_admitted : (d : Document) (x : Expanded) (r : Refusal) → r ≢ refusal.NoMemory
+      → IsSpelled text d → Expands d name x → IsNotAdmitted x r → RefusesText name text r
 
--- the word for what is counted against a limit
-abbrev pub what_word : What → List ℕ
-what_word what.Text = codes "text"
-what_word what.Protocols = codes "protocols"
-what_word what.Depth = codes "depth"
-what_word what.Roles = codes "roles"
-what_word what.Parameters = codes "parameters"
-what_word what.Keys = codes "keys"
-what_word what.Carried = codes "carried"
-what_word what.Messages = codes "messages"
+-- the bytes of the part that is needed; none if none is needed
+abbrev pub HasPart : Option Part → List ℕ → List ℕ → Type 0
+HasPart None input bytes = bytes ≡ []
+HasPart (Some part) input bytes = first_part input ≡ Some (part, bytes)
 
--- the code of a text's refusal, and its places, names and counts; want of memory has no line
-abbrev pub refusal_text : Refusal → List ℕ
-refusal_text (Byte offset) = refused_line (codes "E1") (decimal offset ∷ [])
-refusal_text (Syntax offset) = refused_line (codes "E2") (decimal offset ∷ [])
-refusal_text (NoProtocol name) = refused_line (codes "E3") (name ∷ [])
-refusal_text (Duplicate offset) = refused_line (codes "E4") (decimal offset ∷ [])
-refusal_text (Unknown offset) = refused_line (codes "E5") (decimal offset ∷ [])
-refusal_text (Arity offset) = refused_line (codes "E6") (decimal offset ∷ [])
-refusal_text (BadAdornment offset) = refused_line (codes "E7") (decimal offset ∷ [])
-refusal_text (Recursion name) = refused_line (codes "E8") (name ∷ [])
-refusal_text (Limit counted count) = refused_line (codes "E9") (what_word counted ∷ decimal count ∷ [])
-refusal_text NoKey = refused_line (codes "E10") []
-refusal_text (NotWholeKey message param) = refused_line (codes "E11") (message ∷ param ∷ [])
-refusal_text (ForeignKey offset) = refused_line (codes "E12") (decimal offset ∷ [])
-refusal_text (SelfMessage message) = refused_line (codes "E13") (message ∷ [])
-refusal_text (RepeatedParam message param) = refused_line (codes "E14") (message ∷ param ∷ [])
-refusal_text NoMemory = []
+-- the command needs that part, and no part line is there, or the first one begins another part
+pub record LacksPart (task : Task) (input : List ℕ) (part : Part) : Type 0 where
+  pub needed : part_of task ≡ Some part
+  pub missing : (bytes : List ℕ) → ¬ HasPart (Some part) input bytes
 
--- the code of an input's refusal, and the part or the limit
-abbrev pub input_refusal_text : InputRefusal → List ℕ
-input_refusal_text (input.NoPart part) = refused_line (codes "P1") (part ∷ [])
-input_refusal_text (input.TooLong limit) = refused_line (codes "P2") (decimal limit ∷ [])
-input_refusal_text input.NotBuilt = refused_line (codes "N1") []
-input_refusal_text input.NoMemory = []
+-- why the task is not done on an input that was read: the part, the protocol text, the part's bytes
+pub data RefusesInput (task : Task) (name input : List ℕ) : Rejection → Type 0 where
+  -- the part that it needs is missing
+  no_part : (part : Part) → LacksPart task input part
+      → RefusesInput task name input (lacks_part part)
+  -- the protocol text declares nothing for the name
+  text : (part : List ℕ) (refusal : Refusal) (r : Rejection) → HasPart (part_of task) input part
+      → RefusesText name (protocol_text input) refusal → text_rejection refusal ≡ Some r
+      → RefusesInput task name input r
+  -- the protocol is admitted, and the command refuses it with this part
+  part : (part : List ℕ) (x : Expanded) (r : Rejection) → HasPart (part_of task) input part
+      → Judged task name input x → IsPartRefused task x part r → RefusesInput task name input r
 
--- the line of either
-abbrev pub complaint_text : Complaint → List ℕ
-complaint_text (complaint.Input refusal) = input_refusal_text refusal
-complaint_text (complaint.Text refusal) = refusal_text refusal
+-- the arguments request the task, and an input that it reads is no longer than its limit
+pub record IsRead (args : List (List ℕ)) (bytes : List ℕ) (task : Task)
+    (name : List ℕ) : Type 0 where
+  pub requested : Requests args task name
+  pub short : reads_input task ≡ true → length bytes ≤ input_limit
+
+-- why the arguments are refused on these bytes of the input
+pub data Refuses (args : List (List ℕ)) (bytes : List ℕ) : Rejection → Type 0 where
+  -- they request a command that is not supported, whatever the input is
+  unsupported : RequestsUnsupported args → Refuses args bytes not_built
+  -- the input that the command reads is too long
+  too_long : (task : Task) (name : List ℕ) → Requests args task name → reads_input task ≡ true
+      → input_limit < length bytes → Refuses args bytes (over_limit input_limit)
+  -- it is read, and the task is not done on it
+  read : (task : Task) (name : List ℕ) (r : Rejection) → IsRead args bytes task name
+      → RefusesInput task name bytes r → Refuses args bytes r

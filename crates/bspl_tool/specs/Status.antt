@@ -1,13 +1,19 @@
--- The numbers of the statuses.
-use Rattle.std.specs.Prelude.{ℕ}
+-- The statuses in which a call ends.
+use Rattle.std.specs.Prelude.{ℕ, Bool, true, false}
 use Rattle.bspl_tool.specs.declared.status.Status.{Status}
 use Rattle.bspl_tool.specs.declared.status.Status.TheVariants.{Done, Usage, Refused, ReadFault, WriteFault, NoMemory}
 
--- what the program ends with; 1 and 2 are for verdicts that refute or are undecided
-abbrev pub number_of : Status → ℕ
-number_of Done = 0
-number_of Usage = 3
-number_of Refused = 4
-number_of ReadFault = 5
-number_of WriteFault = 6
-number_of NoMemory = 7
+-- the exit status of the program; 1 and 2 are for verdicts that refute or are undecided
+abbrev pub exit_status : Status → ℕ
+exit_status Done = 0
+exit_status Usage = 3
+exit_status Refused = 4
+exit_status ReadFault = 5
+exit_status WriteFault = 6
+exit_status NoMemory = 7
+
+-- the call ended after its output was made: reading did not fail, and memory did not run out
+abbrev pub is_answered : Status → Bool
+is_answered ReadFault = false
+is_answered NoMemory = false
+is_answered status = true

@@ -1,37 +1,30 @@
-//! The whole of the tool as one call over words, a source and a sink.
+//! The whole of the tool as one call over arguments, a source and a sink.
 #![tactic(auto)]
 
-mod asking;
-mod complaint;
-mod judging;
+mod answer;
+mod answer_error;
+mod call;
+mod expand_command;
+mod input_protocol;
 mod laws;
 mod limits;
 mod parts;
 mod refusal;
-mod refusing;
+mod rejection;
+mod rejection_text;
 mod reply;
-mod run;
+mod request;
 mod status;
 mod texts;
+mod verify_command;
 
-pub use asking::Task;
-pub use complaint::Complaint;
-pub use judging::protocol_of;
-pub use laws::one_output;
+pub use call::bspl;
+pub use input_protocol::protocol_of;
+pub use laws::{answers_are_distinct, one_answer};
 pub use limits::{INPUT_LIMIT, TEXT_LIMIT};
+pub use parts::Part;
 pub use refusal::InputRefusal;
-pub use run::bspl;
+pub use rejection::{Code, Field, Rejection, input_rejection, text_rejection};
+pub use rejection_text::rejection_line;
+pub use request::Task;
 pub use status::Status;
-
-#[cfg(test)]
-mod expanding_tests;
-#[cfg(test)]
-mod refused_tests;
-#[cfg(test)]
-mod refused_texts;
-#[cfg(test)]
-mod refusing_tests;
-#[cfg(test)]
-mod tests;
-#[cfg(test)]
-mod text_tests;

@@ -1,19 +1,20 @@
-use bspl_types::Name;
+use super::parts::Part;
 use std::fmt::{self, Debug, Display, Formatter, Write};
 use thiserror::Error;
 
-/// Why an input was not judged.
+/// Why an input as a whole is refused.
 #[derive(Drop, Error)]
 pub enum InputRefusal {
     /// The command needs a part, and the first part line does not begin it.
     #[error("the input has no such part")]
-    NoPart { part: Name },
+    NoPart { part: Part },
     /// The input has more bytes than may be read.
     #[error("the input has more than {limit} bytes")]
     TooLong { limit: u64 },
-    /// The input is in a form that is not built yet.
-    #[error("the input is in a form that is not built yet")]
+    /// What is requested is not supported.
+    #[error("this is not supported")]
     NotBuilt,
+    /// Memory ran out.
     #[error("out of memory")]
     NoMemory,
 }

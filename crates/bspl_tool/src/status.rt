@@ -1,27 +1,27 @@
 ghost use Rattle.std.specs.Prelude.{◌≡◌};
-ghost use Rattle.bspl_tool.specs.Status.{number_of};
+ghost use Rattle.bspl_tool.specs.Status.{exit_status};
 
 /// How a call of the tool ended.
 #[derive(Clone, Copy, Debug, PartialEq, Eq)]
 pub enum Status {
     /// The protocol has what was asked for.
     Done,
-    /// The words are no command line.
+    /// The arguments are no command line.
     Usage,
-    /// The input was refused by name.
+    /// The input was refused with a code.
     Refused,
     /// Reading failed. Nothing was written.
     ReadFault,
-    /// Writing failed. A front of the text was written.
+    /// Writing failed. A prefix of the text was written.
     WriteFault,
-    /// Memory ran out. A front of the text was written, perhaps nothing.
+    /// Memory ran out. A prefix of the text was written, perhaps nothing.
     NoMemory,
 }
 
 impl Status {
     /// The exit status of the program.
     pub fn number(self) -> u8
-        ensures { result ≡ number_of self }
+        ensures { result ≡ exit_status self }
     {
         match self {
             Status::Done => 0,

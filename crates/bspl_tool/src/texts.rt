@@ -5,10 +5,11 @@ use bspl_types::{Bytes, NoMemory};
 use std::alloc::Global;
 
 /// What a command line looks like.
-pub fn usage_text() -> &'static [u8]
-    ensures { result.now ≡ usage_text }
+pub fn usage_text(alloc: Global) -> Result<Bytes, NoMemory>
+    ensures { IfOk result (λ text. text ≡ usage_text) }
 {
-    b"usage: bspl COMMAND NAME [--brief] [--conflicts N] [--threads N]\n"
+    let line = b"usage: bspl COMMAND NAME [--brief] [--conflicts N] [--threads N]\n";
+    Bytes::from_slice(alloc, line)
 }
 
 /// The verdict on a protocol whose parameters have single producers.

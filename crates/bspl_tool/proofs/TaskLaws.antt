@@ -1,0 +1,27 @@
+-- The laws of each task, and which answers are the only ones.
+use Rattle.std.proofs.Common.{◌≡◌, ℕ, Bool, true, List, sym, ◌∙◌}
+use Rattle.bspl_types.specs.declared.expanded.Expanded.{Expanded}
+use Rattle.protocol_expand.specs.Printed.{IsPrinted}
+use Rattle.bspl_tool.specs.declared.request.Task.{Task}
+use Rattle.bspl_tool.specs.declared.request.Task.TheVariants.{Expand, Verify}
+use Rattle.bspl_tool.specs.declared.status.Status.{Status}
+use Rattle.bspl_tool.specs.Answer.{IsAnswer, IsPartRefused}
+use Rattle.bspl_tool.specs.Laws.{IsOutput}
+use Rattle.bspl_tool.specs.Task.{is_determined}
+use Rattle.bspl_tool.proofs.CommandLaws.{CommandLaws}
+use Rattle.bspl_tool.proofs.ExpandLaws.{expand_laws}
+use Rattle.bspl_tool.proofs.VerifyLaws.{verify_laws}
+
+-- one line for each command
+pub laws_of : (task : Task) → CommandLaws (IsAnswer task) (IsPartRefused task)
+laws_of Expand = expand_laws
+laws_of (Verify brief) = verify_laws brief
+
+-- an expansion has one text
+abbrev pub OnePrinting : Type 0
+OnePrinting = (x : Expanded) (one other : List ℕ) → IsPrinted x one → IsPrinted x other → one ≡ other
+
+-- a task that is determined has one answer on a protocol and a part
+pub answered_once : OnePrinting → (task : Task) (x : Expanded) (part out out' : List ℕ) (status status' : Status) → is_determined task ≡ true → IsAnswer task x part out status → IsAnswer task x part out' status' → IsOutput out status out' status'
+answered_once printed Expand x part out out' status status' determined one other = (printed x out out' one.printed other.printed, one.done ∙ sym other.done)
+answered_once printed (Verify brief) x part out out' status status' determined one other = (one.text ∙ sym other.text, one.done ∙ sym other.done)

@@ -1,0 +1,83 @@
+ghost use Rattle.std.specs.Prelude.{◌≡◌, IfErr, IfOk, IsErrOf, map, string_bytes};
+ghost use Rattle.bspl_io.specs.Faults.{HasCounted};
+ghost use Rattle.bspl_tool.specs.Output.{AnswersInput};
+ghost use Rattle.bspl_tool.specs.Refusals.{RefusesInput};
+ghost use Rattle.bspl_tool.specs.inner.Error.{HasFailed, RejectsFor};
+ghost use Rattle.bspl_tool.specs.inner.Reply.{IsAborted, IsCause, IsReply};
+
+use super::answer_error::{Aborted, AnswerError};
+use super::expand_command::expand;
+use super::input_protocol::protocol_of;
+use super::limits::INPUT_LIMIT;
+use super::refusal::InputRefusal;
+use super::rejection_text::rejection_line;
+use super::reply::Reply;
+use super::request::{Request, Task, read_request};
+use super::status::Status;
+use super::texts::usage_text;
+use super::verify_command::verify;
+use bspl_io::{Source, read_all};
+use command_line::one_line;
+use std::alloc::Global;
+
+/// Answers the task on an input that was read.
+fn answer_input(alloc: Global, task: Task, name: &[u8], input: &[u8]) -> Result<Reply, AnswerError>
+    ensures ok { IfOk result (λ reply.
+        AnswersInput task name.now input.now reply.text reply.status) }
+    ensures refused { IfErr result (RejectsFor (RefusesInput task name.now input.now)) }
+{
+    let protocol = protocol_of(alloc, name, input)?;
+    match task {
+        Task::Expand => Ok(expand(alloc, &protocol)?),
+        Task::Verify { brief } => verify(alloc, brief, &protocol),
+    }
+}
+
+/// Answers the arguments. The input is read only if they request it.
+fn answer_args<R: Source>(
+    alloc: Global,
+    args: &[String],
+    input: &mut R,
+) -> Result<Reply, AnswerError>
+    ensures ok { IfOk result
+        (IsReply (map string_bytes args.now) (R.remaining input.old) (R.remaining input.new)) }
+    ensures err { IfErr result
+        (IsCause (map string_bytes args.now) (R.remaining input.old) (R.remaining input.new)) }
+    ensures counted { HasFailed result → HasCounted (R.faults input.old) (R.faults input.new) }
+    ensures still { ¬ HasFailed result → R.faults input.new ≡ R.faults input.old }
+{
+    // law: arguments are one command line at most
+    one_line();
+    match read_request(alloc, args)? {
+        Request::Usage => Ok(Reply {
+            status: Status::Usage,
+            text: usage_text(alloc)?,
+        }),
+        Request::Unsupported => Err(AnswerError::from(InputRefusal::NotBuilt)),
+        Request::Do { task, name } => {
+            let bytes = read_all(alloc, input, INPUT_LIMIT)?;
+            answer_input(alloc, task, name, bytes.as_slice())
+        }
+    }
+}
+
+/// The reply to the arguments, or why nothing is to be written.
+pub fn reply_to<R: Source>(alloc: Global, args: &[String], input: &mut R) -> Result<Reply, Aborted>
+    ensures ok { IfOk result
+        (IsReply (map string_bytes args.now) (R.remaining input.old) (R.remaining input.new)) }
+    ensures err { IfErr result
+        (IsAborted (map string_bytes args.now) (R.remaining input.old) (R.remaining input.new)) }
+    ensures counted { IsErrOf result Aborted.ReadFault
+        → HasCounted (R.faults input.old) (R.faults input.new) }
+    ensures still { ¬ IsErrOf result Aborted.ReadFault
+        → R.faults input.new ≡ R.faults input.old }
+{
+    match answer_args(alloc, args, input) {
+        Ok(reply) => Ok(reply),
+        Err(AnswerError::Rejected(rejection)) => Ok(Reply {
+            status: Status::Refused,
+            text: rejection_line(alloc, &rejection)?,
+        }),
+        Err(AnswerError::Aborted(aborted)) => Err(aborted),
+    }
+}

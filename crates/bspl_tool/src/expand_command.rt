@@ -1,0 +1,18 @@
+ghost use Rattle.std.specs.Prelude.{IfOk};
+ghost use Rattle.bspl_tool.specs.ExpandAnswer.{IsExpandAnswer};
+
+use super::reply::Reply;
+use super::status::Status;
+use bspl_types::{Admitted, NoMemory};
+use protocol_expand::print_expanded;
+use std::alloc::Global;
+
+/// Answers `expand`.
+pub fn expand(alloc: Global, protocol: &Admitted) -> Result<Reply, NoMemory>
+    ensures { IfOk result (λ reply. IsExpandAnswer protocol.now reply.text reply.status) }
+{
+    Ok(Reply {
+        status: Status::Done,
+        text: print_expanded(alloc, protocol.expanded())?,
+    })
+}

@@ -1,0 +1,52 @@
+ghost use Rattle.std.specs.Prelude.{List, ℕ, IfOk, map, string_bytes};
+ghost use Rattle.command_line.specs.Line.{IsCommandLine};
+ghost use Rattle.bspl_tool.specs.Request.{IsRequest};
+
+use bspl_types::NoMemory;
+use command_line::{Command, CommandLine, Subject, command_line};
+use std::alloc::Global;
+
+/// What is done with the protocol that the arguments name.
+#[derive(Clone, Copy, Debug, PartialEq, Eq)]
+pub enum Task {
+    /// Its expansion is printed.
+    Expand,
+    /// It is verified. A brief verdict has no log.
+    Verify { brief: bool },
+}
+
+/// What the arguments request.
+#[derive(Clone, Copy, Debug, PartialEq, Eq)]
+pub enum Request<'a> {
+    /// They are no command line.
+    Usage,
+    /// A command that is not supported.
+    Unsupported,
+    /// A task on the protocol of that name.
+    Do { task: Task, name: &'a [u8] },
+}
+
+/// Reads what the arguments request.
+pub fn read_request<'a>(alloc: Global, args: &'a [String]) -> Result<Request<'a>, NoMemory>
+    ensures { IfOk result (IsRequest (map string_bytes args.now)) }
+{
+    match command_line(alloc, args)? {
+        Some(line) => Ok(request_of(line)),
+        None => Ok(Request::Usage),
+    }
+}
+
+/// What a command line requests.
+fn request_of(line: CommandLine<'_>) -> Request<'_>
+    ensures { (args : List (List ℕ)) → IsCommandLine args line.entry → IsRequest args result }
+{
+    let Subject::Protocol(name) = line.subject else {
+        return Request::Unsupported;
+    };
+    let task = match line.command {
+        Command::Expand => Task::Expand,
+        Command::Verify => Task::Verify { brief: line.brief },
+        _ => return Request::Unsupported,
+    };
+    Request::Do { task, name }
+}

@@ -1,0 +1,19 @@
+//! Tests of the command line's and the tool's public calls.
+#![tactic(auto)]
+
+#[cfg(test)]
+mod argument_tests;
+#[cfg(test)]
+mod call_tests;
+#[cfg(test)]
+mod expansion_tests;
+#[cfg(test)]
+mod option_tests;
+#[cfg(test)]
+mod refusal_tests;
+#[cfg(test)]
+mod refused_texts;
+#[cfg(test)]
+mod rejection_tests;
+#[cfg(test)]
+mod text_tests;
