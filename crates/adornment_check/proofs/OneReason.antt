@@ -78,7 +78,7 @@ IsLack keys params m r = (param : List ℕ) × (r ≡ NotWholeKey m.name param) 
 abbrev IsReason : List ℕ → List ParamInfo → Message → Refusal → Type 0
 IsReason keys params m r = IsSelf m r ⊎ (IsRepeat params m r ⊎ IsLack keys params m r)
 
--- each refusal but that for an error of memory is for such a reason
+-- each refusal but out of memory is for such a reason
 reason : (keys : List ℕ) (params : List ParamInfo) (m : Message) (r : Refusal) → r ≢ NoMemory → IsMessageRefusal keys params m r → IsReason keys params m r
 reason keys params m (SelfMessage message) not_memory both = inl (ap SelfMessage both.0, both.1)
 reason keys params m (RepeatedParam message param) not_memory both = inr (inl (param, ap (λ (n : List ℕ). RepeatedParam n param) both.0, both.1))

@@ -28,7 +28,7 @@ first_once keys params messages r s not_r not_s one other = elim (cases_order on
 abbrev IsReason : Expanded → Refusal → Type 0
 IsReason x r = ((r ≡ NoKey) × (x.keys ≡ [])) ⊎ RefusesBody x r
 
--- each refusal but that for want of memory is for such a reason
+-- each refusal but out of memory is for such a reason
 reason : (x : Expanded) (r : Refusal) → r ≢ NoMemory → IsNotAdmitted x r → IsReason x r
 reason x NoKey not_memory none = inl (refl, none)
 reason x NoMemory not_memory any = absurd (not_memory refl)
@@ -54,7 +54,7 @@ no_reason x r not_memory admitted (inr body) =
     (early (IsAdmittedMessage x.keys) x.messages first.index (length x.messages) first.message (subst (All (IsAdmittedMessage x.keys)) (sym (take_all (length x.messages) x.messages (omega arith))) admitted.each_message) first.there (slice_get_within x.messages first.index first.message first.there))
     first.refused
 
--- so there is one refusal
+-- there is one refusal
 pub refused_once : (x : Expanded) (r s : Refusal) → r ≢ NoMemory → s ≢ NoMemory → IsNotAdmitted x r → IsNotAdmitted x s → r ≡ s
 refused_once x r s not_r not_s is_r is_s = one_reason x r s not_r not_s (reason x r not_r is_r) (reason x s not_s is_s)
 

@@ -1,1 +1,2 @@
+-- Why an expansion is not admitted.
 pub mod NotAdmitted

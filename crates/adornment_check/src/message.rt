@@ -3,8 +3,9 @@ ghost use Rattle.std.specs.Prelude.{IsOk, IsTrue, MatchOption};
 ghost use Rattle.std.specs.List.{All, Any};
 ghost use Rattle.bspl_types.specs.Admission.{IsAdmittedMessage};
 ghost use Rattle.bspl_types.specs.Adornment.{Binds};
-ghost use Rattle.adornment_check.specs.NotAdmitted.{HasDistinctParams, IsFirstRepeatedParam, IsFirstMissing};
-ghost use Rattle.adornment_check.specs.NotAdmitted.{IsMessageRefusal, IsNameOfParam, RefusesMessage};
+ghost use Rattle.adornment_check.specs.NotAdmitted.{HasDistinctParams, IsFirstRepeatedParam};
+ghost use Rattle.adornment_check.specs.NotAdmitted.{IsFirstMissing, IsMessageRefusal};
+ghost use Rattle.adornment_check.specs.NotAdmitted.{IsNameOfParam, RefusesMessage};
 
 use bspl_types::{Carried, Message, Name, NoMemory, ParamInfo, Refusal, TryClone};
 
@@ -76,7 +77,8 @@ fn missing_key(keys: &[u32], m: &Message) -> Option<u32>
 /// The first parameter that equals one before it.
 #[tactic(auto, using(crate::proofs::Firsts::first_repeated, crate::proofs::Firsts::distinct_more))]
 fn first_repeated(carried: &[Carried]) -> Option<u32>
-    ensures { MatchOption result (HasDistinctParams carried.now) (IsFirstRepeatedParam carried.now) }
+    ensures { MatchOption result
+        (HasDistinctParams carried.now) (IsFirstRepeatedParam carried.now) }
 {
     for (index, c) in carried.iter().enumerate() {
         if has_param(&carried[..index], c.param) {
