@@ -10,7 +10,7 @@ use Rattle.std.proofs.lemmas.List.Sums.{sum_by-cons, sum_by-set, count_by-le-len
 use Rattle.clause_core.specs.declared.literal.Lit.{Lit}
 use Rattle.clause_core.specs.Literal.{negated}
 use Rattle.sat_solver.proofs.LiteralLemmas.{cases_bool, same_literal}
-use Rattle.sat_solver.specs.inner.LiteralSet.{IsLiteralSet, TakesOut, HasPositions}
+use Rattle.sat_solver.specs.inner.LiteralSet.{IsLiteralSet, TakesOut, HasCells}
 
 -- 1 for a cell that has a position
 abbrev weight : ℕ → ℕ
@@ -47,13 +47,13 @@ cases_variable m l same = elim (cases_bool m.positive l.positive) [
 ]
 
 -- the position of a member
-pub position-of : (lits : List Lit) (positions : List ℕ) (l : Lit) → HasPositions lits positions → Contains lits l → (k : ℕ) × (k < length lits) × (get_or positions (l.var - 1) 0 ≡ k + 1) × ((d : Lit) → get_or lits k d ≡ l)
+pub position-of : (lits : List Lit) (positions : List ℕ) (l : Lit) → HasCells lits positions → Contains lits l → (k : ℕ) × (k < length lits) × (get_or positions (l.var - 1) 0 ≡ k + 1) × ((d : Lit) → get_or lits k d ≡ l)
 position-of lits positions l finds among =
     let at = at_from_Contains lits l among in
     (at.0, at.1, subst (λ (m : Lit). get_or positions (m.var - 1) 0 ≡ at.0 + 1) (at.2 l) (finds.there at.0 l at.1), at.2)
 
 -- if no literal of the variable is in, its cell is empty
-pub empty-cell : (lits : List Lit) (positions : List ℕ) (l : Lit) → HasPositions lits positions → 0 < l.var → ¬ Contains lits l → ¬ Contains lits (negated l) → get_or positions (l.var - 1) 0 ≡ 0
+pub empty-cell : (lits : List Lit) (positions : List ℕ) (l : Lit) → HasCells lits positions → 0 < l.var → ¬ Contains lits l → ¬ Contains lits (negated l) → get_or positions (l.var - 1) 0 ≡ 0
 empty-cell lits positions l finds from_one none no_negation = by-position (get_or positions (l.var - 1) 0) refl
   where
     by-position : (n : ℕ) → get_or positions (l.var - 1) 0 ≡ n → get_or positions (l.var - 1) 0 ≡ 0
@@ -68,8 +68,8 @@ empty-cell lits positions l finds from_one none no_negation = by-position (get_o
         ]
 
 -- one more literal, whose cell was empty
-pub HasPositions-push : (lits : List Lit) (positions : List ℕ) (l : Lit) → HasPositions lits positions → 0 < l.var → l.var ≤ length positions → get_or positions (l.var - 1) 0 ≡ 0 → HasPositions (lits ++ l ∷ []) (set positions (l.var - 1) (length lits + 1))
-HasPositions-push lits positions l finds from_one exists empty = record {
+pub HasCells-push : (lits : List Lit) (positions : List ℕ) (l : Lit) → HasCells lits positions → 0 < l.var → l.var ≤ length positions → get_or positions (l.var - 1) 0 ≡ 0 → HasCells (lits ++ l ∷ []) (set positions (l.var - 1) (length lits + 1))
+HasCells-push lits positions l finds from_one exists empty = record {
   exist = rw (length-set positions (l.var - 1) (length lits + 1)) (All-push (λ m. (0 < m.var) × (m.var ≤ length positions)) lits l finds.exist (from_one, exists));
   there = λ k d within. elim (cases_eq k (length lits)) [
     | inl same ↦ rw (get_or_push lits l d k (sym same)) (get_or-set_same positions (l.var - 1) (length lits + 1) 0 (omega arith) ∙ ap (λ n. n + 1) (sym same))
@@ -114,8 +114,8 @@ abbrev pub cells_without : List ℕ → ℕ → Lit → Lit → List ℕ
 cells_without positions i l last = set (set positions (last.var - 1) (i + 1)) (l.var - 1) 0
 
 -- one literal less: the last one has its position
-pub HasPositions-remove : (lits : List Lit) (positions : List ℕ) (i : ℕ) (l last : Lit) → HasPositions lits positions → i < length lits → ((d : Lit) → get_or lits i d ≡ l) → last ≡ get_or lits (length lits - 1) last → HasPositions (without lits i last) (cells_without positions i l last)
-HasPositions-remove lits positions i l last finds within is_l at_end = record {
+pub HasCells-remove : (lits : List Lit) (positions : List ℕ) (i : ℕ) (l last : Lit) → HasCells lits positions → i < length lits → ((d : Lit) → get_or lits i d ≡ l) → last ≡ get_or lits (length lits - 1) last → HasCells (without lits i last) (cells_without positions i l last)
+HasCells-remove lits positions i l last finds within is_l at_end = record {
   exist = rw (length-set moved (l.var - 1) 0, length-set positions (last.var - 1) (i + 1))
       (All-tail (λ m. (0 < m.var) × (m.var ≤ length positions)) l (without lits i last) (All-permutation (λ m. (0 < m.var) × (m.var ≤ length positions)) lits (l ∷ without lits i last) (permuted lits i l last within is_l at_end) finds.exist));
   there = λ k d left. at-position k d (omega (arith, left, shorter));
@@ -191,7 +191,7 @@ HasPositions-remove lits positions i l last finds within is_l at_end = record {
         (omega (arith, before, shorter), rw (get_or-without lits i n last d before, get_or-set_other lits i n last d not_i) there.1)
 
 -- the literals of a set are of different variables
-pub IsLiteralSet-finds : (lits : List Lit) (positions : List ℕ) → HasPositions lits positions → length lits < 2 ^ 32 → IsLiteralSet (record { vars = length positions; lits = lits })
+pub IsLiteralSet-finds : (lits : List Lit) (positions : List ℕ) → HasCells lits positions → length lits < 2 ^ 32 → IsLiteralSet (record { vars = length positions; lits = lits })
 IsLiteralSet-finds lits positions finds few = record {
   exist = finds.exist;
   distinct = λ i j d before within same. (let clash : i + 1 ≡ j + 1 = sym (finds.there i d (omega (arith, before, within))) ∙ ap (λ v. get_or positions (v - 1) 0) same ∙ finds.there j d within in omega (arith, clash, before));
@@ -199,11 +199,11 @@ IsLiteralSet-finds lits positions finds few = record {
 }
 
 -- what is left has the others, and not the one that went
-pub TakesOut-without : (lits : List Lit) (positions : List ℕ) (i : ℕ) (l last : Lit) → HasPositions lits positions → i < length lits → ((d : Lit) → get_or lits i d ≡ l) → last ≡ get_or lits (length lits - 1) last → TakesOut lits l (without lits i last)
+pub TakesOut-without : (lits : List Lit) (positions : List ℕ) (i : ℕ) (l last : Lit) → HasCells lits positions → i < length lits → ((d : Lit) → get_or lits i d ≡ l) → last ≡ get_or lits (length lits - 1) last → TakesOut lits l (without lits i last)
 TakesOut-without lits positions i l last finds within is_l at_end = record {
   others = permuted lits i l last within is_l at_end;
   gone = λ among.
-      let at = position-of (without lits i last) (cells_without positions i l last) l (HasPositions-remove lits positions i l last finds within is_l at_end) among in
+      let at = position-of (without lits i last) (cells_without positions i l last) l (HasCells-remove lits positions i l last finds within is_l at_end) among in
       let l_exists : (0 < l.var) × (l.var ≤ length positions) = subst (λ (m : Lit). (0 < m.var) × (m.var ≤ length positions)) (is_l l) (finds.exist i l within) in
       let clash : at.0 + 1 ≡ 0 = sym at.2 ∙ get_or-set_same (set positions (last.var - 1) (i + 1)) (l.var - 1) 0 0 (omega (arith, l_exists, length-set positions (last.var - 1) (i + 1))) in
       omega (arith, clash);

@@ -5,7 +5,7 @@ use Rattle.std.specs.List.{count_by}
 use Rattle.std.proofs.lemmas.Bool.{cases_eq, cases_Bool, eqb-true, eq-eqb}
 use Rattle.std.proofs.lemmas.List.Sums.{sum_by-cons}
 use Rattle.list_base.proofs.Members.{here, there, nowhere, cons_cases}
-use Rattle.sat_solver.specs.inner.Gathering.{is_current}
+use Rattle.sat_solver.specs.inner.Gathered.{is_current}
 use Rattle.std.proofs.lemmas.List.{take_more, take_all}
 use Rattle.std.proofs.lemmas.List.Elements.{All-contains, All-push, Contains-append_left, Contains-push, Contains-push_cases, Contains-get_or}
 use Rattle.clause_core.specs.declared.literal.Lit.{Lit}

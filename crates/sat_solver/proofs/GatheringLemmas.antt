@@ -14,7 +14,7 @@ use Rattle.sat_trail.specs.Trail.{IsTrail}
 use Rattle.sat_solver.proofs.LiteralLemmas.{cases_member}
 use Rattle.sat_solver.specs.inner.LiteralSet.{LiteralSet, IsLiteralSet, TakesOut}
 use Rattle.sat_solver.specs.declared.false_lits.FalseLits.{FalseLits}
-use Rattle.sat_solver.specs.inner.Gathering.{is_current, AreFalse, AddsLiteral, AddsLiterals, ResolvesSet}
+use Rattle.sat_solver.specs.inner.Gathered.{is_current, AreFalse, AddsLiteral, AddsLiterals, ResolvesSet}
 use Rattle.sat_solver.proofs.LowerLemmas.{IsSet-false}
 
 -- the variable of a false literal exists

@@ -18,7 +18,7 @@ use Rattle.sat_trail.specs.State.{State, numbering_of}
 use Rattle.sat_solver.proofs.EntryLemmas.{values_of-prefix}
 use Rattle.sat_solver.specs.declared.false_lits.FalseLits.{FalseLits}
 use Rattle.sat_solver.specs.inner.Analysis.{Resolving}
-use Rattle.sat_solver.specs.inner.Gathering.{AreFalse, AddsLiterals, ResolvesSet, Gathers, StepsOver}
+use Rattle.sat_solver.specs.inner.Gathered.{AreFalse, AddsLiterals, ResolvesSet, Gathers, StepsOver}
 use Rattle.sat_solver.proofs.PositionLemmas.{number_one, IsAt, negated-negated, reason-clause, CanResolve-at, fails-under}
 
 -- one more link

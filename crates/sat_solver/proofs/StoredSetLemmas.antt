@@ -5,8 +5,8 @@ use Rattle.std.proofs.lemmas.List.{length-take-le, take_more_set, same_lists, ge
 use Rattle.std.proofs.lemmas.List.Elements.{All-contains, Contains-get_or}
 use Rattle.std.proofs.lemmas.List.Sorted.{length_permutation}
 use Rattle.clause_core.specs.declared.literal.Lit.{Lit}
-use Rattle.sat_solver.specs.inner.LiteralSet.{LiteralSet, IsLiteralSet, TakesOut, HasPositions, IsStoredSet}
-use Rattle.sat_solver.proofs.CellLemmas.{position-of, HasPositions-push, without, cells_without, length-without, get_or-without, HasPositions-remove, IsLiteralSet-finds, TakesOut-without, full-lt}
+use Rattle.sat_solver.specs.inner.LiteralSet.{LiteralSet, IsLiteralSet, TakesOut, HasCells, IsStoredSet}
+use Rattle.sat_solver.proofs.CellLemmas.{position-of, HasCells-push, without, cells_without, length-without, get_or-without, HasCells-remove, IsLiteralSet-finds, TakesOut-without, full-lt}
 
 -- the slots after the last literal moved
 take-without : (slots : List Lit) (len i : ℕ) (last : Lit) → i < len → len ≤ length slots → take (len - 1) (set slots i last) ≡ without (take len slots) i last
@@ -39,7 +39,7 @@ IsStoredSet-push slots len positions l stored from_one exists empty = record {
   few = rw (length-set positions (l.var - 1) (len + 1)) stored.few;
   filled = omega (arith, within, length-set slots len l);
   finds = rw (take_more_set slots len l within)
-      (subst (λ n. HasPositions (take len slots ++ l ∷ []) (set positions (l.var - 1) (n + 1))) (length-take-le len slots stored.filled) (HasPositions-push (take len slots) positions l stored.finds from_one exists empty));
+      (subst (λ n. HasCells (take len slots ++ l ∷ []) (set positions (l.var - 1) (n + 1))) (length-take-le len slots stored.filled) (HasCells-push (take len slots) positions l stored.finds from_one exists empty));
 }
   where
     within : len < length slots
@@ -57,7 +57,7 @@ IsStoredSet-remove slots len positions i l last stored within is_l at_end = reco
   few = rw (length-set (set positions (last.var - 1) (i + 1)) (l.var - 1) 0, length-set positions (last.var - 1) (i + 1)) stored.few;
   filled = omega (arith, length-set slots i last, stored.filled);
   finds = rw (take-without slots len i last within stored.filled)
-      (HasPositions-remove (take len slots) positions i l last stored.finds (omega (arith, within, all)) is_l (last-taken slots len last (omega (arith, within)) stored.filled at_end));
+      (HasCells-remove (take len slots) positions i l last stored.finds (omega (arith, within, all)) is_l (last-taken slots len last (omega (arith, within)) stored.filled at_end));
 }
   where
     all : length (take len slots) ≡ len

@@ -20,7 +20,7 @@ use Rattle.sat_solver.proofs.LiteralLemmas.{cases_literal, some-none}
 use Rattle.sat_solver.proofs.PositionLemmas.{IsAt, IsAt-trail, fails-under}
 use Rattle.sat_solver.specs.declared.false_lits.FalseLits.{FalseLits}
 use Rattle.sat_solver.specs.declared.analysis.Derivation.{Derivation}
-use Rattle.sat_solver.specs.inner.Gathering.{IsDerivationOf, Gathers, StepsOver}
+use Rattle.sat_solver.specs.inner.Gathered.{IsDerivationOf, Gathers, StepsOver}
 use Rattle.sat_solver.proofs.CurrentLemmas.{two-along, two-counted, counted-two}
 use Rattle.sat_solver.proofs.ConflictLemmas.{HasTwoCurrent-false}
 

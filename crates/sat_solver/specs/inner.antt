@@ -3,4 +3,4 @@ pub mod Search
 pub mod Progress
 pub mod LiteralSet
 pub mod Analysis
-pub mod Gathering
+pub mod Gathered

@@ -5,7 +5,7 @@ ghost use Rattle.sat_trail.specs.Entry.{values_of};
 ghost use Rattle.sat_trail.specs.State.{numbering_of};
 ghost use Rattle.sat_trail.specs.Trail.{IsTrail};
 ghost use Rattle.sat_solver.specs.inner.Analysis.{IsLearned, IsLowerLevel, Refuted, HasReason};
-ghost use Rattle.sat_solver.specs.inner.Gathering.{IsDerivationOf, Gathers, StepsOver};
+ghost use Rattle.sat_solver.specs.inner.Gathered.{IsDerivationOf, Gathers, StepsOver};
 
 use super::false_lits::FalseLits;
 use clause_core::{Clause, Lit, equal_members, lists_have_clauses};

@@ -3,8 +3,8 @@ ghost use Rattle.clause_core.specs.Literal.{negated};
 ghost use Rattle.clause_core.specs.Propagation.{MakesFalse, Falsifies, OthersFalse};
 ghost use Rattle.sat_trail.specs.Entry.{values_of};
 ghost use Rattle.sat_trail.specs.Trail.{IsTrail};
-ghost use Rattle.sat_solver.specs.inner.Gathering.{is_current, AreFalse};
-ghost use Rattle.sat_solver.specs.inner.Gathering.{AddsLiteral, AddsLiterals, ResolvesSet};
+ghost use Rattle.sat_solver.specs.inner.Gathered.{is_current, AreFalse};
+ghost use Rattle.sat_solver.specs.inner.Gathered.{AddsLiteral, AddsLiterals, ResolvesSet};
 ghost use Rattle.sat_solver.specs.inner.LiteralSet.{TakesOut};
 
 use super::lit_set::LitSet;
@@ -68,7 +68,7 @@ impl FalseLits {
         }
     }
 
-    /// Puts the other literals of the clause that forced the negation in position of the literal.
+    /// Puts the other literals of the clause that forced the negation in place of the literal.
     pub fn resolve(&mut self, trail: &Trail, pivot: Lit, reason: &[Lit])
         requires sound { IsTrail trail.now }
         requires are_false { AreFalse trail.now self.old }

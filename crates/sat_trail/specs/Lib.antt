@@ -1,3 +1,4 @@
+-- What contracts see of a trail, what each trail keeps, and what its calls do.
 pub mod State
 pub mod Trail
 pub mod Levels

@@ -16,13 +16,13 @@ pub record IsLiteralSet (s : LiteralSet) : Type 0 where
   pub distinct : AllPairs (λ l m. l.var ≢ m.var) s.lits
   pub few : length s.lits < 2 ^ 32
 
--- the literal was taken out, and the others may stand in another order
+-- the literal was taken out, and the order of the others may change
 pub record TakesOut (old : List Lit) (lit : Lit) (new : List Lit) : Type 0 where
   pub others : IsPermutation old (lit ∷ new)
   pub gone : ¬ Contains new lit
 
 -- the cell of each variable has the position of its literal, from 1, or 0
-pub record HasPositions (lits : List Lit) (positions : List ℕ) : Type 0 where
+pub record HasCells (lits : List Lit) (positions : List ℕ) : Type 0 where
   pub exist : VariablesExist (length positions) lits
   pub there : (k : ℕ) (d : Lit) → k < length lits →
       slice_index_or positions ((slice_index_or lits k d).var - 1) 0 ≡ k + 1
@@ -35,4 +35,4 @@ pub record IsStoredSet (slots : List Lit) (len : ℕ) (positions : List ℕ) : T
   pub room : length slots ≡ length positions
   pub few : length positions < 2 ^ 32
   pub filled : len ≤ length slots
-  pub finds : HasPositions (take len slots) positions
+  pub finds : HasCells (take len slots) positions

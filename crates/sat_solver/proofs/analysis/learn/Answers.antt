@@ -2,7 +2,7 @@
 use Rattle.std.proofs.Common.{arith}
 use Rattle.std.proofs.lemmas.Result.{IfOk-weaker}
 use Rattle.sat_solver.specs.inner.Analysis.{IsLearned}
-use Rattle.sat_solver.specs.inner.Gathering.{IsDerivationOf}
+use Rattle.sat_solver.specs.inner.Gathered.{IsDerivationOf}
 use Rattle.sat_solver.proofs.UipLemmas.{HasCurrent-start, HasReason-last, Gathers-at, Gathers-after, HasCurrent-after, IsLearned-gathered, gathered-some}
 use Rattle.sat_solver.proofs.analysis.learn.Goals as goal
 

@@ -1,6 +1,6 @@
 -- The literals are gathered up to the position, and one of the current level is left.
 use Rattle.sat_solver.specs.inner.Analysis.{HasCurrent}
-use Rattle.sat_solver.specs.inner.Gathering.{Gathers}
+use Rattle.sat_solver.specs.inner.Gathered.{Gathers}
 use Rattle.sat_solver.proofs.analysis.learn.Given as goal
 
 abbrev pub invariant-resolving : goal.invariant-resolving

@@ -2,7 +2,7 @@
 use Rattle.std.proofs.Common.{arith}
 use Rattle.std.proofs.lemmas.Result.{IfOk-weaker}
 use Rattle.sat_solver.specs.inner.Analysis.{Refuted}
-use Rattle.sat_solver.specs.inner.Gathering.{IsDerivationOf}
+use Rattle.sat_solver.specs.inner.Gathered.{IsDerivationOf}
 use Rattle.sat_solver.proofs.UipLemmas.{HasReason-0, Refuted-end}
 use Rattle.sat_solver.proofs.analysis.refute.Goals as goal
 

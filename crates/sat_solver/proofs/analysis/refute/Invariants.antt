@@ -1,5 +1,5 @@
 -- The entries that are left make the literals false.
-use Rattle.sat_solver.specs.inner.Gathering.{Gathers}
+use Rattle.sat_solver.specs.inner.Gathered.{Gathers}
 use Rattle.sat_solver.proofs.analysis.refute.Given as goal
 
 abbrev pub invariant-loop-position : goal.invariant-loop-position

@@ -2,7 +2,7 @@
 use Rattle.std.proofs.Common.{◌≤◌, sym, subst}
 use Rattle.std.proofs.lemmas.Bool.{iff_false}
 use Rattle.sat_solver.specs.inner.LiteralSet.{LiteralSet}
-use Rattle.sat_solver.specs.inner.Gathering.{AddsLiteral}
+use Rattle.sat_solver.specs.inner.Gathered.{AddsLiteral}
 use Rattle.sat_solver.proofs.GatheringLemmas.{false-exists, AddsLiteral-push, AddsLiteral-held, held}
 use Rattle.sat_solver.proofs.false_lits.FalseLits.insert.Goals as goal
 

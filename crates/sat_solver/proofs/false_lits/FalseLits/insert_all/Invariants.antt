@@ -1,6 +1,6 @@
 -- The literals that were passed are in.
 use Rattle.std.proofs.Common.{take}
-use Rattle.sat_solver.specs.inner.Gathering.{AreFalse, AddsLiterals}
+use Rattle.sat_solver.specs.inner.Gathered.{AreFalse, AddsLiterals}
 use Rattle.sat_solver.proofs.false_lits.FalseLits.insert_all.Given as goal
 
 abbrev pub invariant-loop-lit : goal.invariant-loop-lit

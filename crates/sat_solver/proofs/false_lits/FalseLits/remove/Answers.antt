@@ -1,6 +1,6 @@
 -- The others stay false, and the count falls where the literal is of the current level.
 use Rattle.std.proofs.Common.{◌≡◌, cond, rules}
-use Rattle.sat_solver.specs.inner.Gathering.{is_current}
+use Rattle.sat_solver.specs.inner.Gathered.{is_current}
 use Rattle.sat_solver.proofs.GatheringLemmas.{AreFalse-remove}
 use Rattle.sat_solver.proofs.false_lits.FalseLits.remove.Goals as goal
 
