@@ -8,7 +8,7 @@ use super::verdict::Verdict;
 use clause_core::Formula;
 use log_checker::{Reject, check_log};
 use refutation_log::Log;
-use sat_solver::{SearchStats, Outcome, solve_counted};
+use sat_solver::{Outcome, SearchStats, solve_counted};
 use std::alloc::Global;
 
 /// Decides the formula of a text with at most `budget` conflicts.
@@ -29,7 +29,12 @@ pub fn decide(alloc: Global, budget: u32, text: &[u8]) -> Result<Verdict, Refusa
 }
 
 /// The verdict that a log of the solver gives once it is checked.
-fn refuted(alloc: Global, formula: &Formula, log: &Log, effort: SearchStats) -> Result<Verdict, Refusal>
+fn refuted(
+    alloc: Global,
+    formula: &Formula,
+    log: &Log,
+    effort: SearchStats,
+) -> Result<Verdict, Refusal>
     requires { length formula.now.clauses + length log.now.steps < 2 ^ 32 }
     ensures { (text : List ℕ) → IsFormulaOf text formula.now → IfOk result (IsRight text) }
 {

@@ -5,7 +5,7 @@ ghost use Rattle.dimacs.specs.Dimacs.{header_words, text_words, words_of};
 ghost use Rattle.dimacs.specs.Token.{lines_left};
 
 use super::words::{next_word, uncommented};
-use refutation_log::{split_once, number_of};
+use refutation_log::{number_of, split_once};
 
 /// The most variables that a formula has.
 const VARIABLE_LIMIT: u32 = 16_777_215;

@@ -32,8 +32,8 @@ few_distinct {X} (x ∷ xs) ys distinct members =
     let parts = parted ys member.0 x member.1 member.2 in
     let rest : All (Contains (parts.0 ++ parts.1)) xs =
     λ k d within.
-        without parts.0 parts.1 x (get_or xs k d) (subst_list ys (parts.0 ++ x ∷ parts.1) (get_or xs k d) parts.2 (All-tail (Contains ys) x xs members k d within))
-        (λ same. distinct 0 (suc k) d (omega arith) (omega (arith, within)) (sym same)) in
+    without parts.0 parts.1 x (get_or xs k d) (subst_list ys (parts.0 ++ x ∷ parts.1) (get_or xs k d) parts.2 (All-tail (Contains ys) x xs members k d within))
+    (λ same. distinct 0 (suc k) d (omega arith) (omega (arith, within)) (sym same)) in
     let fewer : length xs ≤ length (parts.0 ++ parts.1) = few_distinct xs (parts.0 ++ parts.1) (λ i j d less within. distinct (suc i) (suc j) d (omega (arith, less)) (omega (arith, within))) rest in
     omega (arith, fewer, ap length parts.2, length-append parts.0 (x ∷ parts.1), length-append parts.0 parts.1)
   where

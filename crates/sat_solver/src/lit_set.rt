@@ -24,8 +24,8 @@ impl Model for LitSet {
     ghost Value = { LiteralSet };
 
     ghost view = { λ a. record {
-        vars = length a.positions.items;
-        lits = take a.len a.slots.items;
+      vars = length a.positions.items;
+      lits = take a.len a.slots.items;
     } };
 
     ghost invariant = { λ a. IsStoredSet a.slots.items a.len a.positions.items };
