@@ -24,7 +24,7 @@ use Rattle.bspl_parser.specs.declared.word.Word.{Word}
 use Rattle.bspl_parser.specs.Alike.{declaration_without_offsets, formal_without_offsets, item_without_offsets, key_without_offset, word_without_offset}
 use Rattle.bspl_parser.specs.Layout.{printed}
 use Rattle.flat_expansion.specs.Expansion.{adornment_of, private_param, public_param, IsCarried, IsExpansionOf, IsMessageOfItem}
-use Rattle.flat_expansion.specs.Flat.{IsUnkeyed}
+use Rattle.protocol_names.specs.Plain.{IsUnkeyed}
 use Rattle.protocol_expand.specs.Printed.{IsPrinted}
 use Rattle.protocol_expand.proofs.PlainPairs.{same_images, same_partners}
 use Rattle.protocol_expand.proofs.PlainParts.{private_part, public_adorned, public_part}
@@ -96,7 +96,7 @@ same_carried : (params : List ParamInfo) (f g : Formal) (c : Carried) → f.key 
 same_carried params f g c bare bare' carried carried' =
     same_formal f g
     (same_adorn f.adorn g.adorn (adorned_so f.adorn c.adornment carried.adorned) (adorned_so g.adorn c.adornment carried'.adorned) (carried.adorned ∙ sym carried'.adorned))
-    (same_name (λ (p : ParamInfo). p.name) params f.name.text g.name.text c.param (private_param f.name) carried.place carried'.place)
+    (same_name (λ (p : ParamInfo). p.name) params f.name.text g.name.text c.param (private_param f.name) carried.indexed carried'.indexed)
     (ap is_some (bare ∙ sym bare'))
 
 -- items of one message

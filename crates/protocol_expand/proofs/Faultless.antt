@@ -15,10 +15,10 @@ use Rattle.bspl_parser.specs.declared.document.Reference.{Reference as Use}
 use Rattle.bspl_parser.specs.declared.word.Word.{Word}
 use Rattle.protocol_names.specs.declared.fault.FaultKind.TheVariants.{Duplicate, Unknown, Arity, BadAdornment}
 use Rattle.protocol_names.specs.Fault.{HasNoFault, IsDuplicate, repeated, IsFaultIn, IsItemFault, IsUnsupported, other_arity}
-use Rattle.protocol_names.specs.FaultOrder.{HasNone, stands}
+use Rattle.protocol_names.specs.FaultOrder.{HasNone, holds}
 use Rattle.protocol_names.specs.Names.{IsSameArity, names_of, param_words, params_used, protocol_of, roles_used, texts}
 use Rattle.list_base.proofs.FirstIndex.{has_index}
-use Rattle.flat_expansion.specs.Ready.{AreDistinct, IsAdorned}
+use Rattle.flat_expansion.specs.WellScoped.{AreDistinct, IsAdorned}
 
 -- the item's roles and parameters are declared, and adorned as an expansion's are
 pub record IsFaultless (p : Declaration) (i : Item) : Type 0 where
@@ -44,8 +44,8 @@ none_at d p i no_fault among here kind offset fault = none_in d p no_fault among
 -- a parameter that is supported is adorned
 is_adorned : (f : Formal) → HasNone (IsUnsupported f) → IsAdorned f
 is_adorned f no_fault = record {
-  not_any = λ is. no_fault BadAdornment f.offset (stands (inl is));
-  not_opt = λ is. no_fault BadAdornment f.offset (stands (inr is));
+  not_any = λ is. no_fault BadAdornment f.offset (holds (inl is));
+  not_opt = λ is. no_fault BadAdornment f.offset (holds (inr is));
 }
 
 -- so an item of a protocol is faultless
@@ -55,10 +55,10 @@ item_is_faultless d p i no_fault among here =
     record {
       known_roles = λ k e within.
           let w = get_or (roles_used i) k e in
-          is_known (texts p.roles) w.text (λ unknown. none_here Unknown w.offset (inl (record { item = w; among = Contains-get_or (roles_used i) k e within; has = stands unknown })));
+          is_known (texts p.roles) w.text (λ unknown. none_here Unknown w.offset (inl (record { item = w; among = Contains-get_or (roles_used i) k e within; has = holds unknown })));
       known_params = λ k e within.
           let f = get_or (params_used i) k e in
-          is_known (texts (param_words p)) f.name.text (λ unknown. none_here Unknown f.name.offset (inr (inl (record { item = f; among = Contains-get_or (params_used i) k e within; has = inl (stands unknown) }))));
+          is_known (texts (param_words p)) f.name.text (λ unknown. none_here Unknown f.name.offset (inr (inl (record { item = f; among = Contains-get_or (params_used i) k e within; has = inl (holds unknown) }))));
       adorned = λ k e within.
           let f = get_or (params_used i) k e in
           is_adorned f (λ kind offset fault. none_here kind offset (inr (inl (record { item = f; among = Contains-get_or (params_used i) k e within; has = inr (inl fault) }))));
@@ -95,13 +95,13 @@ stands_before words i j e before within =
 -- words without a duplicate are apart
 words_are_apart : (words : List Word) → HasNone (IsDuplicate words) → AreDistinct words
 words_are_apart words no_fault = record {
-  apart = λ i j e before within same.
+  distinct = λ i j e before within same.
       let w = get_or words j e in
       no_fault Duplicate w.offset (repeated w (record {
-        front = take j words;
-        back = drop (suc j) words;
+        before = take j words;
+        after = drop (suc j) words;
         parts = sym (take-append-drop j words) ∙ ap (λ (rest : List Word). take j words ++ rest) (drop-cons words j e within);
-        before = subst (Contains (texts (take j words))) same (stands_before words i j e before within);
+        repeats = subst (Contains (texts (take j words))) same (stands_before words i j e before within);
       }));
 }
 

@@ -11,10 +11,12 @@ use Rattle.bspl_parser.specs.declared.document.Item.TheVariants.{Message, Refere
 use Rattle.bspl_parser.specs.declared.word.Word.{Word}
 use Rattle.bspl_parser.specs.Spelling.{IsDeclaration, IsFormal, IsItem, IsDocument}
 use Rattle.protocol_paths.specs.Flat.{IsFlat}
-use Rattle.flat_expansion.specs.Ready.{AreDistinct, IsAdorned, IsWellScoped, IsWellScopedItem}
-use Rattle.protocol_expand.specs.Asked.{IsFlatFor}
-use Rattle.protocol_expand.specs.Repeats.{AreOwn}
+use Rattle.flat_expansion.specs.WellScoped.{AreDistinct, IsAdorned, IsWellScoped, IsWellScopedItem}
+use Rattle.protocol_limits.specs.Laws.{MessagesAreCounted, PrivatesAreCounted}
+use Rattle.protocol_paths.specs.Laws.{PathsByItems}
+use Rattle.protocol_expand.specs.Repeats.{AreNamesDistinct}
 use Rattle.protocol_expand.proofs.Counted.{CarriesFew, counts_are_within, messages_carry_few}
+use Rattle.protocol_expand.proofs.Requested.{IsFlatRequest}
 use Rattle.protocol_expand.proofs.Resolved.{IsResolvedItem, items_are_resolved, public_is_adorned, roles_are_apart}
 
 -- a protocol of a document is as well formed as the document
@@ -49,23 +51,23 @@ flat_formed protocols top flat formed flattened items = record {
 }
 
 -- a protocol that an asked one stands for is ready to be expanded, if its names are its own
-pub flat_is_ready : (d : Document) (name : List ℕ) (flat : Declaration) → IsDocument d → IsFlatFor d name flat → AreOwn flat → IsWellScoped flat
-flat_is_ready d name flat formed stands_for own =
-    let number = stands_for.number in
-    let top = stands_for.top in
-    let asked = stands_for.asked in
-    let flattened = stands_for.flattened in
-    let within = stands_for.finite.within in
-    let resolved = items_are_resolved d name number top flat formed asked flattened in
+pub flat_is_ready : MessagesAreCounted → PrivatesAreCounted → PathsByItems → (d : Document) (name : List ℕ) (flat : Declaration) → IsDocument d → IsFlatRequest d name flat → AreNamesDistinct flat → IsWellScoped flat
+flat_is_ready messages privates paths d name flat formed is own =
+    let number = is.number in
+    let top = is.top in
+    let asked = is.requested in
+    let flattened = is.flattened in
+    let within = is.within in
+    let resolved = items_are_resolved paths d name number top flat formed asked flattened in
     let few = messages_carry_few d.protocols number top flat asked.stands within flattened in
     record {
       formed = flat_formed d.protocols top flat (top_formed d number top formed asked.stands) flattened (λ k e inside. item_formed flat (get_or flat.body k e) (resolved k e inside));
       messages = λ k e inside. item_ready flat (get_or flat.body k e) (resolved k e inside) (few k e inside);
       adorned = subst (All IsAdorned) (sym flattened.public) (public_is_adorned d name number top asked);
-      apart = record {
+      distinct = record {
         roles = subst AreDistinct (sym flattened.roles) (roles_are_apart d name number top asked);
         params = own.params;
         messages = own.messages;
       };
-      within = counts_are_within d.protocols number top flat asked.stands within flattened;
+      within = counts_are_within messages privates paths d.protocols number top flat asked.stands within flattened;
     }

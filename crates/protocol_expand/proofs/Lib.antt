@@ -1,24 +1,24 @@
-pub mod Gathered
-pub mod Faultless
-pub mod PathPlaces
-pub mod PathMessages
-pub mod Resolved
-pub mod Counted
-pub mod FlatReady
-pub mod Noted
-pub mod Asking
-pub mod OneFlat
-pub mod OneFirst
-pub mod OneAsked
-pub mod OwnNames
-pub mod Ways
-pub mod OneAnswer
-pub mod PlainPairs
-pub mod PlainParts
-pub mod PlainFaults
-pub mod PlainGraph
-pub mod PlainCounts
-pub mod PlainFlat
-pub mod Plain
-pub mod Unplaced
-pub mod BareSame
+mod Requested
+mod RequestLemmas
+mod Gathered
+mod Faultless
+mod PathPlaces
+mod PathMessages
+mod Resolved
+mod Counted
+mod FlatReady
+mod Noted
+mod OneFirst
+mod OwnNames
+mod OneFlat
+mod OneRequest
+mod AnswerLemmas
+mod OneAnswer
+mod PlainPairs
+mod PlainParts
+mod PlainGraph
+mod PlainCounts
+mod PlainFaults
+mod Plain
+mod Unplaced
+mod BareSame

@@ -11,14 +11,15 @@ use Rattle.bspl_parser.specs.declared.document.Schema.{Schema}
 use Rattle.bspl_parser.specs.declared.document.Formal.{Formal}
 use Rattle.bspl_parser.specs.declared.word.Word.{Word}
 use Rattle.protocol_names.specs.Names.{declared_word, texts}
-use Rattle.protocol_expand.specs.Repeats.{AreNoted, IsFirstRepeated}
+use Rattle.protocol_expand.specs.inner.Flat.{AreNoted}
+use Rattle.protocol_expand.specs.Repeats.{RepeatsFirst}
 
 -- a word whose name is new is apart from the others
 pub one_noted : (words : List Word) (w : Word) (names names' : List (List ℕ)) → AreNoted words names → ¬ Contains names w.text → names' ≡ names ++ w.text ∷ [] → AreNoted (words ++ w ∷ []) names'
 one_noted words w names names' noted new is_names = record {
   in_order = is_names ∙ ap (λ ns. ns ++ w.text ∷ []) noted.in_order ∙ sym (map-append (λ (u : Word). u.text) words (w ∷ []));
-  apart = record {
-    apart = all_pairs_push (λ (u v : Word). u.text ≢ v.text) words w noted.apart.apart
+  distinct = record {
+    distinct = all_pairs_push (λ (u v : Word). u.text ≢ v.text) words w noted.distinct.distinct
         (λ k e within same. new (subst (λ ns. Contains ns w.text) (sym noted.in_order)
         (k, omega (arith, length-map words (λ (u : Word). u.text), within), get_or-map (λ (u : Word). u.text) words k e w.text within ∙ same)));
   };
@@ -31,12 +32,12 @@ cut {X} xs i x within stands =
     sym (take-append-drop i xs) ∙ ap (λ (ys : List X). take i xs ++ ys) rest
 
 -- a word whose name was noted is the first that is repeated
-repeated_at : (words front back : List Word) (w : Word) (names : List (List ℕ)) → words ≡ front ++ w ∷ back → AreNoted front names → Contains (texts front) w.text → IsFirstRepeated words w.offset
-repeated_at words front back w names parts noted again = record { front = front; word = w; back = back; parts = parts; apart = noted.apart; again = again; placed = refl }
+repeated_at : (words front back : List Word) (w : Word) (names : List (List ℕ)) → words ≡ front ++ w ∷ back → AreNoted front names → Contains (texts front) w.text → RepeatsFirst words w.offset
+repeated_at words front back w names parts noted again = record { before = front; word = w; after = back; parts = parts; distinct = noted.distinct; repeats = again; located = refl }
 
 -- the name of a message
 pub message_repeated : (body : List Item) (i : ℕ) (x : Item) (s : Schema) (names : List (List ℕ)) → i < length body → x ≡ get_or body i x → x ≡ Message s →
-    AreNoted (flat_map declared_word (take i body)) names → Contains (texts (flat_map declared_word (take i body))) s.name.text → IsFirstRepeated (flat_map declared_word body) s.name.offset
+    AreNoted (flat_map declared_word (take i body)) names → Contains (texts (flat_map declared_word (take i body))) s.name.text → RepeatsFirst (flat_map declared_word body) s.name.offset
 message_repeated body i x s names within stands is_message noted again =
     repeated_at (flat_map declared_word body) (flat_map declared_word (take i body)) (flat_map declared_word (drop (i + 1) body)) s.name names
     (ap (flat_map declared_word) (cut body i x within stands) ∙ flat_map-append declared_word (take i body) (x ∷ drop (i + 1) body)
@@ -45,7 +46,7 @@ message_repeated body i x s names within stands is_message noted again =
 
 -- the name of a public parameter
 pub public_repeated : (public : List Formal) (private : List Word) (i : ℕ) (f : Formal) (names : List (List ℕ)) → i < length public → f ≡ get_or public i f →
-    AreNoted (map (λ g. g.name) (take i public)) names → Contains (texts (map (λ g. g.name) (take i public))) f.name.text → IsFirstRepeated (map (λ g. g.name) public ++ private) f.name.offset
+    AreNoted (map (λ g. g.name) (take i public)) names → Contains (texts (map (λ g. g.name) (take i public))) f.name.text → RepeatsFirst (map (λ g. g.name) public ++ private) f.name.offset
 public_repeated public private i f names within stands noted again =
     let word = λ (g : Formal). g.name in
     repeated_at (map word public ++ private) (map word (take i public)) (map word (drop (i + 1) public) ++ private) f.name names
@@ -55,7 +56,7 @@ public_repeated public private i f names within stands noted again =
 
 -- the name of a private parameter
 pub private_repeated : (front private : List Word) (i : ℕ) (w : Word) (names : List (List ℕ)) → i < length private → w ≡ get_or private i w →
-    AreNoted (front ++ take i private) names → Contains (texts (front ++ take i private)) w.text → IsFirstRepeated (front ++ private) w.offset
+    AreNoted (front ++ take i private) names → Contains (texts (front ++ take i private)) w.text → RepeatsFirst (front ++ private) w.offset
 private_repeated front private i w names within stands noted again =
     repeated_at (front ++ private) (front ++ take i private) (drop (i + 1) private) w names
     (ap (λ (ws : List Word). front ++ ws) (cut private i w within stands) ∙ sym (append_assoc front (take i private) (w ∷ drop (i + 1) private)))

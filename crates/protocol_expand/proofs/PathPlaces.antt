@@ -16,12 +16,15 @@ use Rattle.protocol_names.specs.Names.{param_words, protocol_of, texts}
 use Rattle.list_base.proofs.FirstIndex.{has_index}
 use Rattle.protocol_paths.specs.Flat.{privates_at}
 use Rattle.protocol_paths.specs.Path.{Step, paths, steps}
-use Rattle.protocol_paths.specs.Scope.{Scope, after, param_at, scope_at, prefix_after, role_at, stands_for}
-use Rattle.protocol_paths.proofs.Opened.{step_by}
+use Rattle.protocol_paths.specs.Scope.{Scope, after, param_at, scope_at, prefix_after, role_at, substituted}
 use Rattle.list_base.proofs.Mapped.{all_of_mapped}
 use Rattle.list_base.proofs.FirstIndex.{first_index}
 use Rattle.protocol_expand.proofs.Faultless.{arity_is_same, item_is_faultless}
 use Rattle.protocol_expand.proofs.Gathered.{all_of_gathered, among_found}
+
+-- the step by a reference to a protocol
+abbrev pub step_by : ℕ → Use → Declaration → Step
+step_by position r q = record { position = position; reference = r; target = q }
 
 -- the place is that of a protocol of the document, and has a known name for each role and parameter that it declares
 pub record IsSound (protocols : List Declaration) (roles params : List (List ℕ)) (place : Scope) : Type 0 where
@@ -36,7 +39,7 @@ pub record ArePrivatesKnown (protocols : List Declaration) (params : List (List 
   pub known : All (λ path. All (λ (name, _). Contains params name) (privates_at (scope_at place path))) (paths n protocols place.protocol)
 
 -- what stands for a declared name is one of the names at the place
-stands_among : (declared names known : List (List ℕ)) (name : List ℕ) → length names ≡ length declared → All (Contains known) names → Contains declared name → Contains known (stands_for declared names name)
+stands_among : (declared names known : List (List ℕ)) (name : List ℕ) → length names ≡ length declared → All (Contains known) names → Contains declared name → Contains known (substituted declared names name)
 stands_among declared names known name as_many all is_declared =
     let at = first_index (λ n. bytes_eq n name) declared ((has_index declared name).1 is_declared) in
     subst (λ (o : Option ℕ). Contains known (option_map_or (λ k. get_or names k name) o name)) (sym at.2) (all at.0 name (omega (arith, at.1, as_many)))

@@ -1,5 +1,5 @@
--- The parts of a protocol of messages alone, as its expansion tells them.
-use Rattle.std.proofs.Common.{◌≡◌, ◌≢◌, length, map, take, drop, None, sym, ◌∙◌, ap, subst}
+-- The parts of a protocol of messages alone, by its expansion.
+use Rattle.std.proofs.Common.{◌≡◌, ◌≢◌, length, map, take, drop, None, sym, ◌∙◌, subst}
 use Rattle.std.specs.List.{All}
 use Rattle.std.proofs.lemmas.List.{length-map}
 use Rattle.std.proofs.lemmas.List.Elements.{All-weaker}
@@ -9,12 +9,10 @@ use Rattle.bspl_types.specs.declared.protocol.ParamInfo.{ParamInfo}
 use Rattle.bspl_parser.specs.declared.document.Declaration.{Declaration}
 use Rattle.bspl_parser.specs.declared.document.Item.{Item}
 use Rattle.bspl_parser.specs.declared.document.Item.TheVariants as item
-use Rattle.protocol_names.specs.Names.{texts, message_words, param_words}
-use Rattle.protocol_paths.specs.Bare.{IsMessage}
+use Rattle.protocol_names.specs.Plain.{IsMessage}
 use Rattle.flat_expansion.specs.Expansion.{adornment_of, public_param, private_param, IsExpansionOf}
-use Rattle.flat_expansion.specs.Flat.{IsUnkeyed}
+use Rattle.protocol_names.specs.Plain.{IsUnkeyed}
 use Rattle.list_base.proofs.Mapped.{all_of_mapped}
-use Rattle.flat_expansion.proofs.Shaped.{message_texts, param_texts}
 use Rattle.protocol_expand.specs.Expansion.{IsPlain}
 
 -- an item with no `key` is a message
@@ -45,11 +43,3 @@ pub public_adorned : (p : Declaration) (x : Expanded) → IsExpansionOf p x → 
 public_adorned p x expands =
     all_of_mapped (λ (q : ParamInfo). q.adornment ≢ None) public_param p.public
     (subst (All (λ (q : ParamInfo). q.adornment ≢ None)) (sym (public_part p x expands)) x.shape.declared.public_adorned)
-
--- the parameters of the expansion have the declared names
-pub declared_params : (p : Declaration) (x : Expanded) → IsExpansionOf p x → map (λ q. q.name) x.params ≡ texts (param_words p)
-declared_params p x expands = ap (map (λ (q : ParamInfo). q.name)) expands.params ∙ param_texts p.public p.private
-
--- so the messages of the expansion have the declared names
-pub declared_messages : (p : Declaration) (x : Expanded) → IsExpansionOf p x → map (λ m. m.name) x.messages ≡ texts (message_words p)
-declared_messages p x expands = message_texts x.roles x.params p p.body x.messages expands.images

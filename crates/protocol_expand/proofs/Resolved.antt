@@ -17,10 +17,11 @@ use Rattle.protocol_names.specs.Names.{param_words, texts}
 use Rattle.protocol_paths.specs.Flat.{IsFlat, IsImage, IsImageFormal, IsImageItem, entry, privates_at}
 use Rattle.protocol_paths.specs.Path.{Step, message_paths, paths}
 use Rattle.protocol_paths.specs.Scope.{Scope, scope_at, start}
-use Rattle.flat_expansion.specs.Ready.{AreDistinct, IsAdorned}
+use Rattle.flat_expansion.specs.WellScoped.{AreDistinct, IsAdorned}
 use Rattle.list_base.proofs.Mapped.{all_of_mapped}
 use Rattle.list_base.proofs.Zipped.{seconds}
-use Rattle.protocol_expand.specs.Asked.{IsAsked}
+use Rattle.protocol_paths.specs.Laws.{PathsByItems}
+use Rattle.protocol_expand.proofs.Requested.{IsRequested}
 use Rattle.protocol_expand.proofs.Faultless.{declared_roles_are_apart, item_is_faultless, public_params_are_adorned}
 use Rattle.protocol_expand.proofs.Gathered.{all_of_gathered, among_mapped}
 use Rattle.protocol_expand.proofs.PathMessages.{IsFound, messages_are_found}
@@ -40,7 +41,7 @@ IsResolvedItem flat (Message s) = IsResolved flat s
 IsResolvedItem flat (Reference r) = ⊥
 
 -- the asked protocol is among those of the document
-top_among : (d : Document) (name : List ℕ) (number : ℕ) (top : Declaration) → IsAsked d name number top → Contains d.protocols top
+top_among : (d : Document) (name : List ℕ) (number : ℕ) (top : Declaration) → IsRequested d name number top → Contains d.protocols top
 top_among d name number top asked = (number, slice_get_within d.protocols number top asked.stands, get_or_from_slice_get d.protocols number top top asked.stands)
 
 -- a list whose items are paired with some is not empty
@@ -112,19 +113,19 @@ start_sound protocols top flat among is_flat =
     }
 
 -- each item of the flat protocol is a message that is resolved
-pub items_are_resolved : (d : Document) (name : List ℕ) (number : ℕ) (top flat : Declaration) → IsDocument d → IsAsked d name number top → IsFlat d.protocols top flat → All (IsResolvedItem flat) flat.body
-items_are_resolved d name number top flat formed asked is_flat =
+pub items_are_resolved : PathsByItems → (d : Document) (name : List ℕ) (number : ℕ) (top flat : Declaration) → IsDocument d → IsRequested d name number top → IsFlat d.protocols top flat → All (IsResolvedItem flat) flat.body
+items_are_resolved paths d name number top flat formed asked is_flat =
     let roles = texts flat.roles in
     let params = texts (param_words flat) in
     seconds (IsFound d.protocols roles params (start top)) (IsImageItem (start top)) (IsResolvedItem flat) (λ x i found image. resolved_item d flat (start top) x i formed asked.faultless found image)
     (message_paths (length d.protocols) d.protocols top) flat.body
-    (messages_are_found d roles params (length d.protocols) asked.faultless (start top) (start_sound d.protocols top flat (top_among d name number top asked) is_flat) (privates_known d.protocols top flat is_flat))
+    (messages_are_found paths d roles params (length d.protocols) asked.faultless (start top) (start_sound d.protocols top flat (top_among d name number top asked) is_flat) (privates_known d.protocols top flat is_flat))
     is_flat.body
 
 -- the public parameters of the asked protocol are adorned as an expansion's are
-pub public_is_adorned : (d : Document) (name : List ℕ) (number : ℕ) (top : Declaration) → IsAsked d name number top → All IsAdorned top.public
+pub public_is_adorned : (d : Document) (name : List ℕ) (number : ℕ) (top : Declaration) → IsRequested d name number top → All IsAdorned top.public
 public_is_adorned d name number top asked = public_params_are_adorned d top asked.faultless (top_among d name number top asked)
 
 -- and its roles have names of their own
-pub roles_are_apart : (d : Document) (name : List ℕ) (number : ℕ) (top : Declaration) → IsAsked d name number top → AreDistinct top.roles
+pub roles_are_apart : (d : Document) (name : List ℕ) (number : ℕ) (top : Declaration) → IsRequested d name number top → AreDistinct top.roles
 roles_are_apart d name number top asked = declared_roles_are_apart d top asked.faultless (top_among d name number top asked)

@@ -14,11 +14,12 @@ use Rattle.bspl_parser.specs.declared.document.Item.TheVariants as item
 use Rattle.bspl_parser.specs.declared.word.Word.{Word}
 use Rattle.bspl_parser.specs.Alike.{ReadsBack, declaration_without_offsets, formal_without_offsets, item_without_offsets, key_without_offset, word_without_offset}
 use Rattle.flat_expansion.specs.Expansion.{params_of, private_param, public_param, IsCarried, IsExpansionOf, IsMessageOfItem}
-use Rattle.flat_expansion.specs.Flat.{IsCanonical, IsUnkeyed}
+use Rattle.flat_expansion.specs.Canonical.{IsCanonical}
+use Rattle.protocol_names.specs.Plain.{IsUnkeyed}
 use Rattle.list_base.proofs.Mapped.{all_of_mapped}
-use Rattle.protocol_expand.specs.Expansion.{IsExpansion, IsPlain}
+use Rattle.protocol_expand.specs.Expansion.{Expands, IsPlain}
 use Rattle.protocol_expand.specs.Printed.{ExpandsBack}
-use Rattle.protocol_expand.proofs.Plain.{plain_expands}
+use Rattle.protocol_expand.specs.Laws.{PlainStandsForItself}
 use Rattle.protocol_expand.proofs.PlainPairs.{unmapped}
 
 -- what the words without places give, the words give
@@ -49,7 +50,7 @@ item_placed roles params (item.Message s) m image = record {
   named = image.named;
   sent = image.sent;
   received = image.received;
-  carries = unmapped (IsCarried params) (IsCarried params) formal_without_offsets (λ f c carried. record { place = carried.place; adorned = carried.adorned }) s.params m.carried image.carries;
+  carries = unmapped (IsCarried params) (IsCarried params) formal_without_offsets (λ f c carried. record { indexed = carried.indexed; adorned = carried.adorned }) s.params m.carried image.carries;
 }
 
 -- so a protocol has the expansion that it has without places
@@ -78,8 +79,8 @@ one_alike f x (y ∷ []) same = (y, refl, cc)
 one_alike f x (y ∷ z ∷ zs) same = absurd cc
 
 -- a text that is read back as a bare protocol expands to what the protocol does
-pub expands_back : (text : List ℕ) (p : Declaration) (x : Expanded) → IsExpansionOf p x → IsCanonical p → ReadsBack text (record { protocols = p ∷ [] }) → ExpandsBack text x
-expands_back text p x expands bare back =
+pub expands_back : PlainStandsForItself → (text : List ℕ) (p : Declaration) (x : Expanded) → IsExpansionOf p x → IsCanonical p → ReadsBack text (record { protocols = p ∷ [] }) → ExpandsBack text x
+expands_back law text p x expands bare back =
     let found = one_alike declaration_without_offsets p back.document.protocols (ap (λ (d : Document). d.protocols) back.alike) in
     let q = found.0 in
     let same : p ≡ declaration_without_offsets q = sym bare.without_offsets ∙ found.2 in
@@ -88,5 +89,5 @@ expands_back text p x expands bare back =
     record {
       document = back.document;
       read = back.read;
-      again = subst (λ name. IsExpansion back.document name x) (sym again.named) (plain_expands back.document q x found.1 plain again);
+      again = subst (λ name. Expands back.document name x) (sym again.named) (law.own back.document q x found.1 plain again);
     }

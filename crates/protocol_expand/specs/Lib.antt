@@ -1,6 +1,11 @@
--- The definitions that the contracts cite, in reading order.
-pub mod Asked
+-- The definitions that the contracts cite, in reading order: the protocol of a name, its expansion,
+-- why there is none, its text,
+-- and the laws.
+pub mod Request
 pub mod Expansion
 pub mod Repeats
-pub mod Refusing
+pub mod Refusals
 pub mod Printed
+pub mod Laws
+-- what private functions alone cite
+pub mod inner

@@ -1,8 +1,8 @@
 ghost use Rattle.std.specs.Prelude.{IfOk, IfErr};
 ghost use Rattle.flat_expansion.specs.Expansion.{IsExpansionOf};
-ghost use Rattle.flat_expansion.specs.Ready.{IsWellScoped};
-ghost use Rattle.protocol_expand.specs.Refusing.{RefusesFlat};
-ghost use Rattle.protocol_expand.specs.Repeats.{AreOwn};
+ghost use Rattle.flat_expansion.specs.WellScoped.{IsWellScoped};
+ghost use Rattle.protocol_expand.specs.Repeats.{AreNamesDistinct};
+ghost use Rattle.protocol_expand.specs.inner.Flat.{RefusesFlat};
 
 use super::repeats::repeated_name;
 use bspl_parser::Declaration;
@@ -12,7 +12,7 @@ use std::alloc::Global;
 
 /// The expansion of a flat protocol, unless two of its names are equal.
 pub fn expand_flat(alloc: Global, flat: &Declaration) -> Result<Expanded, Refusal>
-    requires { AreOwn flat.now → IsWellScoped flat.now }
+    requires { AreNamesDistinct flat.now → IsWellScoped flat.now }
     ensures ok { IfOk result (IsExpansionOf flat.now) }
     ensures refused { IfErr result (RefusesFlat flat.now) }
 {

@@ -1,33 +1,51 @@
-ghost use Rattle.std.specs.Prelude.{◌≡◌, ◌≢◌, ◌↔◌, ℕ, List, [], ◌∷◌};
-ghost use Rattle.bspl_types.specs.declared.expanded.Expanded.{Expanded as Protocol};
-ghost use Rattle.bspl_types.specs.declared.refusals.Refusal.{Refusal};
-ghost use Rattle.bspl_types.specs.declared.refusals.Refusal.TheVariants.{NoMemory};
-ghost use Rattle.bspl_parser.specs.declared.document.Declaration.{Declaration};
-ghost use Rattle.bspl_parser.specs.declared.document.Document.{Document};
-ghost use Rattle.flat_expansion.specs.Expansion.{IsExpansionOf};
-ghost use Rattle.protocol_expand.specs.Expansion.{IsExpansion, IsPlain};
-ghost use Rattle.protocol_expand.specs.Printed.{IsPrinted};
-ghost use Rattle.protocol_expand.specs.Refusing.{IsNotExpanded};
+ghost use Rattle.protocol_expand.specs.Laws.{AnswersAreDistinct, ExpansionsAreUnique};
+ghost use Rattle.protocol_expand.specs.Laws.{PlainStandsForItself, RefusalsAreUnique, TextsAreUnique};
+
+use bspl_parser::equal_words;
+use flat_expansion::{expansions_are_unique, expansions_keep_names};
+use protocol_limits::references_are_a_graph;
+use protocol_names::faults_have_causes;
+use protocol_paths::{paths_by_items, plain_protocols_are_flat};
+use reference_graph::{cycles_are_one, weights_add_up};
 
 /// A law: a name has one answer. It has one expansion at most, it is refused for one reason at most
-/// but for want of memory, and not both.
+/// but for out of memory, and not both.
 pub fn answers_once()
-    ensures expansions { (d : Document) (name : List ℕ) (x y : Protocol)
-        → IsExpansion d name x → IsExpansion d name y → x ≡ y }
-    ensures refusals { (d : Document) (name : List ℕ) (r s : Refusal) → r ≢ NoMemory
-        → s ≢ NoMemory → IsNotExpanded d name r → IsNotExpanded d name s → r ≡ s }
-    ensures apart { (d : Document) (name : List ℕ) (x : Protocol) (r : Refusal) → r ≢ NoMemory
-        → IsExpansion d name x → ¬ IsNotExpanded d name r }
-{}
+    ensures expansions { ExpansionsAreUnique }
+    ensures refusals { RefusalsAreUnique }
+    ensures distinct { AnswersAreDistinct }
+{
+    // law: words of one text and one offset are equal
+    equal_words();
+    // law: the first cycle ends at one node
+    cycles_are_one();
+    // law: a protocol of messages alone has one expansion at most
+    expansions_are_unique();
+    // law: an expansion has the declared names
+    expansions_keep_names();
+}
 
 /// A law: in a document of one plain protocol, the expansion of the protocol is its own.
 pub fn plain_protocols_stand_for_themselves()
-    ensures { (d : Document) (p : Declaration) (x : Protocol) → d.protocols ≡ p ∷ [] → IsPlain p
-        → IsExpansion d p.name.text x ↔ IsExpansionOf p x }
-{}
+    ensures { PlainStandsForItself }
+{
+    // law: words of one text and one offset are equal
+    equal_words();
+    // law: faults of names and parameters have their causes
+    faults_have_causes();
+    // law: what each item of a body leads to
+    paths_by_items();
+    // law: a plain protocol is its own flat protocol
+    plain_protocols_are_flat();
+    // law: the weight of a node is its own, and those of the nodes that it refers to
+    weights_add_up();
+    // law: the references of a document are a graph
+    references_are_a_graph();
+    // law: an expansion has the declared names
+    expansions_keep_names();
+}
 
 /// A law: an expansion has one text.
 pub fn prints_once()
-    ensures { (x : Protocol) (one other : List ℕ) → IsPrinted x one → IsPrinted x other
-        → one ≡ other }
+    ensures { TextsAreUnique }
 {}

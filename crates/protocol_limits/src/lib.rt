@@ -20,5 +20,6 @@ pub use laws::{
     messages_are_counted, numbers_are_of_protocols, privates_are_counted, references_are_a_graph,
     unrolled_have_orders, unrolled_paths_are_short,
 };
+pub use limit::Limit;
 pub use outcome::Survey;
 pub use precheck::survey;

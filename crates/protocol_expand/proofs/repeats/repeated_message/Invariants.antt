@@ -2,7 +2,7 @@
 use Rattle.std.proofs.Common.{take}
 use Rattle.std.specs.List.{flat_map}
 use Rattle.protocol_names.specs.Names.{declared_word}
-use Rattle.protocol_expand.specs.Repeats.{AreNoted}
+use Rattle.protocol_expand.specs.inner.Flat.{AreNoted}
 use Rattle.protocol_expand.proofs.repeats.repeated_message.Given as goal
 
 -- the names so far are apart

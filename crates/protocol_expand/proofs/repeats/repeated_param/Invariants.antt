@@ -1,6 +1,6 @@
 -- What has been noted of the parameters.
 use Rattle.std.proofs.Common.{◌++◌, map, take}
-use Rattle.protocol_expand.specs.Repeats.{AreNoted}
+use Rattle.protocol_expand.specs.inner.Flat.{AreNoted}
 use Rattle.protocol_expand.proofs.repeats.repeated_param.Given as goal
 
 -- the public names so far are apart

@@ -2,7 +2,7 @@
 use Rattle.std.proofs.Common.{sym, ◌∙◌}
 use Rattle.std.proofs.lemmas.Bool.{false≢true}
 use Rattle.protocol_expand.proofs.Noted.{one_noted}
-use Rattle.protocol_expand.proofs.repeats.is_again.Goals as goal
+use Rattle.protocol_expand.proofs.repeats.note_name.Goals as goal
 
 pub returns : goal.returns
 returns c = λ words noted.

@@ -9,10 +9,11 @@ use Rattle.bspl_parser.specs.Alike.{ReadsBack}
 use Rattle.bspl_parser.specs.Layout.{printed}
 use Rattle.bspl_parser.specs.Spelling.{IsDeclaration, IsDocument}
 use Rattle.flat_expansion.specs.Expansion.{IsExpansionOf}
-use Rattle.flat_expansion.specs.Flat.{IsCanonical}
+use Rattle.flat_expansion.specs.Canonical.{IsCanonical}
+use Rattle.protocol_expand.specs.Laws.{PlainStandsForItself}
 use Rattle.protocol_expand.specs.Printed.{ExpandsBack, IsPrinted}
 use Rattle.protocol_expand.proofs.Unplaced.{expands_back}
-use Rattle.protocol_expand.proofs.printing.print_expanded.Goals as goal
+use Rattle.protocol_expand.proofs.printed_text.print_expanded.Goals as goal
 
 -- a document of one protocol that is well formed is so
 formed_alone : (p : Declaration) (protocols : List Declaration) → protocols ≡ p ∷ [] → IsDeclaration p → IsDocument (record { protocols = protocols })
@@ -32,9 +33,9 @@ text_printed p x protocols (Ok text) alone expands bare layout = record {
 text_printed p x protocols (Err e) alone expands bare layout = tt
 
 -- and is read back so
-text_read : (p : Declaration) (x : Expanded) (protocols : List Declaration) (result : Result (List ℕ) NoMemory) → protocols ≡ p ∷ [] → IsExpansionOf p x → IsCanonical p → IfOk result (λ text. ReadsBack text (record { protocols = protocols })) → IfOk result (λ text. ExpandsBack text x)
-text_read p x protocols (Ok text) alone expands bare back = expands_back text p x expands bare (subst (λ (ps : List Declaration). ReadsBack text (record { protocols = ps })) alone back)
-text_read p x protocols (Err e) alone expands bare back = tt
+text_read : PlainStandsForItself → (p : Declaration) (x : Expanded) (protocols : List Declaration) (result : Result (List ℕ) NoMemory) → protocols ≡ p ∷ [] → IsExpansionOf p x → IsCanonical p → IfOk result (λ text. ReadsBack text (record { protocols = protocols })) → IfOk result (λ text. ExpandsBack text x)
+text_read law p x protocols (Ok text) alone expands bare back = expands_back law text p x expands bare (subst (λ (ps : List Declaration). ReadsBack text (record { protocols = ps })) alone back)
+text_read law p x protocols (Err e) alone expands bare back = tt
 
 pub print-requires : goal.print-requires
 print-requires c =
@@ -47,5 +48,5 @@ returns c =
     let alone : c.push.new.self ≡ p ∷ [] = c.in_ok-push.ensures.ok ∙ ap (λ (ps : List Declaration). ps ++ p ∷ []) c.new-protocols.ensures in
     record {
       text = text_printed p c.args.x.now c.push.new.self c.print.result alone c.in_ok-declaration_of.ensures.flat c.in_ok-declaration_of.ensures.bare c.print.ensures.layout;
-      read_back = text_read p c.args.x.now c.push.new.self c.print.result alone c.in_ok-declaration_of.ensures.flat c.in_ok-declaration_of.ensures.bare c.print.ensures.read_back;
+      read_back = text_read c.plain_protocols_stand_for_themselves.ensures p c.args.x.now c.push.new.self c.print.result alone c.in_ok-declaration_of.ensures.flat c.in_ok-declaration_of.ensures.bare c.print.ensures.read_back;
     }

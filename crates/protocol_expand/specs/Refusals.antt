@@ -8,10 +8,10 @@ use Rattle.bspl_parser.specs.declared.document.Document.{Document}
 use Rattle.protocol_names.specs.declared.fault.FaultKind.{FaultKind}
 use Rattle.protocol_names.specs.declared.fault.FaultKind.TheVariants as kind
 use Rattle.protocol_names.specs.Fault.{HasNoFault, IsFirstFault}
-use Rattle.reference_graph.specs.Closed.{IsFirstClosed}
-use Rattle.protocol_limits.specs.Graph.{graph_of, number_of}
+use Rattle.reference_graph.specs.Cycle.{IsFirstCycle}
+use Rattle.protocol_limits.specs.Graph.{graph_of, protocol_number}
 use Rattle.protocol_limits.specs.Survey.{IsTooLarge}
-use Rattle.protocol_expand.specs.Asked.{IsAsked, IsFlatFor}
+use Rattle.protocol_expand.specs.Request.{IsDeclaredAs, IsFlattening, IsWithinLimits}
 use Rattle.protocol_expand.specs.Repeats.{RepeatsName}
 
 -- the document's first fault is of that kind, at that offset
@@ -21,41 +21,48 @@ IsFaulty d kind offset = IsFirstFault d (record { kind = kind; offset = offset }
 -- the document has no fault, and no protocol of the name
 pub record IsMissing (d : Document) (name : List ℕ) : Type 0 where
   pub faultless : HasNoFault d
-  pub none : number_of d.protocols name ≡ None
+  pub none : protocol_number d.protocols name ≡ None
 
--- the walk along references, deep before wide, is the first to meet the protocol of that other name again
-pub record MeetsAgain (d : Document) (name again : List ℕ) : Type 0 where
+-- the first cycle of references from the protocol of the name ends at the protocol of that other
+-- name
+pub record HasCycle (d : Document) (name met : List ℕ) : Type 0 where
+  pub faultless : HasNoFault d
   pub number : ℕ
   pub top : Declaration
-  pub asked : IsAsked d name number top
+  pub declared : IsDeclaredAs d name number top
   pub node : ℕ
-  pub met : IsFirstClosed (graph_of d.protocols) number node
+  pub cycle : IsFirstCycle (graph_of d.protocols) number node
   pub protocol : Declaration
   pub stands : slice_get d.protocols node ≡ Some protocol
-  pub named : protocol.name.text ≡ again
+  pub named : protocol.name.text ≡ met
 
--- no protocol is met again, and a count is the first over its limit
+-- no path is a cycle, and a count is the first over its limit
 pub record HasTooMany (d : Document) (name : List ℕ) (what : What) (count : ℕ) : Type 0 where
+  pub faultless : HasNoFault d
   pub number : ℕ
   pub top : Declaration
-  pub asked : IsAsked d name number top
+  pub declared : IsDeclaredAs d name number top
   pub too_large : IsTooLarge d.protocols number what count
 
--- two names of the flat protocol are equal, the later at that offset
+-- all counts are within their limits, and two names of the flat protocol are equal, the later at
+-- that offset
 pub record HasEqualNames (d : Document) (name : List ℕ) (offset : ℕ) : Type 0 where
+  pub faultless : HasNoFault d
+  pub within : IsWithinLimits d name
   pub flat : Declaration
-  pub stands : IsFlatFor d name flat
+  pub flattens : IsFlattening d name flat
   pub repeats : RepeatsName flat offset
 
 -- why there is no expansion, unless memory ran out
 abbrev pub IsNotExpanded : Document → List ℕ → Refusal → Type 0
-IsNotExpanded d name (Duplicate offset) = IsFaulty d kind.Duplicate offset ⊎ HasEqualNames d name offset
+IsNotExpanded d name (Duplicate offset) = IsFaulty d kind.Duplicate offset
+    ⊎ HasEqualNames d name offset
 IsNotExpanded d name (Unknown offset) = IsFaulty d kind.Unknown offset
 IsNotExpanded d name (Arity offset) = IsFaulty d kind.Arity offset
 IsNotExpanded d name (BadAdornment offset) = IsFaulty d kind.BadAdornment offset
 IsNotExpanded d name (ForeignKey offset) = IsFaulty d kind.ForeignKey offset
 IsNotExpanded d name (NoProtocol missing) = (missing ≡ name) × IsMissing d name
-IsNotExpanded d name (Recursion again) = MeetsAgain d name again
+IsNotExpanded d name (Recursion met) = HasCycle d name met
 IsNotExpanded d name (Limit what count) = HasTooMany d name what count
 IsNotExpanded d name NoMemory = Unit {0}
 IsNotExpanded d name other = ⊥
@@ -67,9 +74,3 @@ refusal_at kind.Unknown offset = Unknown offset
 refusal_at kind.Arity offset = Arity offset
 refusal_at kind.BadAdornment offset = BadAdornment offset
 refusal_at kind.ForeignKey offset = ForeignKey offset
-
--- why a flat protocol has no expansion, unless memory ran out
-abbrev pub RefusesFlat : Declaration → Refusal → Type 0
-RefusesFlat flat (Duplicate offset) = RepeatsName flat offset
-RefusesFlat flat NoMemory = Unit {0}
-RefusesFlat flat other = ⊥
