@@ -1,3 +1,9 @@
-pub mod TokenLemmas
-pub mod Written
 pub mod Appended
+pub mod ArgumentLemmas
+pub mod CallLemmas
+pub mod Causes
+pub mod FormulaLemmas
+pub mod ReadingLemmas
+pub mod TokenLemmas
+pub mod ReplyLemmas
+pub mod Written

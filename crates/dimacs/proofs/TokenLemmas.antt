@@ -10,8 +10,9 @@ use Rattle.clause_core.specs.Clause.{HasExactly, VariablesExist}
 use Rattle.refutation_log.specs.LogText.{pivot_text}
 use Rattle.dimacs.specs.declared.token.Token.{Token}
 use Rattle.dimacs.specs.declared.token.Token.TheVariants.{Literal, End}
-use Rattle.dimacs.specs.Dimacs.{text_words, header_words, clause_words}
-use Rattle.dimacs.specs.Token.{AreClauses, HaveExactly, IsFormulaOf, clause_tokens, token_word}
+use Rattle.dimacs.specs.Dimacs.{HasHeader, clause_words, line_words, text_lines}
+use Rattle.dimacs.specs.Verdict.{HaveExactly, IsFormulaOf}
+use Rattle.dimacs.specs.inner.Reading.{AreClauses, clause_tokens, token_word}
 
 exactly_push : (clauses written : List (List Lit)) (c w : List Lit) → HaveExactly clauses written → HasExactly c w → HaveExactly (clauses ++ c ∷ []) (written ++ w ∷ [])
 exactly_push [] [] c w same one = (one, tt)
@@ -19,7 +20,7 @@ exactly_push [] (x ∷ xs) c w same one = absurd same
 exactly_push (x ∷ xs) [] c w same one = absurd same
 exactly_push (x ∷ xs) (y ∷ ys) c w same one = (same.0, exactly_push xs ys c w same.1 one)
 
-exactly_as_many : (clauses written : List (List Lit)) → HaveExactly clauses written → length clauses ≡ length written
+pub exactly_as_many : (clauses written : List (List Lit)) → HaveExactly clauses written → length clauses ≡ length written
 exactly_as_many [] [] same = refl
 exactly_as_many [] (y ∷ ys) same = absurd same
 exactly_as_many (x ∷ xs) [] same = absurd same
@@ -66,13 +67,13 @@ literal_words (l ∷ lits) = ap (λ ws. pivot_text l ∷ ws) (literal_words lits
 clause_tokens_words : (clause : List Lit) → map token_word (clause_tokens clause) ≡ clause_words clause
 clause_tokens_words clause = map-append token_word (map Literal clause) (End ∷ []) ∙ ap (λ ws. ws ++ token_word End ∷ []) (literal_words clause)
 
-words_of_tokens : (written : List (List Lit)) → map token_word (flat_map clause_tokens written) ≡ flat_map clause_words written
+pub words_of_tokens : (written : List (List Lit)) → map token_word (flat_map clause_tokens written) ≡ flat_map clause_words written
 words_of_tokens [] = refl
 words_of_tokens (w ∷ written) =
     map-append token_word (clause_tokens w) (flat_map clause_tokens written) ∙ ap (λ ws. ws ++ map token_word (flat_map clause_tokens written)) (clause_tokens_words w) ∙ ap (λ ws. clause_words w ++ ws) (words_of_tokens written)
 
 -- a written clause has no other variables than the clause
-variables_move : (vars : ℕ) (c w : List Lit) → HasExactly c w → VariablesExist vars c → VariablesExist vars w
+pub variables_move : (vars : ℕ) (c w : List Lit) → HasExactly c w → VariablesExist vars c → VariablesExist vars w
 variables_move vars c w same exist k d within =
     All-contains (λ l. (0 < l.var) × (l.var ≤ vars)) c (get_or w k d) exist ((same (get_or w k d)).1 (Contains-get_or w k d within))
 
@@ -84,16 +85,18 @@ written_variables vars (c ∷ cs) (w ∷ ws) same all =
     All-cons (VariablesExist vars) w ws (variables_move vars c w same.0 (All-head (VariablesExist vars) c cs all)) (written_variables vars cs ws same.1 (All-tail (VariablesExist vars) c cs all))
 
 -- header, tokens and clauses of a text make its formula
-pub formula_read : (text : List ℕ) (vars count : ℕ) (tokens : List Token) (left : List (List ℕ)) (clauses : List (List Lit)) (f : Formula) → text_words text ≡ header_words vars count ++ left → map token_word tokens ≡ left → AreClauses tokens clauses [] → length clauses ≡ count → f.vars ≡ vars → f.clauses ≡ clauses → IsFormulaOf text f
-formula_read text vars count tokens left clauses f begins reads are counted of_vars of_clauses =
+pub formula_read : (text : List ℕ) (vars count : ℕ) (after : List (List ℕ)) (tokens : List Token) (clauses : List (List Lit)) (f : Formula) → HasHeader (text_lines text) vars count after → map token_word tokens ≡ flat_map line_words after → AreClauses tokens clauses [] → length clauses ≡ count → f.vars ≡ vars → f.clauses ≡ clauses → IsFormulaOf text f
+formula_read text vars count after tokens clauses f header reads are counted of_vars of_clauses =
     let written = are.written in
-    let words : left ≡ flat_map clause_words written = sym reads ∙ ap (map token_word) (are.tokens_are ∙ append-nil (flat_map clause_tokens written)) ∙ words_of_tokens written in
+    let words : flat_map line_words after ≡ flat_map clause_words written = sym reads ∙ ap (map token_word) (are.tokens_are ∙ append-nil (flat_map clause_tokens written)) ∙ words_of_tokens written in
     let many : count ≡ length written = sym counted ∙ exactly_as_many clauses written are.same in
     let exactly = subst (λ cs. HaveExactly cs written) (sym of_clauses) are.same in
     record {
       written = written;
       read = record {
-        words = begins ∙ ap (λ n. header_words vars n ++ left) many ∙ ap (λ n. header_words n (length written) ++ left) (sym of_vars) ∙ ap (λ ws. header_words f.vars (length written) ++ ws) words;
+        after = after;
+        header = subst (λ n. HasHeader (text_lines text) n (length written) after) (sym of_vars) (subst (λ n. HasHeader (text_lines text) vars n after) many header);
+        clauses = words;
         variables = written_variables f.vars f.clauses written exactly f.variables_exist;
       };
       same = exactly;

@@ -1,11 +1,15 @@
 -- Clauses satisfy what the written ones do, and a formula of a text has a verdict.
-use Rattle.std.proofs.Common.{ℕ, Bool, List, [], ◌∷◌, Contains}
+use Rattle.std.proofs.Common.{ℕ, ◌+◌, ◌^◌, ◌≤◌, Bool, List, [], ◌∷◌, length, Contains, sym, subst}
 use Rattle.std.proofs.lemmas.List.Elements.{All-cons, All-head, All-tail}
 use Rattle.clause_core.specs.declared.literal.Lit.{Lit}
+use Rattle.clause_core.specs.Assignment.{valuation}
 use Rattle.clause_core.specs.declared.formula.Formula.{Formula}
 use Rattle.clause_core.specs.Clause.{Satisfies, SatisfiesAll, IsUnsatisfiable}
-use Rattle.dimacs.specs.Token.{HaveExactly, IsFormulaOf}
-use Rattle.dimacs.specs.Verdict.{IsReadWith}
+use Rattle.sat_solver.specs.Outcome.{IsModel}
+use Rattle.dimacs.specs.Dimacs.{IsDimacs}
+use Rattle.dimacs.specs.Verdict.{HaveExactly, IsFormulaOf, IsRefuted, IsSatisfied}
+use Rattle.dimacs.specs.inner.Reply.{HasTooMany}
+use Rattle.dimacs.proofs.TokenLemmas.{exactly_as_many}
 
 -- a clause is satisfied where one is whose literals it has
 satisfied_moves : (v : ℕ → Bool) (c w : List Lit) → ((l : Lit) → Contains c l → Contains w l) → Satisfies v c → Satisfies v w
@@ -29,20 +33,28 @@ clauses_satisfied v (c ∷ cs) [] same all = absurd same
 clauses_satisfied v (c ∷ cs) (w ∷ ws) same all =
     All-cons (Satisfies v) c cs (satisfied_moves v w c (λ l. (same.0 l).1) (All-head (Satisfies v) w ws all)) (clauses_satisfied v cs ws same.1 (All-tail (Satisfies v) w ws all))
 
--- what satisfies the formula of a text satisfies what is written there
-pub read_satisfied : (text : List ℕ) (f : Formula) (v : ℕ → Bool) → IsFormulaOf text f → SatisfiesAll v f.clauses → IsReadWith (SatisfiesAll v) text
-read_satisfied text f v is_formula all = record {
-  vars = f.vars;
+-- what satisfies the formula of a text, and has its variables, satisfies the text
+pub read_satisfied : (text : List ℕ) (f : Formula) (assignment : List Bool) → IsFormulaOf text f → IsModel f assignment → IsSatisfied text assignment
+read_satisfied text f assignment is_formula model = record {
   written = is_formula.written;
-  read = is_formula.read;
-  holds = written_satisfied v f.clauses is_formula.written is_formula.same all;
+  read = subst (λ n. IsDimacs text n is_formula.written) (sym model.whole) is_formula.read;
+  satisfies = written_satisfied (valuation assignment) f.clauses is_formula.written is_formula.same model.satisfies;
 }
 
--- where nothing satisfies the formula, nothing satisfies what is written
-pub read_unsatisfiable : (text : List ℕ) (f : Formula) → IsFormulaOf text f → IsUnsatisfiable f.clauses → IsReadWith IsUnsatisfiable text
+-- if nothing satisfies the formula, nothing satisfies what is written
+pub read_unsatisfiable : (text : List ℕ) (f : Formula) → IsFormulaOf text f → IsUnsatisfiable f.clauses → IsRefuted text
 read_unsatisfiable text f is_formula none = record {
   vars = f.vars;
   written = is_formula.written;
   read = is_formula.read;
-  holds = λ v all. none v (clauses_satisfied v f.clauses is_formula.written is_formula.same all);
+  none = λ v all. none v (clauses_satisfied v f.clauses is_formula.written is_formula.same all);
+}
+
+-- a formula whose clauses and the budget are too many
+pub read_too_many : (text : List ℕ) (f : Formula) (budget : ℕ) → IsFormulaOf text f → 2 ^ 32 ≤ length f.clauses + budget → HasTooMany text budget
+read_too_many text f budget is_formula many = record {
+  vars = f.vars;
+  written = is_formula.written;
+  read = is_formula.read;
+  many = subst (λ n. 2 ^ 32 ≤ n + budget) (exactly_as_many f.clauses is_formula.written is_formula.same) many;
 }

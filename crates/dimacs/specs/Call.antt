@@ -1,71 +1,43 @@
--- What one call writes for the bytes of its input.
-use Rattle.std.specs.Prelude.{◌≡◌, ℕ, Bool, true, false, List, Option, IfSome, ⊤, codes}
-use Rattle.std.specs.Io.KnownBytes.{Appends}
-use Rattle.dimacs.specs.declared.reply.Reply.{Reply}
-use Rattle.dimacs.specs.declared.reply.Reply.TheVariants as replies
+-- What one call reads and writes, by its status.
+use Rattle.std.specs.Prelude.{◌≡◌, ℕ, ◌≤◌, ◌⊎◌, List, Option, length}
+use Rattle.std.specs.Io.KnownBytes.{Appends, Consumes, IsAtEnd}
+use Rattle.bspl_io.specs.Sink.{AppendsPrefix}
+use Rattle.bspl_io.specs.Traffic.{Traffic}
 use Rattle.dimacs.specs.declared.status.Status.{Status}
 use Rattle.dimacs.specs.declared.status.Status.TheVariants as status
-use Rattle.dimacs.specs.declared.verdict.Verdict.{Verdict}
-use Rattle.dimacs.specs.declared.verdict.Verdict.TheVariants.{Satisfiable, Unsatisfiable, Unknown}
-use Rattle.dimacs.specs.Verdict.{IsRight}
-use Rattle.dimacs.specs.Answer.{answer_text}
+use Rattle.dimacs.specs.Arguments.{IsUsage}
+use Rattle.dimacs.specs.Output.{DimacsOutput, dimacs_input_limit}
 
--- the status of a verdict
-abbrev pub status_of : Verdict → Status
-status_of (Satisfiable assignment effort) = status.Satisfiable
-status_of (Unsatisfiable effort) = status.Unsatisfiable
-status_of (Unknown effort) = status.Unknown
+-- these bytes were read: all that remained, unless they are more than the limit
+pub record ReadsInput (old new : Option (List ℕ)) (input : List ℕ) : Type 0 where
+  pub consumed : Consumes old new input
+  pub at_end : length input ≤ dimacs_input_limit → IsAtEnd new
 
--- whether the status is that of a verdict
-abbrev pub is_verdict : Status → Bool
-is_verdict status.Satisfiable = true
-is_verdict status.Unsatisfiable = true
-is_verdict status.Unknown = true
-is_verdict status.Usage = false
-is_verdict status.Refused = false
-is_verdict status.ReadFault = false
-is_verdict status.WriteFault = false
-is_verdict status.NoMemory = false
+-- an output for the arguments and the bytes that were read was written whole
+pub record WritesOutput (args : List (List ℕ)) (t : Traffic) (end : Status) : Type 0 where
+  pub input : List ℕ
+  pub reads : ¬ IsUsage args → ReadsInput t.remaining t.remaining_after input
+  pub out : List ℕ
+  pub output : DimacsOutput args input out end
+  pub appended : Appends t.contents t.contents_after out
 
--- for some bytes, those left where they are told, the verdict is right, and this is its text
-pub record IsAnswer (left : Option (List ℕ)) (verdict : Verdict) (text : List ℕ) : Type 0 where
-  pub bytes : List ℕ
-  pub told : IfSome left (λ told. bytes ≡ told)
-  pub right : IsRight bytes verdict
-  pub text_is : text ≡ answer_text verdict
+-- a prefix of one was written
+pub record WritesPrefix (args : List (List ℕ)) (t : Traffic) : Type 0 where
+  pub input : List ℕ
+  pub reads : ¬ IsUsage args → ReadsInput t.remaining t.remaining_after input
+  pub out : List ℕ
+  pub end : Status
+  pub output : DimacsOutput args input out end
+  pub appended : AppendsPrefix t.contents t.contents_after out
 
--- such a text was written, and the status is that of its verdict
-pub record Writes (left old new : Option (List ℕ)) (status : Status) : Type 0 where
-  pub verdict : Verdict
-  pub status_is : status ≡ status_of verdict
-  pub text : List ℕ
-  pub answer : IsAnswer left verdict text
-  pub appended : Appends old new text
+-- how far an output came: nothing, a prefix, a prefix or nothing, or whole
+abbrev pub Writes : List (List ℕ) → Traffic → Status → Type 0
+Writes args t status.ReadFault = ¬ IsUsage args × (t.contents_after ≡ t.contents)
+Writes args t status.WriteFault = WritesPrefix args t
+Writes args t status.NoMemory = (t.contents_after ≡ t.contents) ⊎ WritesPrefix args t
+Writes args t end = WritesOutput args t end
 
--- the reply is no verdict, or the answer of a right one
-abbrev pub IsReply : Option (List ℕ) → Reply → Type 0
-IsReply left (replies.Decided verdict lines) = IsAnswer left verdict lines
-IsReply left replies.Usage = ⊤
-IsReply left (replies.Refused lines) = ⊤
-
--- the text and the status of a reply
-abbrev pub reply_text : Reply → List ℕ
-reply_text (replies.Decided verdict lines) = lines
-reply_text replies.Usage = codes "usage: dimacs_sat [--budget N]\n"
-reply_text (replies.Refused lines) = lines
-
-abbrev pub reply_status : Reply → Status
-reply_status (replies.Decided verdict lines) = status_of verdict
-reply_status replies.Usage = status.Usage
-reply_status (replies.Refused lines) = status.Refused
-
--- what the program ends with: as at the competitions of solvers, and as `bspl` does
-abbrev pub number_of : Status → ℕ
-number_of status.Satisfiable = 10
-number_of status.Unsatisfiable = 20
-number_of status.Unknown = 0
-number_of status.Usage = 3
-number_of status.Refused = 4
-number_of status.ReadFault = 5
-number_of status.WriteFault = 6
-number_of status.NoMemory = 7
+-- the call with these arguments: nothing is read for invalid ones, and the output is written
+pub record IsDimacsCall (args : List (List ℕ)) (t : Traffic) (end : Status) : Type 0 where
+  pub unread : IsUsage args → t.remaining_after ≡ t.remaining
+  pub written : Writes args t end

@@ -1,11 +1,11 @@
 //! Formulas in DIMACS form: read, decided, and answered as at the competitions of solvers.
 #![tactic(auto)]
 
-mod answering;
-mod calling;
+mod answer_text;
+mod arguments;
+mod call;
 mod clauses;
-mod command;
-mod deciding;
+mod decision;
 mod header;
 mod lines;
 mod refusal;
@@ -15,11 +15,8 @@ mod token;
 mod verdict;
 mod words;
 
-pub use calling::run;
-pub use deciding::decide;
+pub use call::run;
+pub use decision::decide;
 pub use refusal::Refusal;
 pub use status::Status;
 pub use verdict::Verdict;
-
-#[cfg(test)]
-mod tests;

@@ -1,6 +1,9 @@
-ghost use Rattle.std.specs.Prelude.{◌≡◌, map, IfOk};
+ghost use Rattle.std.specs.Prelude.{◌≡◌, ◌≤◌, ℕ, map, All, IfOk, IfErr};
 ghost use Rattle.std.specs.Option.{option_copied};
-ghost use Rattle.dimacs.specs.Token.{IsFormulaOf, lines_left, token_word};
+ghost use Rattle.dimacs.specs.Dimacs.{variable_limit};
+ghost use Rattle.dimacs.specs.Verdict.{IsFormulaOf};
+ghost use Rattle.dimacs.specs.inner.Reading.{IsUnread, TokenExists, lines_left, token_word};
+ghost use Rattle.dimacs.specs.inner.Reply.{IsCauseOf};
 
 use super::clauses::clauses_of;
 use super::header::start_of;
@@ -16,51 +19,53 @@ use std::alloc::Global;
 #[derive(Drop)]
 struct Tokens {
     items: Seq<Token>,
-    place: u32,
+    line: u32,
 }
 
 /// The formula that the text is.
 pub fn formula_of(alloc: Global, text: &[u8]) -> Result<Formula, Refusal>
-    ensures { IfOk result (IsFormulaOf text.now) }
+    ensures ok { IfOk result (IsFormulaOf text.now) }
+    ensures err { (budget : ℕ) → IfErr result (IsCauseOf text.now budget) }
 {
-    let start = match start_of(text) {
-        Ok(start) => start,
-        Err(place) => return Err(Refusal::Line(place)),
-    };
+    let start = start_of(text)?;
     let header = start.header;
-    let tokens = tokens_of(alloc, header.vars, start.rest, start.place)?;
+    let tokens = tokens_of(alloc, header.vars, start.rest, start.line)?;
     let Some(clauses) = clauses_of(alloc, tokens.items.as_slice())? else {
-        return Err(Refusal::Line(tokens.place));
+        return Err(Refusal::Line(tokens.line));
     };
     if clauses.len() as u64 != u64::from(header.clauses) {
-        return Err(Refusal::Line(tokens.place));
+        return Err(Refusal::Line(tokens.line));
     }
     match Formula::of(header.vars, clauses) {
         Some(formula) => Ok(formula),
-        None => Err(Refusal::Line(tokens.place)),
+        None => Err(Refusal::Line(tokens.line)),
     }
 }
 
+/// The tokens of the lines, the first of which has the number after `header_line`.
 fn tokens_of(
     alloc: Global,
     vars: u32,
     lines: Option<&[u8]>,
-    header_place: u32,
+    header_line: u32,
 ) -> Result<Tokens, Refusal>
-    ensures { IfOk result
+    requires { vars ≤ variable_limit }
+    ensures words { IfOk result
         (λ tokens. map token_word tokens.items ≡ lines_left (option_copied lines.entry)) }
+    ensures exist { IfOk result (λ tokens. All (TokenExists vars) tokens.items) }
+    ensures err { IfErr result (IsUnread vars (lines_left (option_copied lines.entry))) }
 {
     let mut items = Seq::new(alloc);
-    let mut place = header_place;
+    let mut line = header_line;
     let mut left = lines;
     while let Some(bytes) = left {
-        place = place.saturating_add(1);
-        let (line, rest) = split_once(bytes, b'\n');
-        match push_words(&mut items, vars, uncommented(line)) {
+        line = line.saturating_add(1);
+        let (first, rest) = split_once(bytes, b'\n');
+        match push_words(&mut items, vars, uncommented(first)) {
             Ok(()) => left = rest,
             Err(LineError::NoMemory) => return Err(Refusal::NoMemory),
-            Err(_) => return Err(Refusal::Line(place)),
+            Err(_) => return Err(Refusal::Line(line)),
         }
     }
-    Ok(Tokens { items, place })
+    Ok(Tokens { items, line })
 }

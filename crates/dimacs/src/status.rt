@@ -4,24 +4,25 @@ pub enum Status {
     Satisfiable,
     Unsatisfiable,
     Unknown,
-    /// The words are no command line.
+    /// The arguments are invalid.
     Usage,
     /// The input was refused, and the refusal written.
     Refused,
+    /// Nothing was written.
     ReadFault,
-    /// A front of the text was written.
+    /// A prefix of the text was written.
     WriteFault,
-    /// A front of the text was written, perhaps nothing.
+    /// A prefix of the text was written, perhaps nothing.
     NoMemory,
 }
 
 impl Status {
     ghost use Rattle.std.specs.Prelude.{◌≡◌};
-    ghost use Rattle.dimacs.specs.Call.{number_of};
+    ghost use Rattle.dimacs.specs.Status.{exit_number};
 
     /// The exit status of the program.
     pub fn number(self) -> u8
-        ensures { result ≡ number_of self }
+        ensures { result ≡ exit_number self }
     {
         match self {
             Status::Satisfiable => 10,

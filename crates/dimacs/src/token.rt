@@ -1,5 +1,6 @@
-ghost use Rattle.std.specs.Prelude.{◌≡◌, IfOk};
-ghost use Rattle.dimacs.specs.Token.{token_word};
+ghost use Rattle.std.specs.Prelude.{◌≡◌, ◌≢◌, ◌≤◌, IfOk, IfErr};
+ghost use Rattle.dimacs.specs.Dimacs.{variable_limit};
+ghost use Rattle.dimacs.specs.inner.Reading.{IsTokenWord, TokenExists, token_word};
 
 use clause_core::Lit;
 use refutation_log::{LineError, pivot_of};
@@ -14,7 +15,9 @@ pub enum Token {
 
 /// The token of a word, unless it is none or has a variable past `vars`.
 pub fn token_of(word: &[u8], vars: u32) -> Result<Token, LineError>
-    ensures { IfOk result (λ token. token_word token ≡ word.now) }
+    requires { vars ≤ variable_limit }
+    ensures ok { IfOk result (λ token. (token_word token ≡ word.now) × TokenExists vars token) }
+    ensures err { IfErr result (λ error. error ≢ LineError.NoMemory → ¬ IsTokenWord vars word.now) }
 {
     if word == b"0".as_slice() {
         return Ok(Token::End);

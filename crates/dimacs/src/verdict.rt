@@ -8,33 +8,35 @@ pub enum Verdict {
     /// This assignment satisfies it.
     Satisfiable {
         assignment: Assignment,
-        effort: SearchStats,
+        stats: SearchStats,
     },
     /// No assignment satisfies it, as a checked log shows.
     Unsatisfiable {
-        effort: SearchStats,
+        stats: SearchStats,
     },
     /// The allowed conflicts were not enough.
     Unknown {
-        effort: SearchStats,
+        stats: SearchStats,
     },
 }
 
 impl Verdict {
     ghost use Rattle.std.specs.Prelude.{◌≡◌};
-    ghost use Rattle.dimacs.specs.Answer.{effort_of};
-    ghost use Rattle.dimacs.specs.Call.{status_of};
+    ghost use Rattle.dimacs.specs.AnswerText.{stats_of};
+    ghost use Rattle.dimacs.specs.Status.{status_of};
 
-    pub fn effort(&self) -> SearchStats
-        ensures { result ≡ effort_of self.now }
+    /// How much was done for it.
+    pub fn stats(&self) -> SearchStats
+        ensures { result ≡ stats_of self.now }
     {
         match self {
-            Verdict::Satisfiable { effort, .. }
-            | Verdict::Unsatisfiable { effort }
-            | Verdict::Unknown { effort } => *effort,
+            Verdict::Satisfiable { stats, .. }
+            | Verdict::Unsatisfiable { stats }
+            | Verdict::Unknown { stats } => *stats,
         }
     }
 
+    /// The status of a call that writes it.
     pub fn status(&self) -> Status
         ensures { result ≡ status_of self.now }
     {

@@ -1,14 +1,15 @@
-ghost use Rattle.std.specs.Prelude.{◌≡◌, ◌++◌, ◌∷◌, [], map, MatchOption, OnOk, Some};
+ghost use Rattle.std.specs.Prelude.{◌≡◌, ◌≢◌, ◌≤◌, ◌++◌, ◌∷◌, [], map, All, MatchOption, OnOk, IfErr, Some};
 ghost use Rattle.std.specs.Option.{option_copied};
-ghost use Rattle.dimacs.specs.Dimacs.{is_blank, words_of, line_words};
-ghost use Rattle.dimacs.specs.Token.{blank_parts, words_left, token_word};
+ghost use Rattle.dimacs.specs.Dimacs.{line_words, parts_words, variable_limit, words_of};
+ghost use Rattle.dimacs.specs.inner.Reading.{IsTokenWord, TokenExists, blank_parts, words_left, token_word};
 
 use super::token::{Token, token_of};
 use list_base::Seq;
 use refutation_log::LineError;
 
-fn is_blank(byte: u8) -> bool
-    ensures { result ≡ is_blank byte }
+/// Whether the byte parts two words.
+fn parts_words(byte: u8) -> bool
+    ensures { result ≡ parts_words byte }
 {
     matches!(byte, b' ' | b'\t' | b'\r')
 }
@@ -17,9 +18,9 @@ fn is_blank(byte: u8) -> bool
 fn cut_at_blank(bytes: &[u8]) -> (&[u8], Option<&[u8]>)
     ensures { blank_parts (Some bytes.now) ≡ result.0.now ∷ blank_parts (option_copied result.1) }
 {
-    for (place, byte) in bytes.iter().enumerate() {
-        if is_blank(*byte) {
-            return (&bytes[..place], Some(&bytes[place + 1..]));
+    for (index, byte) in bytes.iter().enumerate() {
+        if parts_words(*byte) {
+            return (&bytes[..index], Some(&bytes[index + 1..]));
         }
     }
     (bytes, None)
@@ -43,7 +44,7 @@ pub fn next_word(fields: Option<&[u8]>) -> Option<(&[u8], Option<&[u8]>)>
     None
 }
 
-/// The line, or none of it where it is a comment.
+/// The line, or none of it if it is a comment.
 pub fn uncommented(line: &[u8]) -> &[u8]
     ensures { words_of result.now ≡ line_words line.now }
 {
@@ -53,10 +54,15 @@ pub fn uncommented(line: &[u8]) -> &[u8]
     }
 }
 
-/// Puts the tokens of the line's words at the end.
+/// Puts the tokens of the line's words at the end, unless one of them is no token.
 pub fn push_words(tokens: &mut Seq<Token>, vars: u32, line: &[u8]) -> Result<(), LineError>
-    ensures { OnOk result
+    requires { vars ≤ variable_limit }
+    ensures words { OnOk result
         (map token_word tokens.new ≡ map token_word tokens.old ++ words_of line.now) }
+    ensures exist { OnOk result
+        (All (TokenExists vars) tokens.old → All (TokenExists vars) tokens.new) }
+    ensures err { IfErr result (λ error. error ≢ LineError.NoMemory →
+        ¬ All (IsTokenWord vars) (words_of line.now)) }
 {
     let mut left = Some(line);
     while let Some((word, rest)) = next_word(left) {

@@ -1,6 +1,6 @@
 -- What is kept while tokens become clauses.
 use Rattle.std.proofs.Common.{take}
-use Rattle.dimacs.specs.Token.{AreClauses}
+use Rattle.dimacs.specs.inner.Reading.{AreClauses}
 use Rattle.dimacs.proofs.clauses.clauses_of.Given as goal
 
 -- the tokens so far are the clauses and the literals of the next one

@@ -1,9 +1,36 @@
--- Header, tokens and clauses make the formula of the text.
+-- Header, tokens and clauses make the formula of the text, or there is none.
 use Rattle.std.proofs.Common.{arith}
 use Rattle.dimacs.proofs.TokenLemmas.{formula_read}
+use Rattle.dimacs.proofs.FormulaLemmas.{no_end, other_count, variables_within}
+use Rattle.dimacs.proofs.ReadingLemmas.{handed_on, none_is_some}
+use Rattle.dimacs.proofs.Causes.{start_cause, words_cause}
 use Rattle.dimacs.proofs.lines.formula_of.Goals as goal
 
-pub returns-in-Some-of : goal.returns-in-Some-of
-returns-in-Some-of c =
-    let are = rw c.in-Some.is at c.in_ok-clauses.ensures in
-    formula_read c.args.text.now c.in-Ok.start.header.vars c.in-Ok.start.header.clauses c.in_ok-tokens.tokens.items _ c.in-Some.clauses c.in-Some-of.formula c.in-Ok.ensures c.in_ok-tokens.ensures (rw c.as_slice.ensures at are) (omega arith) c.in-Some-of.ensures.same.0 c.in-Some-of.ensures.same.1
+pub returns-in_err-start-clause-err : goal.returns-in_err-start-clause-err
+returns-in_err-start-clause-err c =
+    λ budget. handed_on _ _ _ c.from_residual.ensures.1 (start_cause c.args.text.now budget _ c.in_err-start.ensures.err)
+
+pub returns-in_err-tokens-clause-err : goal.returns-in_err-tokens-clause-err
+returns-in_err-tokens-clause-err c =
+    λ budget. handed_on _ _ _ c.from_residual-in_err-tokens.ensures.1 (words_cause c.args.text.now _ _ _ budget _ c.in_ok-start.ensures.ok c.in_err-tokens.ensures.err)
+
+pub returns-in_default-clause-err : goal.returns-in_default-clause-err
+returns-in_default-clause-err c =
+    let open_end = rw c.as_slice.ensures at (rw c.in_default.is at c.in_ok-clauses.ensures) in
+    λ budget. no_end c.args.text.now _ _ _ c.in_ok-tokens.tokens.items c.in_ok-start.ensures.ok c.in_ok-tokens.ensures.words c.in_ok-tokens.ensures.exist open_end
+
+pub returns-then-len-from-clause-err : goal.returns-then-len-from-clause-err
+returns-then-len-from-clause-err c =
+    let are = rw c.as_slice.ensures at (rw c.in-Some.is at c.in_ok-clauses.ensures) in
+    λ budget. other_count c.args.text.now _ _ _ c.in_ok-tokens.tokens.items c.in-Some.clauses c.in_ok-start.ensures.ok c.in_ok-tokens.ensures.words c.in_ok-tokens.ensures.exist are (λ same. c.if-len-from.true (omega arith))
+
+pub returns-in-Some-of-clause-ok : goal.returns-in-Some-of-clause-ok
+returns-in-Some-of-clause-ok c =
+    let are = rw c.as_slice.ensures at (rw c.in-Some.is at c.in_ok-clauses.ensures) in
+    formula_read c.args.text.now _ _ _ c.in_ok-tokens.tokens.items c.in-Some.clauses c.in-Some-of.formula c.in_ok-start.ensures.ok c.in_ok-tokens.ensures.words are (omega arith) c.in-Some-of.ensures.same.0 c.in-Some-of.ensures.same.1
+
+pub returns-clause-err : goal.returns-clause-err
+returns-clause-err c =
+    let are = rw c.as_slice.ensures at (rw c.in-Some.is at c.in_ok-clauses.ensures) in
+    let within = variables_within _ c.in_ok-tokens.tokens.items c.in-Some.clauses c.in_ok-tokens.ensures.exist are in
+    absurd (none_is_some c.of.result (c.of.ensures.exact.1 within) c.in-None.is)

@@ -1,7 +1,7 @@
 -- What is kept while empty parts are passed.
 use Rattle.std.proofs.Common.{◌≡◌, length}
 use Rattle.std.specs.Option.{option_copied}
-use Rattle.dimacs.specs.Token.{blank_parts, words_left}
+use Rattle.dimacs.specs.inner.Reading.{blank_parts, words_left}
 use Rattle.dimacs.proofs.words.next_word.Given as goal
 
 -- what was passed has no word

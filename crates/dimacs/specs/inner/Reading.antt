@@ -1,0 +1,66 @@
+-- What is learnt of a text word by word, and clause by clause.
+use Rattle.std.specs.Prelude.{◌≡◌, ℕ, ◌<◌, ◌≤◌, List, [], ◌∷◌, ◌++◌, map, filter, All, Option, Some, None, codes, ⊤}
+use Rattle.std.specs.List.{flat_map, slice_split}
+use Rattle.clause_core.specs.declared.literal.Lit.{Lit}
+use Rattle.refutation_log.specs.LogText.{pivot_text}
+use Rattle.refutation_log.specs.LineParts.{parts_in}
+use Rattle.dimacs.specs.declared.refusal.Refusal.{Refusal}
+use Rattle.dimacs.specs.declared.refusal.Refusal.TheVariants as refusals
+use Rattle.dimacs.specs.declared.refusal.Refusal.TheVariants.{Line, TooMany}
+use Rattle.dimacs.specs.declared.token.Token.{Token}
+use Rattle.dimacs.specs.declared.token.Token.TheVariants.{Literal, End}
+use Rattle.dimacs.specs.Dimacs.{HasHeader, parts_words, is_word, line_words}
+use Rattle.dimacs.specs.Verdict.{HaveExactly}
+
+-- the parts between blanks of what is left of a line, if anything is
+abbrev pub blank_parts : Option (List ℕ) → List (List ℕ)
+blank_parts None = []
+blank_parts (Some bytes) = slice_split parts_words bytes
+
+-- the words of what is left of a line
+abbrev pub words_left : Option (List ℕ) → List (List ℕ)
+words_left left = filter is_word (blank_parts left)
+
+-- the lines of what is left of a text
+abbrev pub lines_in : Option (List ℕ) → List (List ℕ)
+lines_in left = parts_in 10 left
+
+-- the words of the lines that are left
+abbrev pub lines_left : Option (List ℕ) → List (List ℕ)
+lines_left left = flat_map line_words (lines_in left)
+
+-- the word of a token
+abbrev pub token_word : Token → List ℕ
+token_word (Literal lit) = pivot_text lit
+token_word End = codes "0"
+
+-- the variable of the token's literal, if it is one, exists
+abbrev pub TokenExists : ℕ → Token → Type 0
+TokenExists vars (Literal lit) = (0 < lit.var) × (lit.var ≤ vars)
+TokenExists vars End = ⊤
+
+-- the word is that of a token whose variable exists
+abbrev pub IsTokenWord : ℕ → List ℕ → Type 0
+IsTokenWord vars word = (token : Token) × (token_word token ≡ word) × TokenExists vars token
+
+-- the refusal of lines of which the first that has words is no header, or of lines without words
+abbrev pub HasNoHeader : List (List ℕ) → Refusal → Type 0
+HasNoHeader lines (Line line) = (vars clauses : ℕ) (after : List (List ℕ)) → ¬ HasHeader lines vars clauses after
+HasNoHeader lines TooMany = ⊥
+HasNoHeader lines refusals.NoMemory = ⊤
+
+-- the refusal of words of which one is no token
+abbrev pub IsUnread : ℕ → List (List ℕ) → Refusal → Type 0
+IsUnread vars words (Line line) = ¬ All (IsTokenWord vars) words
+IsUnread vars words TooMany = ⊥
+IsUnread vars words refusals.NoMemory = ⊤
+
+-- the tokens of a clause
+abbrev pub clause_tokens : List Lit → List Token
+clause_tokens clause = map Literal clause ++ End ∷ []
+
+-- the tokens are the clauses, and the literals of a clause that has not ended
+pub record AreClauses (tokens : List Token) (clauses : List (List Lit)) (pending : List Lit) : Type 0 where
+  pub written : List (List Lit)
+  pub tokens_are : tokens ≡ flat_map clause_tokens written ++ map Literal pending
+  pub same : HaveExactly clauses written

@@ -1,0 +1,83 @@
+ghost use Rattle.std.specs.Prelude.{◌≡◌, ◌++◌, IfOk, OnOk};
+ghost use Rattle.dimacs.specs.AnswerText.{answer_text, assignment_lines, count_text, stats_line, value_line, value_lines, verdict_lines};
+
+use super::verdict::Verdict;
+use clause_core::{Assignment, Lit};
+use list_base::{Bytes, NoMemory};
+use refutation_log::{push_number, push_pivot};
+use sat_solver::SearchStats;
+use std::alloc::Global;
+
+/// The lines of a verdict.
+pub fn answer_of(alloc: Global, verdict: &Verdict) -> Result<Bytes, NoMemory>
+    ensures { IfOk result (λ text. text ≡ answer_text verdict.now) }
+{
+    let mut text = Bytes::new(alloc);
+    push_stats(&mut text, verdict.stats())?;
+    push_verdict(&mut text, verdict)?;
+    Ok(text)
+}
+
+/// Appends the lines of what is known.
+fn push_verdict(text: &mut Bytes, verdict: &Verdict) -> Result<(), NoMemory>
+    ensures { OnOk result (text.new ≡ text.old ++ verdict_lines verdict.now) }
+{
+    match verdict {
+        Verdict::Satisfiable { assignment, .. } => push_assignment(text, assignment),
+        Verdict::Unsatisfiable { .. } => text.append(b"s UNSATISFIABLE\n"),
+        Verdict::Unknown { .. } => text.append(b"s UNKNOWN\n"),
+    }
+}
+
+/// Appends the lines of an assignment that satisfies.
+fn push_assignment(text: &mut Bytes, assignment: &Assignment) -> Result<(), NoMemory>
+    ensures { OnOk result (text.new ≡ text.old ++ assignment_lines assignment.now) }
+{
+    text.append(b"s SATISFIABLE\n")?;
+    push_values(text, assignment)?;
+    text.append(b"v 0\n")
+}
+
+/// Appends the line that says how much was done.
+fn push_stats(text: &mut Bytes, stats: SearchStats) -> Result<(), NoMemory>
+    ensures { OnOk result (text.new ≡ text.old ++ stats_line stats) }
+{
+    push_count(text, b"c conflicts ", stats.conflicts)?;
+    push_count(text, b" decisions ", stats.decisions)?;
+    push_count(text, b" propagations ", stats.propagations)?;
+    text.push(b'\n')
+}
+
+/// Appends a number after its name.
+fn push_count(text: &mut Bytes, name: &[u8], count: u32) -> Result<(), NoMemory>
+    ensures { OnOk result (text.new ≡ text.old ++ count_text name.now count) }
+{
+    text.append(name)?;
+    push_number(text, count)
+}
+
+/// Appends a line for each variable.
+fn push_values(text: &mut Bytes, assignment: &Assignment) -> Result<(), NoMemory>
+    ensures { OnOk result (text.new ≡ text.old ++ value_lines 0 assignment.now) }
+{
+    for index in 0..assignment.vars() {
+        let var = index + 1;
+        push_value(
+            text,
+            Lit {
+                var,
+                positive: assignment.value(var),
+            },
+        )?;
+    }
+    Ok(())
+}
+
+/// Appends the line of a literal that is true.
+fn push_value(text: &mut Bytes, lit: Lit) -> Result<(), NoMemory>
+    ensures { OnOk result (text.new ≡ text.old ++ value_line lit) }
+{
+    text.append(b"v ")?;
+    push_pivot(text, lit)?;
+    text.push(b'\n')
+}
