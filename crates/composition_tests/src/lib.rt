@@ -6,6 +6,8 @@ mod flat_expansion_tests;
 #[cfg(test)]
 mod flat_limit_tests;
 #[cfg(test)]
+mod protocol_expand_tests;
+#[cfg(test)]
 mod protocol_limits_tests;
 #[cfg(test)]
 mod reference_graph_tests;
