@@ -1,7 +1,7 @@
 use adornment_check::admit;
 use bspl_types::{
-    Adornment, Carried, Event, Expanded, Instance, Key, Message, Name, NoMemory, ParamInfo, Seq,
-    TryClone, Value, Values, index_of,
+    Admitted, Adornment, Carried, Event, Expanded, Instance, Key, Message, Name, NoMemory,
+    ParamInfo, Seq, TryClone, Value, Values, index_of,
 };
 use std::alloc::Global;
 use std::process::Abort;
@@ -123,16 +123,26 @@ fn assemble(alloc: Global, parts: Parts) -> Result<Option<Expanded>, NoMemory> {
     Expanded::assemble(alloc, protocol, roles, params, parts.2, messages)
 }
 
+/// Whether the expansion is admitted, and a copy of what was admitted too.
+fn is_admitted(x: Expanded) -> Result<bool, NoMemory> {
+    match admit(x) {
+        Ok(admitted) => is_admitted_again(&admitted),
+        Err(_) => Ok(false),
+    }
+}
+
+/// Whether a copy of what was admitted is admitted.
+fn is_admitted_again(admitted: &Admitted) -> Result<bool, NoMemory> {
+    let copy = admitted.copy()?;
+    Ok(admit(copy.expanded().try_clone()?).is_ok())
+}
+
 /// Whether the protocol is admitted; nothing if the parts are not well formed.
 fn admits(alloc: Global, parts: Parts) -> Result<Option<bool>, NoMemory> {
-    let Some(x) = assemble(alloc, parts)? else {
-        return Ok(None);
-    };
-    let Ok(admitted) = admit(x) else {
-        return Ok(Some(false));
-    };
-    let copy = admitted.copy()?;
-    Ok(Some(admit(copy.expanded().try_clone()?).is_ok()))
+    match assemble(alloc, parts)? {
+        None => Ok(None),
+        Some(x) => Ok(Some(is_admitted(x)?)),
+    }
 }
 
 #[test]
