@@ -10,4 +10,6 @@ mod protocol_expand_tests;
 #[cfg(test)]
 mod protocol_limits_tests;
 #[cfg(test)]
+mod protocol_paths_tests;
+#[cfg(test)]
 mod reference_graph_tests;
