@@ -1,8 +1,9 @@
 -- What is answered, rejected or aborted, by the arguments and by the bytes that remained.
-use Rattle.std.proofs.Common.{◌≡◌, ◌≢◌, ◌↔◌, ℕ, ◌<◌, ◌≤◌, true, List, [], ◌++◌, length, Option, Some, None, Result, Err, refl, sym, ◌∙◌, ap, subst, arith, length-append}
+use Rattle.std.proofs.Common.{◌≡◌, ◌≢◌, ◌↔◌, ℕ, ◌<◌, ◌≤◌, Bool, true, List, [], ◌++◌, length, Option, Some, None, Result, Err, refl, sym, ◌∙◌, ap, subst, arith, length-append}
 use Rattle.std.specs.Prelude.{IsErrOf, IfSome}
 use Rattle.std.specs.Io.KnownBytes.{Consumes}
 use Rattle.bspl_types.specs.Limits.{input_limit}
+use Rattle.bspl_types.specs.declared.expanded.Expanded.{Expanded}
 use Rattle.bspl_types.specs.declared.refusals.Refusal.{Refusal}
 use Rattle.bspl_types.specs.declared.refusals.Refusal.TheVariants as refusal
 use Rattle.bspl_io.specs.Source.{ReadsAll, Takes}
@@ -16,8 +17,12 @@ use Rattle.bspl_tool.specs.declared.answer_error.AnswerError.TheVariants as erro
 use Rattle.bspl_tool.specs.declared.rejection.Rejection.{Rejection}
 use Rattle.bspl_tool.specs.declared.reply.Reply.{Reply}
 use Rattle.bspl_tool.specs.declared.request.Task.{Task}
+use Rattle.bspl_tool.specs.declared.request.Task.TheVariants.{Verify}
 use Rattle.bspl_tool.specs.declared.status.Status.{Status}
 use Rattle.bspl_tool.specs.declared.status.Status.TheVariants as status
+use Rattle.bspl_tool.specs.Answer.{IsAnswer}
+use Rattle.bspl_tool.specs.Input.{Declares}
+use Rattle.bspl_tool.specs.VerifyAnswer.{IsVerifyRefused}
 use Rattle.bspl_tool.specs.Call.{AreRemaining, RequestsInput, TakesInput}
 use Rattle.bspl_tool.specs.Output.{AnswersInput, Output, usage, refused, done}
 use Rattle.bspl_tool.specs.Parts.{protocol_text}
@@ -27,7 +32,7 @@ use Rattle.bspl_tool.specs.Request.{HasCommandLine, Requests, RequestsUnsupporte
 use Rattle.bspl_tool.specs.Texts.{usage_text}
 use Rattle.bspl_tool.specs.inner.Error.{RejectsFor, error_for, read_error}
 use Rattle.bspl_tool.specs.inner.Reply.{IsAborted, IsCause, IsRejected, IsReply}
-use Rattle.bspl_tool.proofs.OneRequest.{all_read, needs_no_part, requests_input, task_or_unsupported}
+use Rattle.bspl_tool.proofs.OneRequest.{all_read, judged_if_declared, needs_no_part, requests_input, task_or_unsupported}
 
 -- nothing is taken where the arguments request no input
 takes_nothing : (args : List (List ℕ)) (bytes : List ℕ) (remaining : Option (List ℕ)) (s : Status) → ¬ RequestsInput args → TakesInput args bytes remaining remaining s
@@ -148,3 +153,19 @@ rejection_replied args remaining after r text rejected is = record {
 -- memory ran out where a rejection was to be written
 pub rejection_aborted : (args : List (List ℕ)) (remaining after : Option (List ℕ)) (r : Rejection) → IsRejected args remaining after r → IsAborted args remaining after aborted.NoMemory
 rejection_aborted args remaining after r rejected = record { nothing = rejected.taken.nothing; read = λ is. absurd (cc) }
+
+-- an answer on the protocol that the protocol text declares
+pub task_answered : (task : Task) (name input : List ℕ) (x : Expanded) (out : List ℕ) (s : Status) → Declares name (protocol_text input) x → IsAnswer task x [] out s → AnswersInput task name input out s
+task_answered task name input x out s declares answer = record {
+  part = [];
+  has_part = needs_no_part task input;
+  protocol = x;
+  judged = judged_if_declared task name input x declares;
+  answer = answer;
+}
+
+-- an error of `verify` on it
+pub verify_refused : (brief : Bool) (name input : List ℕ) (x : Expanded) (e : AnswerError) → Declares name (protocol_text input) x → RejectsFor (IsVerifyRefused x) e → RejectsFor (RefusesInput (Verify brief) name input) e
+verify_refused brief name input x (error.Rejected r) declares refuses = RefusesInput.part [] x r refl declares refuses
+verify_refused brief name input x (error.Aborted aborted.ReadFault) declares refuses = absurd refuses
+verify_refused brief name input x (error.Aborted aborted.NoMemory) declares refuses = tt

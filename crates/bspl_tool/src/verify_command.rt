@@ -17,7 +17,8 @@ pub fn verify(alloc: Global, brief: bool, protocol: &Admitted) -> Result<Reply, 
     ensures refused { IfErr result (RejectsFor (IsVerifyRefused protocol.now)) }
 {
     let expanded = protocol.expanded();
-    if !single_producer(expanded) {
+    let safe = single_producer(expanded);
+    if !safe {
         return Err(AnswerError::from(InputRefusal::NotBuilt));
     }
     Ok(Reply {

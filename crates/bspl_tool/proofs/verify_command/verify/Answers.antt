@@ -9,16 +9,16 @@ use Rattle.bspl_tool.specs.VerifyAnswer.{IsVerifyAnswer, IsVerifyRefused}
 use Rattle.bspl_tool.specs.inner.Error.{RejectsFor}
 use Rattle.bspl_tool.proofs.verify_command.verify.Goals as goal
 
-pub returns-then-not-single_producer-clause-refused : goal.returns-then-not-single_producer-clause-refused
-returns-then-not-single_producer-clause-refused c =
+pub returns-then-not-safe-clause-refused : goal.returns-then-not-safe-clause-refused
+returns-then-not-safe-clause-refused c =
     subst (RejectsFor (IsVerifyRefused c.args.protocol.now)) (sym c.from.ensures)
-    (subst (λ x. IsVerifyRefused x not_built) c.expanded-expanded.ensures.same (record { rivals = iff_false c.single_producer.ensures.exact c.if-not-single_producer.true; refused = refl }))
+    (subst (λ x. IsVerifyRefused x not_built) c.expanded-expanded.ensures.same (record { rivals = iff_false c.single_producer-safe.ensures.exact c.if-not-safe.true; refused = refl }))
 
 pub returns-clause-ok : goal.returns-clause-ok
 returns-clause-ok c =
     subst (λ x. IsVerifyAnswer c.args.brief x c.in_ok-safe_text.field-0 Done) c.expanded-expanded.ensures.same (record {
-      produced_once = c.single_producer.ensures.exact.0 c.if-not-single_producer.false;
-      safe = c.single_producer.ensures.safe c.if-not-single_producer.false (subst IsAdmitted (sym c.expanded-expanded.ensures.same) c.expanded-expanded.ensures.admitted);
+      produced_once = c.single_producer-safe.ensures.exact.0 c.if-not-safe.false;
+      safe = c.single_producer-safe.ensures.safe c.if-not-safe.false (subst IsAdmitted (sym c.expanded-expanded.ensures.same) c.expanded-expanded.ensures.admitted);
       text = c.in_ok-safe_text.ensures ∙ ap (safe_text c.args.brief) c.as_slice.ensures;
       done = refl;
     })
