@@ -13,7 +13,7 @@ use list_base::{Bytes, NumberList};
 use std::alloc::Global;
 use std::marker::Model;
 
-/// A source in memory that hands out small pieces, and fails at the calls that it is told.
+/// A source in memory that hands out small pieces, and fails at the listed calls.
 #[derive(Drop)]
 pub struct MemSource {
     source: PlainSource,
@@ -53,7 +53,8 @@ impl Source for MemSource {
 
     fn read(&mut self, into: &mut [u8]) -> Result<usize, Failed>
         ensures bound { IfOk result (λ n. n ≤ length into.new) }
-        ensures bytes { ReadConsumes (Some self.old.remaining) (Some self.new.remaining) result into.new }
+        ensures bytes { ReadConsumes (Some self.old.remaining) (Some self.new.remaining)
+            result into.new }
         ensures counted { OnErr result
             (HasCounted self.old.schedule.faults self.new.schedule.faults) }
         ensures still { OnOk result (self.new.schedule.faults ≡ self.old.schedule.faults) }
@@ -64,7 +65,7 @@ impl Source for MemSource {
     }
 }
 
-/// A sink in memory that takes small pieces, and fails at the calls that it is told.
+/// A sink in memory that takes small pieces, and fails at the listed calls.
 #[derive(Drop)]
 pub struct MemSink {
     sink: PlainSink,
@@ -94,6 +95,7 @@ impl MemSink {
         }
     }
 
+    /// Lends the bytes that were written.
     pub fn written(&self) -> &[u8]
         ensures { result.now ≡ self.now.contents }
     {

@@ -25,6 +25,7 @@ impl Model for PlainSource {
 }
 
 impl PlainSource {
+    /// A source of these bytes.
     pub fn new(bytes: Bytes) -> PlainSource
         ensures { result ≡ bytes }
     {
@@ -76,6 +77,7 @@ impl Model for PlainSink {
 }
 
 impl PlainSink {
+    /// A sink without bytes yet.
     pub fn new(alloc: Global) -> PlainSink
         ensures { result ≡ [] }
     {
@@ -84,6 +86,7 @@ impl PlainSink {
         }
     }
 
+    /// Lends the bytes that were written.
     pub fn written(&self) -> &[u8]
         ensures { result.now ≡ self.now }
     {

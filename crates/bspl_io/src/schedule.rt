@@ -16,6 +16,7 @@ pub struct Schedule {
 }
 
 impl Schedule {
+    /// A schedule before its first call.
     pub fn new(piece: usize, fails: NumberList) -> Schedule
         ensures { result ≡ unstarted piece fails }
     {
@@ -43,6 +44,7 @@ impl Schedule {
     }
 }
 
+/// Whether the number is among these.
 fn is_listed(numbers: &[u32], number: u64) -> bool
     ensures { result ≡ list_any (λ n. n == number) numbers.now }
 {

@@ -9,7 +9,9 @@ use list_base::NoMemory;
 /// Why a piece was not written. Nothing of it was.
 #[derive(Clone, Copy, Debug, PartialEq, Eq)]
 pub enum Trouble {
+    /// Writing failed, and was counted.
     Failed,
+    /// Memory ran out.
     NoMemory,
 }
 
@@ -38,7 +40,9 @@ impl From<NoMemory> for Trouble {
 /// Why a text was not written whole. A prefix of it was.
 #[derive(Clone, Copy, Debug, PartialEq, Eq)]
 pub enum WriteRefusal {
+    /// Writing failed, and was counted.
     WriteFault,
+    /// Memory ran out.
     NoMemory,
 }
 
@@ -78,7 +82,8 @@ pub trait Sink {
 /// Writes the whole text, piece by piece.
 pub fn write_all<W: Sink>(sink: &mut W, bytes: &[u8]) -> Result<(), WriteRefusal>
     ensures ok { OnOk result (Appends (W.contents sink.old) (W.contents sink.new) bytes.now) }
-    ensures err { OnErr result (AppendsPrefix (W.contents sink.old) (W.contents sink.new) bytes.now) }
+    ensures err { OnErr result
+        (AppendsPrefix (W.contents sink.old) (W.contents sink.new) bytes.now) }
     ensures counted { IsErrOf result WriteRefusal.WriteFault →
         HasCounted (W.faults sink.old) (W.faults sink.new) }
     ensures still { ¬ IsErrOf result WriteRefusal.WriteFault →

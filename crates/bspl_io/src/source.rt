@@ -13,8 +13,11 @@ pub struct Failed;
 /// Why the text could not be read to its end.
 #[derive(Clone, Copy, Debug, PartialEq, Eq)]
 pub enum ReadRefusal {
+    /// Reading failed, and was counted.
     ReadFault,
+    /// More bytes than the limit came.
     TooLong,
+    /// Memory ran out.
     NoMemory,
 }
 

@@ -50,7 +50,7 @@ line_within input count next is_next =
     let with_lf = ap (λ l. length (line l)) (sym is_next.there) ∙ length_push next 10 in
     omega (arith, fits, whole, with_lf)
 
--- the lines before another are a front of the input
+-- the lines before another are a prefix of the input
 lines_are_front : (input : List ℕ) (count : ℕ) (next : List ℕ) → IsNext input count next → take (length (front_lines input count)) input ≡ front_lines input count
 lines_are_front input count next is_next =
     let front = front_lines input count in

@@ -1,4 +1,4 @@
--- The spelling of a byte is told from what follows it, and none begins with a quote.
+-- The spelling of a byte ends where it ends, whatever follows; none begins with a quote.
 use Rattle.std.proofs.Common.{◌≡◌, ◌≢◌, ℕ, ◌+◌, ◌*◌, ◌/◌, ◌%◌, ◌<◌, ◌≤◌, ◌⊎◌, true, false, List, [], ◌∷◌, ◌++◌, length, length-append, length-take, take, get_or, min, refl, sym, ap, subst, ◌∙◌, inl, inr, arith, lt-ltb, le-ltb}
 use Rattle.std.specs.Fmt.{digit_glyph}
 use Rattle.std.specs.List.{All}

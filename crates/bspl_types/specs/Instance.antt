@@ -18,8 +18,8 @@ pairs x i = zip (valued (message_of x i.message).carried) i.values
 abbrev pub Carries : Expanded → Instance → Adornment → ℕ → Value → Type 0
 Carries x i adornment p v = Contains (pairs x i) (record { param = p; adornment = adornment }, v)
 
--- its message exists, it has a value for each `in` and `out` parameter,
--- and its key parameters have the key's values
+-- its message exists, it has a value for each `in` and `out` parameter and one for each key, and
+-- its key parameters have the key's values
 pub record Fits (x : Expanded) (i : Instance) : Type 0 where
   pub known : i.message < length x.messages
   pub each_value : length i.values ≡ length (valued (message_of x i.message).carried)

@@ -13,4 +13,5 @@ pub mod Instance
 pub mod History
 pub mod Knowledge
 pub mod Admission
+pub mod Equality
 pub mod inner

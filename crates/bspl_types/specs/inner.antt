@@ -1,4 +1,3 @@
-pub mod Equality
 pub mod Padded
 pub mod Pieces
 pub mod Spelling

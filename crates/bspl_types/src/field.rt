@@ -75,7 +75,7 @@ fn is_closing_quote(rest: &[u8]) -> bool
     rest == b"\"".as_slice()
 }
 
-/// The first byte that is spelled, and what stands after its spelling.
+/// The first byte that is spelled, and what follows its spelling.
 fn read_byte(field: &[u8]) -> Option<(u8, &[u8])>
     ensures { MatchOption result (BeginsWithNone field.now)
         (λ read. field.now ≡ byte_spelling read.0 ++ read.1.now) }

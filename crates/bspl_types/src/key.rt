@@ -2,14 +2,15 @@ ghost use Rattle.std.specs.Prelude.{◌≡◌, ◌<◌, ◌≤◌, ◌↔◌, le
 ghost use Rattle.std.specs.Cmp.{partial_equiv_from_equiv};
 ghost use Rattle.bspl_types.specs.Limits.{key_limit, carried_limit};
 ghost use Rattle.bspl_types.specs.Value.{equal_values};
-ghost use Rattle.bspl_types.specs.inner.Equality.{equal_values_laws, equal_values_writes};
-ghost use Rattle.bspl_types.specs.inner.Equality.{values_writes};
+ghost use Rattle.bspl_types.specs.Equality.{equal_values_laws, equal_values_writes};
+ghost use Rattle.bspl_types.specs.Equality.{values_writes};
 
 use super::limits::{CARRIED_LIMIT, KEY_LIMIT};
 use super::value::{Value, are_equal};
 use std::hash::{Hash, Hasher};
 use std::marker::Model;
 
+/// What fills the cells after the values.
 const BLANK: Value = Value::Number(0);
 
 /// The values that tell enactments apart, in the order of the protocol's keys.

@@ -2,7 +2,7 @@ ghost use Rattle.std.specs.Prelude.{◌≡◌, ◌↔◌, ◌++◌, IsTrue, OnOk
 ghost use Rattle.std.specs.Cmp.{partial_equiv_from_equiv};
 ghost use Rattle.bspl_types.specs.Value.{same_value, equal_values, IsValue};
 ghost use Rattle.bspl_types.specs.ValueSpelling.{SpellsValue, value_spelling};
-ghost use Rattle.bspl_types.specs.inner.Equality.{same_value_laws, same_value_writes, value_writes};
+ghost use Rattle.bspl_types.specs.Equality.{same_value_laws, same_value_writes, value_writes};
 
 use super::field::{read_number, read_text};
 use super::spelling::spelled;

@@ -57,7 +57,8 @@ pub fn are_known(args: &[String]) -> bool
 pub fn raw_args_of<'a>(alloc: Global, args: &'a [String]) -> Result<Option<RawArgs<'a>>, NoMemory>
     requires { IsTrue (list_all (λ word. is_known (string_bytes word)) args.now) }
     ensures { IfOk result (λ found. MatchOption found
-        ((s : ParsedArgs) → ParsesTo (map string_bytes args.now) nothing_parsed s → ¬ HasNoRepeats s)
+        ((s : ParsedArgs) → ParsesTo (map string_bytes args.now) nothing_parsed s →
+        ¬ HasNoRepeats s)
         (λ given. ParsesTo (map string_bytes args.now) nothing_parsed (parsed_of given))) }
 {
     let command = clap_command(alloc)?;

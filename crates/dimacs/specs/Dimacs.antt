@@ -61,7 +61,8 @@ pub record IsHeader (words : List (List ℕ)) (vars clauses : ℕ) : Type 0 wher
   pub few_clauses : clauses ≤ clause_limit
 
 -- the first line that has words is a header, and these lines come after it
-pub record HasHeader (lines : List (List ℕ)) (vars clauses : ℕ) (after : List (List ℕ)) : Type 0 where
+pub record HasHeader
+    (lines : List (List ℕ)) (vars clauses : ℕ) (after : List (List ℕ)) : Type 0 where
   pub line : List ℕ
   pub found : from_first_words lines ≡ line ∷ after
   pub header : IsHeader (line_words line) vars clauses

@@ -31,9 +31,11 @@ pub data Decides (budget : ℕ) (input : List ℕ) : List ℕ → Status → Typ
   -- the input is too long
   too_long : dimacs_input_limit < length input → Decides budget input refused_length status.Refused
   -- it is no formula
-  no_formula : (line : ℕ) → IsNoFormula input → Decides budget input (refused_line line) status.Refused
+  no_formula : (line : ℕ) → IsNoFormula input
+      → Decides budget input (refused_line line) status.Refused
   -- it is one, and the verdict on it is right
-  decided : (verdict : Verdict) → length input ≤ dimacs_input_limit → IsRightVerdict input budget verdict
+  decided : (verdict : Verdict) → length input ≤ dimacs_input_limit
+      → IsRightVerdict input budget verdict
       → Decides budget input (answer_text verdict) (status_of verdict)
 
 -- the output and the status for the arguments and the input
@@ -41,5 +43,6 @@ pub data DimacsOutput (args : List (List ℕ)) (input : List ℕ) : List ℕ →
   -- the arguments are invalid
   usage : IsUsage args → DimacsOutput args input dimacs_usage status.Usage
   -- they give a budget
-  read : (budget : ℕ) (out : List ℕ) (end : Status) → HasBudget args budget → Decides budget input out end
+  read : (budget : ℕ) (out : List ℕ) (end : Status) → HasBudget args budget
+      → Decides budget input out end
       → DimacsOutput args input out end

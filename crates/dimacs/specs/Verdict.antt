@@ -44,7 +44,7 @@ pub record IsUndecided (text : List ℕ) (budget : ℕ) : Type 0 where
   pub log : Log
   pub spends : Spends formula budget log
 
--- the verdict on the text, with at most that many conflicts, is right
+-- the verdict on the text, with conflicts up to the budget, is right
 abbrev pub IsRightVerdict : List ℕ → ℕ → Verdict → Type 0
 IsRightVerdict text budget (Satisfiable assignment stats) = IsSatisfied text assignment
 IsRightVerdict text budget (Unsatisfiable stats) = IsRefuted text

@@ -1,4 +1,4 @@
-ghost use Rattle.std.specs.Prelude.{◌≡◌, ◌≢◌, [], ◌∷◌, map, string_bytes, drop, Err, IfOk, IfErr, IsOkAnd};
+ghost use Rattle.std.specs.Prelude.{◌≡◌, ◌≢◌, [], ◌∷◌, map, string_bytes, drop, Err, IfOk, IfErr, IsOkAnd, MatchResult};
 ghost use Rattle.std.specs.IoError.{error_kind};
 
 use std::alloc::Global;
@@ -26,7 +26,8 @@ pub fn args_after_name(alloc: Global, all: io::Result<Vec<String>>) -> io::Resul
     ensures text { IfOk all
         (λ named. IsOkAnd result (λ args. args.items ≡ drop 1 named.items)) }
     ensures not_text { IfErr all (λ error. error_kind error ≡ ErrorKind.InvalidData →
-        IfOk result (λ args. map string_bytes args.items ≡ [] ∷ [])) }
+        MatchResult result (λ args. map string_bytes args.items ≡ [] ∷ [])
+        (λ failure. error_kind failure ≡ ErrorKind.OutOfMemory)) }
     ensures other { IfErr all (λ error. error_kind error ≢ ErrorKind.InvalidData →
         result ≡ Err error) }
 {

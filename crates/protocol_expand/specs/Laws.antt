@@ -15,7 +15,7 @@ abbrev pub ExpansionsAreUnique : Type 0
 ExpansionsAreUnique = (d : Document) (name : List ℕ) (x y : Expanded) → IsExpansion d name x
     → IsExpansion d name y → x ≡ y
 
--- it is refused for one reason at most, but for want of memory
+-- it is refused for one reason at most, out of memory aside
 abbrev pub RefusalsAreUnique : Type 0
 RefusalsAreUnique = (d : Document) (name : List ℕ) (r s : Refusal) → r ≢ NoMemory → s ≢ NoMemory
     → IsNotExpanded d name r → IsNotExpanded d name s → r ≡ s

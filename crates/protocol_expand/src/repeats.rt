@@ -14,7 +14,8 @@ use std::alloc::Global;
 /// The offset of the first name that an equal one comes before: of the messages in order, and after
 /// them of the parameters.
 pub fn repeated_name(alloc: Global, flat: &Declaration) -> Result<Option<u64>, NoMemory>
-    ensures { IfOk result (λ found. MatchOption found (AreNamesDistinct flat.now) (RepeatsName flat.now)) }
+    ensures { IfOk result (λ found.
+        MatchOption found (AreNamesDistinct flat.now) (RepeatsName flat.now)) }
 {
     if let Some(offset) = repeated_message(alloc, flat.body.as_slice())? {
         return Ok(Some(offset));

@@ -110,7 +110,8 @@ fn step(
     requires sound { IsTrail trail.now }
     requires gathers { Gathers trail.now chain.old.first chain.old lits.old (position + 1) }
     requires reason { HasReason trail.now lits.old.set.lits position }
-    ensures steps { OnOk result (StepsOver trail.now chain.old chain.new lits.old lits.new position) }
+    ensures steps { OnOk result
+        (StepsOver trail.now chain.old chain.new lits.old lits.new position) }
     ensures vars { lits.new.set.vars ≡ trail.now.vars }
 {
     let lit = trail.at(position);

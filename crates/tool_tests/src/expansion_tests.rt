@@ -48,7 +48,7 @@ fn prints_expansions(rt: HostRuntime) -> Result<(), Fail> {
     Ok(())
 }
 
-/// Appends both parts that many times, with a number between them.
+/// Appends both parts once for each number, which comes between them.
 fn repeated(
     alloc: Global,
     out: &mut Bytes,

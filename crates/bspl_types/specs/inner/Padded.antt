@@ -16,12 +16,14 @@ pub record IsPadded {X : Type 0} (room : ℕ) (blank : X) (len : ℕ) (cells : L
 -- there are `len` items
 pub length_items : {X : Type 0} (room : ℕ) (blank : X) (len : ℕ) (cells : List X)
     → IsPadded room blank len cells → length (take len cells) ≡ len
-length_items room blank len cells is_padded = grind (arith, length-take, is_padded.few, is_padded.all)
+length_items room blank len cells is_padded =
+    grind (arith, length-take, is_padded.few, is_padded.all)
 
 -- the items, padded, are the cells
 pub padded_items : {X : Type 0} (room : ℕ) (blank : X) (len : ℕ) (cells : List X)
     → IsPadded room blank len cells → padded room blank (take len cells) ≡ cells
 padded_items room blank len cells is_padded =
-    ap (λ n. take len cells ++ replicate (room - n) blank) (length_items room blank len cells is_padded)
+    ap (λ n. take len cells ++ replicate (room - n) blank)
+    (length_items room blank len cells is_padded)
     ∙ ap (λ rest. take len cells ++ rest) (sym is_padded.rest)
     ∙ take-append-drop len cells

@@ -45,7 +45,8 @@ IsTokenWord vars word = (token : Token) × (token_word token ≡ word) × TokenE
 
 -- the refusal of lines of which the first that has words is no header, or of lines without words
 abbrev pub HasNoHeader : List (List ℕ) → Refusal → Type 0
-HasNoHeader lines (Line line) = (vars clauses : ℕ) (after : List (List ℕ)) → ¬ HasHeader lines vars clauses after
+HasNoHeader lines (Line line) =
+    (vars clauses : ℕ) (after : List (List ℕ)) → ¬ HasHeader lines vars clauses after
 HasNoHeader lines TooMany = ⊥
 HasNoHeader lines refusals.NoMemory = ⊤
 
@@ -60,7 +61,8 @@ abbrev pub clause_tokens : List Lit → List Token
 clause_tokens clause = map Literal clause ++ End ∷ []
 
 -- the tokens are the clauses, and the literals of a clause that has not ended
-pub record AreClauses (tokens : List Token) (clauses : List (List Lit)) (pending : List Lit) : Type 0 where
+pub record AreClauses
+    (tokens : List Token) (clauses : List (List Lit)) (pending : List Lit) : Type 0 where
   pub written : List (List Lit)
   pub tokens_are : tokens ≡ flat_map clause_tokens written ++ map Literal pending
   pub same : HaveExactly clauses written

@@ -17,7 +17,7 @@ returns-then-n-limit-clause-taken g c =
       (λ _. long, λ _. refl),
     )
 
--- want of memory is another answer than a text that is too long
+-- out of memory is another answer than a text that is too long
 not_too_long : (answer : Result (List ℕ) ReadRefusal)
     → IsErrAnd answer (λ refusal. refusal ≡ NoMemory) → IsErrOf answer TooLong → ⊥
 not_too_long (Ok _) want is_long = want
