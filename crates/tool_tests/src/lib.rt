@@ -10,6 +10,8 @@ mod expansion_tests;
 #[cfg(test)]
 mod option_tests;
 #[cfg(test)]
+mod program_args_tests;
+#[cfg(test)]
 mod refusal_tests;
 #[cfg(test)]
 mod refused_texts;
