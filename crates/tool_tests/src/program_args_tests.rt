@@ -4,7 +4,6 @@ use std::rt::Env;
 use std::test::Fail;
 
 /// A program's name and its arguments, as the system would give them.
-/// A program's name and its arguments, as the system would give them.
 #[derive(Drop)]
 struct Given {
     args: &'static [&'static [u8]],
