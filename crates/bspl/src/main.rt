@@ -2,10 +2,10 @@
 #![tactic(auto)]
 
 ghost use Rattle.std.specs.Prelude.{◌≡◌, map, string_bytes, IfOk, IfErr};
-ghost use Rattle.bspl_tool.specs.Call.{IsCall};
+ghost use Rattle.bspl_tool.specs.Call.{AreCounted, IsCall};
 ghost use Rattle.bspl_tool.specs.Headline.{TrueWhereSaid};
 
-use bspl_io::{StdSink, StdSource};
+use bspl_io::{Sink, Source, StdSink, StdSource};
 use bspl_tool::{Status, bspl};
 use program_args::args_given;
 use std::alloc::Global;
@@ -18,37 +18,44 @@ fn main(rt: HostRuntime) -> ExitCode {
     ExitCode::from(status.number())
 }
 
-/// The call for the arguments over a reader and a writer, which come back. If memory ran out before
-/// the arguments were known, nothing is read or written.
+/// The call for the arguments over a reader and a writer, which come back as the source and the sink
+/// of the call, with their counts of faults. If the arguments could not be had, nothing is read or
+/// written.
 fn answer<R: Read + Drop, W: Write + Drop>(
     alloc: Global,
     args: io::Result<Vec<String>>,
     input: R,
     output: W,
-) -> (Status, R, W)
+) -> (Status, StdSource<R>, StdSink<W>)
     ensures call { IfOk args (λ args. IsCall (map string_bytes args.items) (record {
       remaining = R.remaining input;
-      remaining_after = R.remaining result.1;
+      remaining_after = ⟦<StdSource<R> as Source>⟧.remaining result.1;
       contents = W.contents output;
-      contents_after = W.contents result.2;
+      contents_after = ⟦<StdSink<W> as Sink>⟧.contents result.2;
+    }) result.0) }
+    ensures faults { IfOk args (λ _. AreCounted (record {
+      reads = 0;
+      reads_after = ⟦<StdSource<R> as Source>⟧.faults result.1;
+      writes = 0;
+      writes_after = ⟦<StdSink<W> as Sink>⟧.faults result.2;
     }) result.0) }
     ensures headline { IfOk args (λ args. TrueWhereSaid (map string_bytes args.items) (record {
       remaining = R.remaining input;
-      remaining_after = R.remaining result.1;
+      remaining_after = ⟦<StdSource<R> as Source>⟧.remaining result.1;
       contents = W.contents output;
-      contents_after = W.contents result.2;
+      contents_after = ⟦<StdSink<W> as Sink>⟧.contents result.2;
     })) }
     ensures no_args { IfErr args (λ _. result.0 ≡ Status.NoMemory) }
-    ensures unread { IfErr args (λ _. R.remaining result.1 ≡ R.remaining input) }
-    ensures unwritten { IfErr args (λ _. W.contents result.2 ≡ W.contents output) }
+    ensures unread { IfErr args (λ _.
+        ⟦<StdSource<R> as Source>⟧.remaining result.1 ≡ R.remaining input) }
+    ensures unwritten { IfErr args (λ _.
+        ⟦<StdSink<W> as Sink>⟧.contents result.2 ≡ W.contents output) }
 {
-    match args {
-        Ok(args) => {
-            let mut source = StdSource::new(input);
-            let mut sink = StdSink::new(output);
-            let status = bspl(alloc, args.as_slice(), &mut source, &mut sink);
-            (status, source.into_reader(), sink.into_writer())
-        }
-        Err(_) => (Status::NoMemory, input, output),
-    }
+    let mut source = StdSource::new(input);
+    let mut sink = StdSink::new(output);
+    let status = match args {
+        Ok(args) => bspl(alloc, args.as_slice(), &mut source, &mut sink),
+        Err(_) => Status::NoMemory,
+    };
+    (status, source, sink)
 }

@@ -33,7 +33,7 @@ verdict_answers (verdicts.Unknown stats) = tt
 
 decision_answers : (budget : ℕ) (input out : List ℕ) (end : Status) → Decides budget input out end → IsAnswered end
 decision_answers budget input _ _ (too_long long) = tt
-decision_answers budget input _ _ (no_formula line none) = tt
+decision_answers budget input _ _ (no_formula line short none) = tt
 decision_answers budget input _ _ (decided verdict short right) = verdict_answers verdict
 
 -- an output comes with an answer

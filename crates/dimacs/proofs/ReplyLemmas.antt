@@ -20,8 +20,8 @@ verdict_decides budget input verdict out end short right text_is status_is =
     rw (text_is, status_is) (decided verdict short right)
 
 -- a text that is no formula is refused with a line
-pub refusal_decides : (budget : ℕ) (input : List ℕ) (line : ℕ) (out : List ℕ) → IsNoFormula input → out ≡ refused_line line → Decides budget input out status.Refused
-refusal_decides budget input line out none text_is = rw text_is (no_formula line none)
+pub refusal_decides : (budget : ℕ) (input : List ℕ) (line : ℕ) (out : List ℕ) → length input ≤ dimacs_input_limit → IsNoFormula input → out ≡ refused_line line → Decides budget input out status.Refused
+refusal_decides budget input line out short none text_is = rw text_is (no_formula line short none)
 
 -- an input that is too long is refused
 pub length_decides : (budget : ℕ) (input out : List ℕ) → dimacs_input_limit < length input → out ≡ refused_length → Decides budget input out status.Refused

@@ -31,7 +31,7 @@ pub data Decides (budget : ℕ) (input : List ℕ) : List ℕ → Status → Typ
   -- the input is too long
   too_long : dimacs_input_limit < length input → Decides budget input refused_length status.Refused
   -- it is no formula
-  no_formula : (line : ℕ) → IsNoFormula input
+  no_formula : (line : ℕ) → length input ≤ dimacs_input_limit → IsNoFormula input
       → Decides budget input (refused_line line) status.Refused
   -- it is one, and the verdict on it is right
   decided : (verdict : Verdict) → length input ≤ dimacs_input_limit

@@ -8,4 +8,4 @@ returns-in_ok-answer_of-in-Ok c =
 
 pub returns-in_ok-refused_line-in-Err-Line : goal.returns-in_ok-refused_line-in-Err-Line
 returns-in_ok-refused_line-in-Err-Line c =
-    refusal_decides c.args.budget c.args.text.now c.in-Err-Line.line _ (rw c.in-Err-Line.field-0-is at c.in-Err-Line.ensures.refused) c.in_ok-refused_line-in-Err-Line.ensures
+    refusal_decides c.args.budget c.args.text.now c.in-Err-Line.line _ c.requires.short (rw c.in-Err-Line.field-0-is at c.in-Err-Line.ensures.refused) c.in_ok-refused_line-in-Err-Line.ensures
