@@ -4,6 +4,72 @@ use list_base::Bytes;
 use std::alloc::{AllocError, Global};
 use std::test::Fail;
 
+/// The arguments, the input, the output and the status.
+const ROWS: &[(&str, &str, &str, Status)] = &[
+    (
+        "",
+        "c a\np cnf 1 1\n1 0\n",
+        "c conflicts 0 decisions 0 propagations 1\ns SATISFIABLE\nv 1\nv 0\n",
+        Status::Satisfiable,
+    ),
+    (
+        "",
+        "p  cnf 2 2\r\n-1 0\t1\n-2 0\r\n",
+        "c conflicts 0 decisions 0 propagations 2\ns SATISFIABLE\nv -1\nv -2\nv 0\n",
+        Status::Satisfiable,
+    ),
+    (
+        "",
+        "p cnf 0 0",
+        "c conflicts 0 decisions 0 propagations 0\ns SATISFIABLE\nv 0\n",
+        Status::Satisfiable,
+    ),
+    (
+        "",
+        "p cnf 1 1\n0\n",
+        "c conflicts 0 decisions 0 propagations 0\ns UNSATISFIABLE\n",
+        Status::Unsatisfiable,
+    ),
+    (
+        "",
+        "p cnf 1 2\n1 0 -1 0\n",
+        "c conflicts 1 decisions 0 propagations 1\ns UNSATISFIABLE\n",
+        Status::Unsatisfiable,
+    ),
+    (
+        "--budget 1",
+        "p cnf 2 4\n1 2 0 -1 2 0\n1 -2 0\n-1 -2 0\n",
+        "c conflicts 1 decisions 1 propagations 1\ns UNKNOWN\n",
+        Status::Unknown,
+    ),
+    (
+        "--budget 9",
+        "p cnf 2 4\n1 2 0 -1 2 0\n1 -2 0\n-1 -2 0\n",
+        "c conflicts 2 decisions 1 propagations 3\ns UNSATISFIABLE\n",
+        Status::Unsatisfiable,
+    ),
+    (
+        "",
+        "c no header\n1 0\n",
+        "refused line 2\n",
+        Status::Refused,
+    ),
+    (
+        "",
+        "p cnf 1 1\n\n2 0\n",
+        "refused line 3\n",
+        Status::Refused,
+    ),
+    ("", "p cnf 1 2\n1 0\n", "refused line 3\n", Status::Refused),
+    ("", "p cnf 1 1\n1", "refused line 2\n", Status::Refused),
+    (
+        "--budget",
+        "p cnf 1 1\n1 0\n",
+        "usage: dimacs_sat [--budget N]\n",
+        Status::Usage,
+    ),
+];
+
 /// The arguments that a text gives.
 fn args_of(alloc: Global, text: &str) -> Result<Vec<String>, AllocError> {
     let mut args = Vec::new(alloc);
@@ -30,73 +96,15 @@ fn answers(
 
 #[test]
 fn answers_each_row(rt: HostRuntime) -> Result<(), Fail> {
-    let rows = [
-        (
-            "",
-            "c a\np cnf 1 1\n1 0\n",
-            "c conflicts 0 decisions 0 propagations 1\ns SATISFIABLE\nv 1\nv 0\n",
-            Status::Satisfiable,
-        ),
-        (
-            "",
-            "p  cnf 2 2\r\n-1 0\t1\n-2 0\r\n",
-            "c conflicts 0 decisions 0 propagations 2\ns SATISFIABLE\nv -1\nv -2\nv 0\n",
-            Status::Satisfiable,
-        ),
-        (
-            "",
-            "p cnf 0 0",
-            "c conflicts 0 decisions 0 propagations 0\ns SATISFIABLE\nv 0\n",
-            Status::Satisfiable,
-        ),
-        (
-            "",
-            "p cnf 1 1\n0\n",
-            "c conflicts 0 decisions 0 propagations 0\ns UNSATISFIABLE\n",
-            Status::Unsatisfiable,
-        ),
-        (
-            "",
-            "p cnf 1 2\n1 0 -1 0\n",
-            "c conflicts 1 decisions 0 propagations 1\ns UNSATISFIABLE\n",
-            Status::Unsatisfiable,
-        ),
-        (
-            "--budget 1",
-            "p cnf 2 4\n1 2 0 -1 2 0\n1 -2 0\n-1 -2 0\n",
-            "c conflicts 1 decisions 1 propagations 1\ns UNKNOWN\n",
-            Status::Unknown,
-        ),
-        (
-            "--budget 9",
-            "p cnf 2 4\n1 2 0 -1 2 0\n1 -2 0\n-1 -2 0\n",
-            "c conflicts 2 decisions 1 propagations 3\ns UNSATISFIABLE\n",
-            Status::Unsatisfiable,
-        ),
-        (
-            "",
-            "c no header\n1 0\n",
-            "refused line 2\n",
-            Status::Refused,
-        ),
-        (
-            "",
-            "p cnf 1 1\n\n2 0\n",
-            "refused line 3\n",
-            Status::Refused,
-        ),
-        ("", "p cnf 1 2\n1 0\n", "refused line 3\n", Status::Refused),
-        ("", "p cnf 1 1\n1", "refused line 2\n", Status::Refused),
-        (
-            "--budget",
-            "p cnf 1 1\n1 0\n",
-            "usage: dimacs_sat [--budget N]\n",
-            Status::Usage,
-        ),
-    ];
-    for (args, text, wanted, status) in rows {
+    for (args, text, wanted, status) in ROWS {
         assert!(rt;
-            answers(rt.alloc(), args, text.as_bytes(), wanted.as_bytes(), status)?,
+            answers(
+                rt.alloc(),
+                args,
+                text.as_bytes(),
+                wanted.as_bytes(),
+                *status
+            )?,
             "{args} {text}"
         );
     }

@@ -46,3 +46,22 @@ pub fn add_clause(
 ) -> Result<(), NoMemory> {
     clauses.push(clause(alloc, numbers)?)
 }
+
+/// The formula over these variables whose clauses a text spells, each ended by 0; nothing if a word
+/// is no number or a variable is another.
+pub fn formula_of(alloc: Global, vars: u32, text: &str) -> Result<Option<Formula>, NoMemory> {
+    let mut clauses: ClauseList = Seq::new(alloc);
+    let mut lits = Seq::new(alloc);
+    for word in text.split_whitespace() {
+        let Ok(number) = word.parse::<i32>() else {
+            return Ok(None);
+        };
+        if number == 0 {
+            clauses.push(Clause::of(alloc, lits.as_slice())?)?;
+            lits = Seq::new(alloc);
+        } else {
+            lits.push(lit(number))?;
+        }
+    }
+    Ok(Formula::of(vars, clauses))
+}

@@ -1,151 +1,94 @@
-use super::formulas::formula;
+use super::formulas::formula_of;
 use list_base::NoMemory;
 use sat_solver::{Outcome, solve};
 use std::alloc::Global;
 use std::test::Fail;
 
-/// The answer's letter, with a count: `s` for an assignment and its variables, `u` for a refutation
-/// and its steps, `b` for a budget that is spent and its steps, and `x` for a formula that is too
-/// long.
+/// The letter of an answer, its count if one is wanted, the budget, the variables, and the clauses
+/// of a formula, each ended by 0. The letter is `s` for an assignment, whose count is that of its
+/// variables, `u` for a refutation and `b` for a spent budget, whose counts are those of their steps.
+const ROWS: &[(char, Option<usize>, u32, u32, &str)] = &[
+    ('b', Some(1), 1, 2, "1 2 0 -1 2 0 1 -2 0 -1 -2 0"),
+    ('u', None, 9, 2, "1 2 0 -1 2 0 1 -2 0 -1 -2 0"),
+    ('s', Some(2), 9, 2, "1 2 0"),
+    ('s', Some(3), 9, 3, ""),
+    ('u', Some(0), 9, 2, "1 2 0 0"),
+    ('u', None, 729, 1, "1 0 -1 0"),
+    ('u', None, 729, 0, "0"),
+    ('u', None, 729, 2, "1 0 -1 2 0 -2 0"),
+    ('u', None, 729, 2, "1 2 0 1 2 0 -1 0 -2 0"),
+    (
+        'u',
+        None,
+        729,
+        3,
+        "1 2 0 -1 -2 0 2 3 0 -2 -3 0 1 3 0 -1 -3 0",
+    ),
+    // three pigeons in two holes; the variable of pigeon p and hole h is 2 (p - 1) + h
+    (
+        'u',
+        None,
+        729,
+        6,
+        "1 2 0 3 4 0 5 6 0 -1 -3 0 -1 -5 0 -3 -5 0 -2 -4 0 -2 -6 0 -4 -6 0",
+    ),
+    // four pigeons in three holes
+    (
+        'u',
+        None,
+        729,
+        12,
+        "1 2 3 0 4 5 6 0 7 8 9 0 10 11 12 0 \
+        -1 -4 0 -1 -7 0 -1 -10 0 -4 -7 0 -4 -10 0 -7 -10 0 \
+        -2 -5 0 -2 -8 0 -2 -11 0 -5 -8 0 -5 -11 0 -8 -11 0 \
+        -3 -6 0 -3 -9 0 -3 -12 0 -6 -9 0 -6 -12 0 -9 -12 0",
+    ),
+    // an odd and an even parity of the same three variables
+    (
+        'u',
+        None,
+        729,
+        3,
+        "1 2 3 0 1 -2 -3 0 -1 2 -3 0 -1 -2 3 0 -1 -2 -3 0 -1 2 3 0 1 -2 3 0 1 2 -3 0",
+    ),
+    ('s', None, 729, 0, ""),
+    ('s', None, 729, 2, "1 0 -2 0"),
+    ('s', None, 729, 1, "1 -1 0"),
+    ('s', None, 729, 2, "1 2 0 1 2 0 1 2 0"),
+    ('s', None, 729, 3, "1 2 0 -1 -2 0 2 3 0 -2 -3 0"),
+    ('s', None, 729, 2, "-1 2 0 1 -2 0 -1 -2 0"),
+    ('s', None, 729, 4, "1 2 0 3 4 0 -1 -3 0 -2 -4 0"),
+    ('s', None, 729, 5, "1 2 3 0 -1 4 0 -2 4 0 -3 4 0 -4 5 0"),
+    ('s', None, 729, 3, "1 0 -1 2 0 -2 3 0"),
+];
+
+/// The answer's letter, with its count; nothing if the row is no formula or too long.
 fn answer(
     alloc: Global,
-    vars: u32,
-    clauses: &[&[i32]],
     budget: u32,
-) -> Result<(char, usize), NoMemory> {
-    let f = formula(alloc, vars, clauses)?;
+    vars: u32,
+    text: &str,
+) -> Result<Option<(char, usize)>, NoMemory> {
+    let Some(f) = formula_of(alloc, vars, text)? else {
+        return Ok(None);
+    };
     if budget == 0 || budget > 1000 || f.clauses.len() > 1000 {
-        return Ok(('x', 0));
+        return Ok(None);
     }
-    Ok(match solve(alloc, &f, budget)? {
+    Ok(Some(match solve(alloc, &f, budget)? {
         Outcome::Sat(assignment) => ('s', assignment.vars() as usize),
         Outcome::Unsat(log) => ('u', log.steps.len()),
         Outcome::Budget(log) => ('b', log.steps.len()),
-    })
-}
-
-/// Whether the answer is this letter, whatever the count.
-fn answers(alloc: Global, vars: u32, clauses: &[&[i32]], letter: char) -> Result<bool, NoMemory> {
-    Ok(answer(alloc, vars, clauses, 729)?.0 == letter)
+    }))
 }
 
 #[test]
-fn four_clauses_and_budgets(rt: HostRuntime) -> Result<(), Fail> {
-    let all: [&[i32]; 4] = [&[1, 2], &[-1, 2], &[1, -2], &[-1, -2]];
-    assert_eq!(rt; answer(rt.alloc(), 2, &all, 1)?, ('b', 1));
-    assert!(rt; answer(rt.alloc(), 2, &all, 9)?.0 == 'u');
-    assert_eq!(rt; answer(rt.alloc(), 2, &[&[1, 2]], 9)?, ('s', 2));
-    assert_eq!(rt; answer(rt.alloc(), 3, &[], 9)?, ('s', 3));
-    assert_eq!(rt; answer(rt.alloc(), 2, &[&[1, 2], &[]], 9)?, ('u', 0));
-    Ok(())
-}
-
-#[test]
-fn small_formulas_without_an_assignment(rt: HostRuntime) -> Result<(), Fail> {
-    let alloc = rt.alloc();
-    assert!(rt; answers(alloc, 1, &[&[1], &[-1]], 'u')?);
-    assert!(rt; answers(alloc, 0, &[&[]], 'u')?);
-    assert!(rt; answers(alloc, 2, &[&[1], &[-1, 2], &[-2]], 'u')?);
-    assert!(rt; answers(alloc, 2, &[&[1, 2], &[1, 2], &[-1], &[-2]], 'u')?);
-    assert!(rt;
-        answers(
-            alloc,
-            3,
-            &[&[1, 2], &[-1, -2], &[2, 3], &[-2, -3], &[1, 3], &[-1, -3]],
-            'u'
-        )?
-    );
-    // three pigeons in two holes; the variable of pigeon p and hole h is 2 (p - 1) + h
-    assert!(rt;
-        answers(
-            alloc,
-            6,
-            &[
-                &[1, 2],
-                &[3, 4],
-                &[5, 6],
-                &[-1, -3],
-                &[-1, -5],
-                &[-3, -5],
-                &[-2, -4],
-                &[-2, -6],
-                &[-4, -6]
-            ],
-            'u'
-        )?
-    );
-    // four pigeons in three holes
-    assert!(rt;
-        answers(
-            alloc,
-            12,
-            &[
-                &[1, 2, 3],
-                &[4, 5, 6],
-                &[7, 8, 9],
-                &[10, 11, 12],
-                &[-1, -4],
-                &[-1, -7],
-                &[-1, -10],
-                &[-4, -7],
-                &[-4, -10],
-                &[-7, -10],
-                &[-2, -5],
-                &[-2, -8],
-                &[-2, -11],
-                &[-5, -8],
-                &[-5, -11],
-                &[-8, -11],
-                &[-3, -6],
-                &[-3, -9],
-                &[-3, -12],
-                &[-6, -9],
-                &[-6, -12],
-                &[-9, -12],
-            ],
-            'u'
-        )?
-    );
-    // an odd and an even parity of the same three variables
-    assert!(rt;
-        answers(
-            alloc,
-            3,
-            &[
-                &[1, 2, 3],
-                &[1, -2, -3],
-                &[-1, 2, -3],
-                &[-1, -2, 3],
-                &[-1, -2, -3],
-                &[-1, 2, 3],
-                &[1, -2, 3],
-                &[1, 2, -3],
-            ],
-            'u'
-        )?
-    );
-    Ok(())
-}
-
-#[test]
-fn small_formulas_with_an_assignment(rt: HostRuntime) -> Result<(), Fail> {
-    let alloc = rt.alloc();
-    assert!(rt; answers(alloc, 0, &[], 's')?);
-    assert!(rt; answers(alloc, 3, &[], 's')?);
-    assert!(rt; answers(alloc, 2, &[&[1], &[-2]], 's')?);
-    assert!(rt; answers(alloc, 1, &[&[1, -1]], 's')?);
-    assert!(rt; answers(alloc, 2, &[&[1, 2], &[1, 2], &[1, 2]], 's')?);
-    assert!(rt; answers(alloc, 3, &[&[1, 2], &[-1, -2], &[2, 3], &[-2, -3]], 's')?);
-    assert!(rt; answers(alloc, 2, &[&[-1, 2], &[1, -2], &[-1, -2]], 's')?);
-    assert!(rt; answers(alloc, 4, &[&[1, 2], &[3, 4], &[-1, -3], &[-2, -4]], 's')?);
-    assert!(rt;
-        answers(
-            alloc,
-            5,
-            &[&[1, 2, 3], &[-1, 4], &[-2, 4], &[-3, 4], &[-4, 5]],
-            's'
-        )?
-    );
-    assert!(rt; answers(alloc, 3, &[&[1], &[-1, 2], &[-2, 3]], 's')?);
+fn answers_each_formula(rt: HostRuntime) -> Result<(), Fail> {
+    for (letter, wanted, budget, vars, text) in ROWS {
+        let given = answer(rt.alloc(), *budget, *vars, text)?;
+        let (given, count) = given.ok_or("a row is no formula")?;
+        assert_eq!(rt; given, *letter, "the answer to {text}");
+        assert_eq!(rt; count, wanted.unwrap_or(count), "the count of {text}");
+    }
     Ok(())
 }
