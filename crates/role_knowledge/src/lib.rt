@@ -1,0 +1,12 @@
+//! What one role knows under a key, and which messages it may emit.
+#![tactic(auto)]
+
+mod block;
+mod emission;
+mod knowledge;
+mod laws;
+
+pub use block::Block;
+pub use emission::enabled;
+pub use knowledge::knows;
+pub use laws::answers_once;
