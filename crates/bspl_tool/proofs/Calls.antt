@@ -1,18 +1,18 @@
 -- What was read and written, by the reply and by how writing it ended.
-use Rattle.std.proofs.Common.{◌≡◌, ℕ, true, List, [], Option, Some, None, refl, sym, subst, inl, inr}
+use Rattle.std.proofs.Common.{◌≡◌, ℕ, true, List, [], Option, Some, None, refl, subst, inl, inr}
 use Rattle.std.specs.Io.KnownBytes.{Appends, Keeps}
 use Rattle.bspl_io.specs.Sink.{AppendsPrefix}
 use Rattle.bspl_tool.specs.declared.answer_error.Aborted.{Aborted}
 use Rattle.bspl_tool.specs.declared.answer_error.Aborted.TheVariants as aborted
 use Rattle.bspl_tool.specs.declared.reply.Reply.{Reply}
 use Rattle.bspl_tool.specs.declared.status.Status.{Status}
-use Rattle.bspl_tool.specs.declared.status.Status.TheVariants.{Done, Usage, Refused, ReadFault, WriteFault, NoMemory}
+use Rattle.bspl_tool.specs.declared.status.Status.TheVariants.{Done, Refuted, Usage, Refused, ReadFault, WriteFault, NoMemory}
 use Rattle.bspl_tool.specs.Call.{AreCounted, AreRemaining, IsCall, TakesInput, Writes, WritesOutput}
 use Rattle.bspl_tool.specs.Output.{Output, usage, refused, done}
 use Rattle.bspl_tool.specs.Status.{is_answered}
 use Rattle.bspl_tool.specs.inner.Reply.{IsAborted, IsReply}
 use Rattle.bspl_tool.proofs.CommandLaws.{IsEnd}
-use Rattle.bspl_tool.proofs.TaskLaws.{laws_of}
+use Rattle.bspl_tool.proofs.TaskLaws.{texts_of}
 
 -- what was known and stays is kept
 keeps_same : (known : Option (List ℕ)) → Keeps known known
@@ -30,11 +30,12 @@ output_ends args bytes (usage none) = tt
 output_ends args bytes (refused r refuses) = tt
 output_ends args bytes (done out s made) =
     let answered = made.answered in
-    (laws_of made.task).ends answered.protocol answered.part out s answered.answer
+    (texts_of made.task).ends answered.protocol answered.part out s answered.answer
 
 -- so it was made
 end_is_answered : (s : Status) → IsEnd s → is_answered s ≡ true
 end_is_answered Done ends = refl
+end_is_answered Refuted ends = refl
 end_is_answered Usage ends = refl
 end_is_answered Refused ends = refl
 end_is_answered s ends = absurd ends
@@ -42,6 +43,7 @@ end_is_answered s ends = absurd ends
 -- it was written whole
 writes_whole : (args : List (List ℕ)) (bytes : List ℕ) (old new : Option (List ℕ)) (s : Status) → IsEnd s → WritesOutput args bytes old new s → Writes args bytes old new s
 writes_whole args bytes old new Done ends whole = whole
+writes_whole args bytes old new Refuted ends whole = whole
 writes_whole args bytes old new Usage ends whole = whole
 writes_whole args bytes old new Refused ends whole = whole
 writes_whole args bytes old new s ends whole = absurd ends

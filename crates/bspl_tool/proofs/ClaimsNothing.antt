@@ -1,15 +1,18 @@
 -- Texts of which no prefix has a line that claims something: a test on lines, kept by appending whole lines.
-use Rattle.std.proofs.Common.{◌≡◌, ℕ, ◌<◌, zero, suc, Bool, true, false, not, ◌&&◌, ◌||◌, List, [], ◌∷◌, ◌++◌, take, drop, length, slice_index_or, eqb, refl, sym, ◌∙◌, ap, ap₂, subst, arith, append-nil, append_assoc}
+use Rattle.std.proofs.Common.{◌≡◌, ℕ, ◌<◌, zero, suc, Bool, true, false, not, ◌&&◌, ◌||◌, List, [], ◌∷◌, ◌++◌, map, take, drop, length, slice_index_or, eqb, refl, sym, ◌∙◌, ap, ap₂, subst, arith, append-nil, append_assoc}
 use Rattle.std.specs.List.{list_any, join_with_byte}
 use Rattle.std.proofs.lemmas.Bool.{and_from, and_parts, both_ways, eqb-true, false≢true, or_parts}
 use Rattle.std.proofs.lemmas.List.{take-append-drop}
 use Rattle.std.proofs.lemmas.List.Splits.{join_with_byte-slice_split}
-use Rattle.bspl_tool.specs.Texts.{SaysLine, line, lines, safety_safe}
+use Rattle.bspl_tool.specs.declared.claim.Claim.{Claim}
+use Rattle.bspl_tool.specs.declared.claim.Claim.TheVariants.{AcceptedSafety, SafetySafe}
+use Rattle.bspl_tool.specs.Claims.{all_claims, claim_line}
+use Rattle.bspl_tool.specs.Texts.{SaysLine, line, lines}
 use Rattle.bspl_tool.proofs.Unbroken.{has_lf}
 
 -- the lines that claim something
 abbrev pub claim_lines : List (List ℕ)
-claim_lines = safety_safe ∷ []
+claim_lines = map claim_line all_claims
 
 -- the text begins with these bytes
 abbrev pub starts : List ℕ → List ℕ → Bool
@@ -82,12 +85,18 @@ calm_or_claim said (b ∷ before) rest claim calm =
     let bytes = before ++ 10 ∷ (said ++ rest) in
     calm_or_claim said before rest claim (and_parts (not (eqb b 10 && claims bytes)) (is_calm bytes) calm).1
 
+-- the line of a claim is one of them
+claim_is_found : (claim : Claim) (rest : List ℕ) → claims (claim_line claim ++ rest) ≡ true
+claim_is_found SafetySafe rest = refl
+claim_is_found AcceptedSafety rest = refl
+
 -- no prefix of a text that claims nothing has a line that claims something
-pub says_nothing : (said text : List ℕ) (n : ℕ) → ((rest : List ℕ) → claims (said ++ rest) ≡ true) → ClaimsNothing text → SaysLine (take n text) said → ⊥
-says_nothing said text n claim nothing says =
+pub says_nothing : (claim : Claim) (text : List ℕ) (n : ℕ) → ClaimsNothing text → SaysLine (take n text) (claim_line claim) → ⊥
+says_nothing claim text n nothing says =
+    let said = claim_line claim in
     elim (line_stands said text n says) [
-      | first rest at ↦ both_ways (claims text) nothing.first (ap claims at ∙ claim rest)
-      | later before rest at ↦ calm_or_claim said before rest (claim rest) (ap is_calm (sym at) ∙ nothing.later)
+      | first rest at ↦ both_ways (claims text) nothing.first (ap claims at ∙ claim_is_found claim rest)
+      | later before rest at ↦ calm_or_claim said before rest (claim_is_found claim rest) (ap is_calm (sym at) ∙ nothing.later)
     ]
 
 -- bytes without an LF, before calm ones

@@ -18,14 +18,16 @@ use Rattle.bspl_tool.specs.Rejection.{lacks_part, rejection_line, text_rejection
 use Rattle.bspl_tool.specs.Request.{HasCommandLine, Requests}
 use Rattle.bspl_tool.specs.Task.{Judged, is_determined, part_of, reads_input}
 use Rattle.bspl_tool.specs.Texts.{usage_text}
+use Rattle.bspl_tool.proofs.CheckLaws.{OneCheck}
 use Rattle.bspl_tool.proofs.OneRefusal.{OneReading, declared_once, declared_or_refused, one_refusal}
 use Rattle.bspl_tool.proofs.OneRequest.{declared_if_judged, one_name, one_task, task_or_unsupported}
 use Rattle.bspl_tool.proofs.TaskLaws.{OnePrinting, answered_once, laws_of}
 
--- the command line, the reading and the printing have one answer each
+-- the command line, the reading and the check have one answer each
 pub record OneEach : Type 0 where
   pub line : OneLine
   pub reading : OneReading
+  pub check : OneCheck
 
 -- the bytes of a part that was found
 part_bytes : Option (Part × List ℕ) → List ℕ
@@ -60,23 +62,23 @@ same_part : (task : Task) (input : List ℕ) (p q : Part) → LacksPart task inp
 same_part task input p q one other = let is : Some p ≡ Some q = sym one.needed ∙ other.needed in cc
 
 -- a command's refusals of an input are one
-same_part_refusal : OneReading → (task : Task) (name input : List ℕ) (part bytes : List ℕ) (x y : Expanded) (r s : Rejection) → HasPart (part_of task) input part → HasPart (part_of task) input bytes → Judged task name input x → Judged task name input y → IsPartRefused task x part r → IsPartRefused task y bytes s → r ≡ s
+same_part_refusal : OneEach → (task : Task) (name input : List ℕ) (part bytes : List ℕ) (x y : Expanded) (r s : Rejection) → HasPart (part_of task) input part → HasPart (part_of task) input bytes → Judged task name input x → Judged task name input y → IsPartRefused task x part r → IsPartRefused task y bytes s → r ≡ s
 same_part_refusal law task name input part bytes x y r s has has_too judged judged_too one other =
-    let same = judged_once law task name input y x judged_too judged in
+    let same = judged_once law.reading task name input y x judged_too judged in
     let bytes_same = one_part (part_of task) input bytes part has_too has in
-    (laws_of task).one_refusal x part r s one (subst (λ z. IsPartRefused task z part s) same (subst (λ b. IsPartRefused task y b s) bytes_same other))
+    (laws_of law.check task).one_refusal x part r s one (subst (λ z. IsPartRefused task z part s) same (subst (λ b. IsPartRefused task y b s) bytes_same other))
 
 -- an input has one rejection
-one_input_rejection : OneReading → (task : Task) (name input : List ℕ) {r s : Rejection} → RefusesInput task name input r → RefusesInput task name input s → r ≡ s
+one_input_rejection : OneEach → (task : Task) (name input : List ℕ) {r s : Rejection} → RefusesInput task name input r → RefusesInput task name input s → r ≡ s
 one_input_rejection law task name input (RefusesInput.no_part p lacks) (RefusesInput.no_part q lacks_too) = ap lacks_part (same_part task input p q lacks lacks_too)
 one_input_rejection law task name input (RefusesInput.no_part p lacks) (RefusesInput.text bytes q s has reason is) = absurd (part_or_missing task input bytes p has lacks)
 one_input_rejection law task name input (RefusesInput.no_part p lacks) (RefusesInput.part bytes y s has judged reason) = absurd (part_or_missing task input bytes p has lacks)
 one_input_rejection law task name input (RefusesInput.text part q r has reason is) (RefusesInput.no_part p lacks) = absurd (part_or_missing task input part p has lacks)
 one_input_rejection law task name input (RefusesInput.text part q r has reason is) (RefusesInput.text bytes p s has_too reason_too is_too) =
-    same_rejection q p r s (one_refusal law name (protocol_text input) reason reason_too) is is_too
-one_input_rejection law task name input (RefusesInput.text part q r has reason is) (RefusesInput.part bytes y s has_too judged other) = absurd (judged_or_refused law task name input y q judged reason)
+    same_rejection q p r s (one_refusal law.reading name (protocol_text input) reason reason_too) is is_too
+one_input_rejection law task name input (RefusesInput.text part q r has reason is) (RefusesInput.part bytes y s has_too judged other) = absurd (judged_or_refused law.reading task name input y q judged reason)
 one_input_rejection law task name input (RefusesInput.part part x r has judged reason) (RefusesInput.no_part p lacks) = absurd (part_or_missing task input part p has lacks)
-one_input_rejection law task name input (RefusesInput.part part x r has judged reason) (RefusesInput.text bytes q s has_too other is) = absurd (judged_or_refused law task name input x q judged other)
+one_input_rejection law task name input (RefusesInput.part part x r has judged reason) (RefusesInput.text bytes q s has_too other is) = absurd (judged_or_refused law.reading task name input x q judged other)
 one_input_rejection law task name input (RefusesInput.part part x r has judged reason) (RefusesInput.part bytes y s has_too judged_too reason_too) =
     same_part_refusal law task name input part bytes x y r s has has_too judged judged_too reason reason_too
 
@@ -103,23 +105,23 @@ one_rejection law args bytes (Refuses.too_long task name requests reads long) (R
 one_rejection law args bytes (Refuses.read task name r read reason) (Refuses.unsupported other) = absurd (task_or_unsupported law.line args task name read.requested other)
 one_rejection law args bytes (Refuses.read task name r read reason) (Refuses.too_long other again requests reads long) = absurd (long_or_read law.line args bytes other task again name requests reads long read)
 one_rejection law args bytes (Refuses.read task name r read reason) (Refuses.read other again s read_too reason_too) =
-    one_input_rejection law.reading task name bytes reason (as_requested law.line (λ t n. RefusesInput t n bytes s) args task other name again read.requested read_too.requested reason_too)
+    one_input_rejection law task name bytes reason (as_requested law.line (λ t n. RefusesInput t n bytes s) args task other name again read.requested read_too.requested reason_too)
 
 -- an input on which the task is done is not refused
-answered_or_refused : OneReading → (task : Task) (name input out : List ℕ) (status : Status) {r : Rejection} → AnswersInput task name input out status → RefusesInput task name input r → ⊥
+answered_or_refused : OneEach → (task : Task) (name input out : List ℕ) (status : Status) {r : Rejection} → AnswersInput task name input out status → RefusesInput task name input r → ⊥
 answered_or_refused law task name input out status answered (RefusesInput.no_part p lacks) = part_or_missing task input answered.part p answered.has_part lacks
-answered_or_refused law task name input out status answered (RefusesInput.text bytes q s has reason is) = judged_or_refused law task name input answered.protocol q answered.judged reason
+answered_or_refused law task name input out status answered (RefusesInput.text bytes q s has reason is) = judged_or_refused law.reading task name input answered.protocol q answered.judged reason
 answered_or_refused law task name input out status answered (RefusesInput.part bytes y s has judged reason) =
-    let same = judged_once law task name input y answered.protocol judged answered.judged in
+    let same = judged_once law.reading task name input y answered.protocol judged answered.judged in
     let bytes_same = one_part (part_of task) input bytes answered.part has answered.has_part in
-    (laws_of task).distinct answered.protocol answered.part out status s answered.answer (subst (λ z. IsPartRefused task z answered.part s) same (subst (λ b. IsPartRefused task y b s) bytes_same reason))
+    (laws_of law.check task).distinct answered.protocol answered.part out status s answered.answer (subst (λ z. IsPartRefused task z answered.part s) same (subst (λ b. IsPartRefused task y b s) bytes_same reason))
 
 -- nor are the arguments
 done_or_refused : OneEach → (args : List (List ℕ)) (bytes out : List ℕ) (status : Status) {r : Rejection} → IsDone args bytes out status → Refuses args bytes r → ⊥
 done_or_refused law args bytes out status made (Refuses.unsupported other) = task_or_unsupported law.line args made.task made.name made.read.requested other
 done_or_refused law args bytes out status made (Refuses.too_long task name requests reads long) = long_or_read law.line args bytes task made.task name made.name requests reads long made.read
 done_or_refused law args bytes out status made (Refuses.read task name r read reason) =
-    answered_or_refused law.reading made.task made.name bytes out status made.answered (as_requested law.line (λ t n. RefusesInput t n bytes r) args made.task task made.name name made.read.requested read.requested reason)
+    answered_or_refused law made.task made.name bytes out status made.answered (as_requested law.line (λ t n. RefusesInput t n bytes r) args made.task task made.name name made.read.requested read.requested reason)
 
 -- what is refused is a command line
 refused_line : (args : List (List ℕ)) (bytes : List ℕ) {r : Rejection} → Refuses args bytes r → HasCommandLine args
@@ -154,7 +156,7 @@ same_answer : OneEach → OnePrinting → (task : Task) (name input out out' : L
 same_answer law printed task name input out out' status status' determined one other =
     let same = judged_once law.reading task name input other.protocol one.protocol other.judged one.judged in
     let bytes_same = one_part (part_of task) input other.part one.part other.has_part one.has_part in
-    answered_once printed task one.protocol one.part out out' status status' determined one.answer
+    answered_once law.check printed task one.protocol one.part out out' status status' determined one.answer
     (subst (λ z. IsAnswer task z one.part out' status') same (subst (λ b. IsAnswer task other.protocol b out' status') bytes_same other.answer))
 
 -- two outputs of arguments that request a determined task are one

@@ -1,5 +1,5 @@
 -- A line that claims something is written only of a protocol of which it is true.
-use Rattle.std.proofs.Common.{◌≡◌, ℕ, List, [], codes, length, take, Option, Some, None, refl, sym, ◌∙◌, subst, arith, append-nil}
+use Rattle.std.proofs.Common.{ℕ, List, [], codes, length, take, Option, Some, None, refl, sym, ◌∙◌, subst, arith, append-nil}
 use Rattle.std.specs.Prelude.{IsTrue}
 use Rattle.std.specs.Io.KnownBytes.{Appends}
 use Rattle.std.proofs.lemmas.List.{append_cancel_left, take_all}
@@ -13,17 +13,16 @@ use Rattle.bspl_tool.specs.Headline.{IsTrueOf, TrueWhereSaid}
 use Rattle.bspl_tool.specs.Output.{IsDone, Output, usage, refused, done}
 use Rattle.bspl_tool.specs.Parts.{protocol_text}
 use Rattle.bspl_tool.specs.Refusals.{Refuses, RefusesInput}
-use Rattle.bspl_tool.specs.Texts.{safety_safe}
 use Rattle.bspl_tool.proofs.ClaimsNothing.{ClaimsNothing, line_claims_nothing, says_nothing}
 use Rattle.bspl_tool.proofs.RejectedNames.{HasNames, requested_is_name, text_rejection_names}
 use Rattle.bspl_tool.proofs.RejectionLines.{rejection_claims_nothing}
-use Rattle.bspl_tool.proofs.TaskLaws.{laws_of}
+use Rattle.bspl_tool.proofs.TaskLaws.{texts_of}
 
 -- the names in a refusal of an input are names
 input_names : (task : Task) (name input : List ℕ) {r : Rejection} → IsTrue (is_name name) → RefusesInput task name input r → HasNames r
 input_names task name input named (RefusesInput.no_part part lacks) = record { first = tt; second = tt }
 input_names task name input named (RefusesInput.text part q r has reason is) = text_rejection_names name (protocol_text input) q r named reason is
-input_names task name input named (RefusesInput.part part x r has judged reason) = (laws_of task).names x part r reason
+input_names task name input named (RefusesInput.part part x r has judged reason) = (texts_of task).names x part r reason
 
 -- so are those in each refusal
 refused_names : (args : List (List ℕ)) (bytes : List ℕ) {r : Rejection} → Refuses args bytes r → HasNames r
@@ -33,14 +32,14 @@ refused_names args bytes (Refuses.read task name r read refuses) = input_names t
 
 -- a prefix of a text that claims nothing
 nothing_said : (args : List (List ℕ)) (remaining : Option (List ℕ)) (text : List ℕ) (n : ℕ) → ClaimsNothing text → IsTrueOf args remaining (take n text)
-nothing_said args remaining text n nothing = record { safe = λ says. absurd (says_nothing safety_safe text n (λ rest. refl) nothing says) }
+nothing_said args remaining text n nothing = record { claimed = λ claim says. absurd (says_nothing claim text n nothing says) }
 
 -- a prefix of an answer
 truly_said : (args : List (List ℕ)) (remaining : Option (List ℕ)) (bytes out : List ℕ) (status : Status) (n : ℕ) → AreRemaining remaining bytes → IsDone args bytes out status → IsTrueOf args remaining (take n out)
 truly_said args remaining bytes out status n input made =
     let answered = made.answered in
-    let honest = (laws_of made.task).honest answered.protocol answered.part out status n answered.answer in record {
-      safe = λ says. (answered.protocol, record { task = made.task; name = made.name; requested = made.read.requested; bytes = bytes; input = input; judged = answered.judged }, honest.safe says);
+    let honest = (texts_of made.task).honest answered.protocol answered.part out status n answered.answer in record {
+      claimed = λ claim says. (answered.protocol, record { task = made.task; name = made.name; requested = made.read.requested; bytes = bytes; input = input; judged = answered.judged }, honest.claimed claim says);
     }
 
 -- a prefix of an output

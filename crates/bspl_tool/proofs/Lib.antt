@@ -7,11 +7,14 @@ pub mod RejectionLines
 pub mod CommandLaws
 pub mod ExpandLaws
 pub mod VerifyLaws
+pub mod CheckLaws
+pub mod CheckAnswers
 pub mod TaskLaws
 pub mod OneRequest
 pub mod OneRefusal
 pub mod Distinct
 pub mod Headline
 pub mod PartLines
+pub mod FirstPart
 pub mod Replies
 pub mod Calls

@@ -1,12 +1,14 @@
 -- A name has neither a space nor an LF.
-use Rattle.std.proofs.Common.{◌≡◌, ◌≢◌, ℕ, Bool, true, false, not, ◌&&◌, List, [], ◌∷◌, ◌++◌, codes, get_or, eqb, one-add, add-one, inl, inr, refl, sym, ◌∙◌, ap}
+use Rattle.std.proofs.Common.{◌≡◌, ◌≢◌, ℕ, Bool, true, false, not, ◌&&◌, List, [], ◌∷◌, ◌++◌, map, codes, get_or, eqb, one-add, add-one, inl, inr, refl, sym, ◌∙◌, ap}
 use Rattle.std.specs.Prelude.{IsTrue}
 use Rattle.std.specs.Char.{is_ascii_digit}
-use Rattle.std.specs.List.{after_first, before_first, join_with_byte, list_all, slice_split}
-use Rattle.std.proofs.lemmas.Bool.{and_parts, cases_Bool, eqb-true, false_from_ne_true, false≢true, or_cases, or_from, or_parts}
+use Rattle.std.specs.List.{after_first, before_first, join_with_byte, list_all, list_any, slice_split}
+use Rattle.std.proofs.lemmas.Bool.{and_parts, cases_Bool, eqb-true, false_from_ne_true, false≢true, or_from, or_parts}
 use Rattle.std.proofs.lemmas.List.Splits.{join_with_byte-slice_split}
 use Rattle.bspl_types.specs.Name.{begins_name, goes_on, is_group, is_grouped, is_name, is_name_rest, is_plain_name, is_positive_number, is_reserved}
-use Rattle.bspl_tool.specs.Texts.{safety_safe}
+use Rattle.bspl_tool.specs.declared.claim.Claim.{Claim}
+use Rattle.bspl_tool.specs.declared.claim.Claim.TheVariants.{AcceptedSafety, SafetySafe}
+use Rattle.bspl_tool.specs.Claims.{all_claims, claim_line}
 use Rattle.bspl_tool.proofs.ClaimsNothing.{claims, starts, starts_rest}
 use Rattle.bspl_tool.proofs.Unbroken.{has_byte, has_lf, joined_has_none}
 
@@ -127,18 +129,26 @@ after_space_same (b ∷ one) (c ∷ other) x y none_in_one none_in_other same =
     let tails : one ++ 32 ∷ x ≡ other ++ 32 ∷ y = cc in
     after_space_same one other x y (or_parts (eqb b 32) (has_byte 32 one) none_in_one).1 (or_parts (eqb c 32) (has_byte 32 other) none_in_other).1 tails
 
--- a name, a space and a brace do not begin the line that says that a protocol is safe
-name_is_not_safe : (name x rest : List ℕ) → IsTrue (is_name name) → name ++ 32 ∷ 123 ∷ x ≢ safety_safe ++ rest
-name_is_not_safe name x rest named same =
-    let after = after_space_same name (codes "safety") (123 ∷ x) (codes "safe" ++ rest) (name_has_no_space name named) refl same in
-    false≢true (ap (λ t. eqb (get_or t 0 0) 115) after)
+-- a name, a space and a brace do not begin a word, a space and another byte
+name_begins_none : (name x word rest : List ℕ) (b : ℕ) → IsTrue (is_name name) → has_byte 32 word ≡ false → eqb b 123 ≡ false → name ++ 32 ∷ 123 ∷ x ≢ word ++ 32 ∷ b ∷ rest
+name_begins_none name x word rest b named whole other same =
+    let after = after_space_same name word (123 ∷ x) (b ∷ rest) (name_has_no_space name named) whole same in
+    let is : 123 ≡ b = ap (λ t. get_or t 0 0) after in
+    false≢true (sym other ∙ ap (λ d. eqb d 123) (sym is))
 
--- nor any line that claims something
+-- so they begin no line that claims something
+name_begins_no_claim : (claim : Claim) (name x rest : List ℕ) → IsTrue (is_name name) → name ++ 32 ∷ 123 ∷ x ≢ claim_line claim ++ rest
+name_begins_no_claim SafetySafe name x rest named = name_begins_none name x (codes "safety") (codes "afe" ++ rest) 115 named refl refl
+name_begins_no_claim AcceptedSafety name x rest named = name_begins_none name x (codes "accepted") (codes "afety" ++ rest) 115 named refl refl
+
+-- none of some claims
+begins_none : (some : List Claim) (name x : List ℕ) → IsTrue (is_name name) → list_any (λ said. starts said (name ++ 32 ∷ 123 ∷ x)) (map claim_line some) ≡ false
+begins_none [] name x named = refl
+begins_none (claim ∷ some) name x named =
+    or_from _ _
+    (false_from_ne_true _ (λ is. let found = starts_rest (claim_line claim) (name ++ 32 ∷ 123 ∷ x) is in name_begins_no_claim claim name x found.0 named found.1))
+    (begins_none some name x named)
+
+-- so a text that begins with them begins with no such line
 pub name_claims_nothing : (name x : List ℕ) → IsTrue (is_name name) → claims (name ++ 32 ∷ 123 ∷ x) ≡ false
-name_claims_nothing name x named =
-    false_from_ne_true (claims (name ++ 32 ∷ 123 ∷ x)) (λ is. elim (or_cases (starts safety_safe (name ++ 32 ∷ 123 ∷ x)) false is) [
-      | inl safe ↦
-          let found = starts_rest safety_safe (name ++ 32 ∷ 123 ∷ x) safe in
-          name_is_not_safe name x found.0 named found.1
-      | inr none ↦ false≢true none
-    ])
+name_claims_nothing name x named = begins_none all_claims name x named

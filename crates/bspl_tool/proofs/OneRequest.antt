@@ -1,25 +1,21 @@
 -- Arguments request one task on one protocol, or a command that is not supported.
-use Rattle.std.proofs.Common.{◌≡◌, ℕ, Bool, true, false, List, [], Option, None, refl, sym, ◌∙◌, ap}
+use Rattle.std.proofs.Common.{◌≡◌, ℕ, true, List, None, Some, refl, sym, ◌∙◌, ap₂}
 use Rattle.bspl_types.specs.declared.expanded.Expanded.{Expanded}
 use Rattle.command_line.specs.declared.line.CommandLine.{CommandLine}
 use Rattle.command_line.specs.declared.line.Subject.{Subject}
 use Rattle.command_line.specs.declared.line.Subject.TheVariants.{Protocol, Size}
-use Rattle.command_line.specs.Line.{IsCommandLine, IsSameLine, IsSameSubject, OneLine}
+use Rattle.command_line.specs.Line.{IsSameLine, IsSameSubject, OneLine}
 use Rattle.bspl_tool.specs.declared.request.Task.{Task}
-use Rattle.bspl_tool.specs.declared.request.Task.TheVariants.{Expand, Verify}
+use Rattle.bspl_tool.specs.declared.request.Task.TheVariants.{Check, Expand, Verify}
 use Rattle.bspl_tool.specs.Call.{RequestsInput}
 use Rattle.bspl_tool.specs.Input.{Declares}
 use Rattle.bspl_tool.specs.Parts.{protocol_text}
-use Rattle.bspl_tool.specs.Refusals.{HasPart}
-use Rattle.bspl_tool.specs.Request.{IsAbout, IsTask, Requests, RequestsUnsupported, is_unsupported}
-use Rattle.bspl_tool.specs.Task.{Judged, part_of, reads_input}
+use Rattle.bspl_tool.specs.Request.{IsAbout, Requests, RequestsUnsupported, task_of}
+use Rattle.bspl_tool.specs.Task.{Judged, reads_input}
 
 -- a command line is for one task
-same_task : (task other : Task) (one again : CommandLine) → IsSameLine one again → IsTask task one → IsTask other again → task ≡ other
-same_task Expand Expand one again same for_one for_other = refl
-same_task Expand (Verify brief) one again same for_one (is_verify, is_brief) = absurd (cc (for_one, same.command, is_verify))
-same_task (Verify brief) Expand one again same (is_verify, is_brief) for_other = absurd (cc (is_verify, same.command, for_other))
-same_task (Verify brief) (Verify other) one again same (is_verify, is_brief) (is_again, is_other) = ap Verify (sym is_brief ∙ same.brief ∙ is_other)
+same_task : (one again : CommandLine) → IsSameLine one again → task_of one.command one.brief ≡ task_of again.command again.brief
+same_task one again same = ap₂ task_of same.command same.brief
 
 -- and about one protocol
 same_name : (one other : Subject) (name again : List ℕ) → IsSameSubject one other → IsAbout one name → IsAbout other again → name ≡ again
@@ -27,15 +23,12 @@ same_name (Protocol one) (Protocol other) name again same about_one about_other 
 same_name (Protocol one) (Size other) name again same about_one about_other = absurd about_other
 same_name (Size one) other name again same about_one about_other = absurd about_one
 
--- a task's command is supported
-is_supported : (task : Task) (line : CommandLine) → IsTask task line → is_unsupported line.command ≡ false
-is_supported Expand line is_expand = ap is_unsupported is_expand
-is_supported (Verify brief) line (is_verify, is_brief) = ap is_unsupported is_verify
-
 -- the arguments request one task
 pub one_task : OneLine → (args : List (List ℕ)) (task other : Task) (name again : List ℕ) → Requests args task name → Requests args other again → task ≡ other
 one_task one_line args task other name again requests requests_again =
-    same_task task other requests.line requests_again.line (one_line args requests.line requests_again.line requests.is_line requests_again.is_line) requests.is_task requests_again.is_task
+    let same = same_task requests.line requests_again.line (one_line args requests.line requests_again.line requests.is_line requests_again.is_line) in
+    let is : Some task ≡ Some other = sym requests.is_task ∙ same ∙ requests_again.is_task in
+    cc
 
 -- on the protocol of one name
 pub one_name : OneLine → (args : List (List ℕ)) (task other : Task) (name again : List ℕ) → Requests args task name → Requests args other again → name ≡ again
@@ -45,29 +38,28 @@ one_name one_line args task other name again requests requests_again =
 -- and no command that is not supported
 pub task_or_unsupported : OneLine → (args : List (List ℕ)) (task : Task) (name : List ℕ) → Requests args task name → RequestsUnsupported args → ⊥
 task_or_unsupported one_line args task name requests other =
-    let same = one_line args requests.line other.line requests.is_line other.is_line in
-    cc (is_supported task requests.line requests.is_task, ap is_unsupported same.command, other.unsupported)
+    let same = same_task requests.line other.line (one_line args requests.line other.line requests.is_line other.is_line) in
+    let is : Some task ≡ None = sym requests.is_task ∙ same ∙ other.unsupported in
+    absurd (cc)
 
 -- each task reads the input
 pub all_read : (task : Task) → reads_input task ≡ true
 all_read Expand = refl
 all_read (Verify brief) = refl
+all_read Check = refl
 
 -- so arguments that request a task request the input
 pub requests_input : (args : List (List ℕ)) (task : Task) (name : List ℕ) → Requests args task name → RequestsInput args
 requests_input args task name requests = record { task = task; name = name; requested = requests; reads = all_read task }
 
--- no task needs a part
-pub needs_no_part : (task : Task) (input : List ℕ) → HasPart (part_of task) input []
-needs_no_part Expand input = refl
-needs_no_part (Verify brief) input = refl
-
 -- each task judges the protocol that the protocol text declares
 pub judged_if_declared : (task : Task) (name input : List ℕ) (x : Expanded) → Declares name (protocol_text input) x → Judged task name input x
 judged_if_declared Expand name input x declares = declares
 judged_if_declared (Verify brief) name input x declares = declares
+judged_if_declared Check name input x declares = declares
 
 -- and no other
 pub declared_if_judged : (task : Task) (name input : List ℕ) (x : Expanded) → Judged task name input x → Declares name (protocol_text input) x
 declared_if_judged Expand name input x judged = judged
 declared_if_judged (Verify brief) name input x judged = judged
+declared_if_judged Check name input x judged = judged

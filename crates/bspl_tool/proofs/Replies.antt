@@ -1,7 +1,6 @@
 -- What is answered, rejected or aborted, by the arguments and by the bytes that remained.
-use Rattle.std.proofs.Common.{◌≡◌, ◌≢◌, ◌↔◌, ℕ, ◌<◌, ◌≤◌, Bool, true, List, [], ◌++◌, length, Option, Some, None, Result, Err, refl, sym, ◌∙◌, ap, subst, arith, length-append}
-use Rattle.std.specs.Prelude.{IsErrOf, IfSome}
-use Rattle.std.specs.Io.KnownBytes.{Consumes}
+use Rattle.std.proofs.Common.{◌≡◌, ◌≢◌, ◌↔◌, ℕ, ◌<◌, List, [], length, Option, Some, None, Err, refl, sym, ◌∙◌, ap, subst, arith, length-append}
+use Rattle.std.specs.Prelude.{IsErrOf}
 use Rattle.bspl_types.specs.Limits.{input_limit}
 use Rattle.bspl_types.specs.declared.expanded.Expanded.{Expanded}
 use Rattle.bspl_types.specs.declared.refusals.Refusal.{Refusal}
@@ -14,25 +13,27 @@ use Rattle.bspl_tool.specs.declared.answer_error.Aborted.{Aborted}
 use Rattle.bspl_tool.specs.declared.answer_error.Aborted.TheVariants as aborted
 use Rattle.bspl_tool.specs.declared.answer_error.AnswerError.{AnswerError}
 use Rattle.bspl_tool.specs.declared.answer_error.AnswerError.TheVariants as error
+use Rattle.bspl_tool.specs.declared.parts.Part.{Part}
+use Rattle.bspl_tool.specs.declared.refusal.InputRefusal.{InputRefusal}
+use Rattle.bspl_tool.specs.declared.refusal.InputRefusal.TheVariants.{NoPart}
 use Rattle.bspl_tool.specs.declared.rejection.Rejection.{Rejection}
 use Rattle.bspl_tool.specs.declared.reply.Reply.{Reply}
 use Rattle.bspl_tool.specs.declared.request.Task.{Task}
-use Rattle.bspl_tool.specs.declared.request.Task.TheVariants.{Verify}
 use Rattle.bspl_tool.specs.declared.status.Status.{Status}
 use Rattle.bspl_tool.specs.declared.status.Status.TheVariants as status
-use Rattle.bspl_tool.specs.Answer.{IsAnswer}
+use Rattle.bspl_tool.specs.Answer.{IsAnswer, IsPartRefused}
 use Rattle.bspl_tool.specs.Input.{Declares}
-use Rattle.bspl_tool.specs.VerifyAnswer.{IsVerifyRefused}
 use Rattle.bspl_tool.specs.Call.{AreRemaining, RequestsInput, TakesInput}
 use Rattle.bspl_tool.specs.Output.{AnswersInput, Output, usage, refused, done}
 use Rattle.bspl_tool.specs.Parts.{protocol_text}
-use Rattle.bspl_tool.specs.Refusals.{Refuses, RefusesInput, RefusesText}
-use Rattle.bspl_tool.specs.Rejection.{not_built, over_limit, rejection_line, text_rejection}
+use Rattle.bspl_tool.specs.Refusals.{HasPart, LacksPart, Refuses, RefusesInput, RefusesText}
+use Rattle.bspl_tool.specs.Rejection.{input_rejection, not_built, over_limit, rejection_line, text_rejection}
 use Rattle.bspl_tool.specs.Request.{HasCommandLine, Requests, RequestsUnsupported}
+use Rattle.bspl_tool.specs.Task.{part_of}
 use Rattle.bspl_tool.specs.Texts.{usage_text}
 use Rattle.bspl_tool.specs.inner.Error.{RejectsFor, error_for, read_error}
 use Rattle.bspl_tool.specs.inner.Reply.{IsAborted, IsCause, IsRejected, IsReply}
-use Rattle.bspl_tool.proofs.OneRequest.{all_read, judged_if_declared, needs_no_part, requests_input, task_or_unsupported}
+use Rattle.bspl_tool.proofs.OneRequest.{all_read, judged_if_declared, requests_input, task_or_unsupported}
 
 -- nothing is taken where the arguments request no input
 takes_nothing : (args : List (List ℕ)) (bytes : List ℕ) (remaining : Option (List ℕ)) (s : Status) → ¬ RequestsInput args → TakesInput args bytes remaining remaining s
@@ -134,12 +135,16 @@ input_refused args task name bytes remaining after (error.Aborted aborted.ReadFa
 input_refused args task name bytes remaining after (error.Aborted aborted.NoMemory) requests all refuses = aborted_after args remaining after aborted.NoMemory (requests_input args task name requests)
 
 -- a refusal of the protocol text
-pub text_refused : (task : Task) (name input : List ℕ) (q : Refusal) → (q ≢ refusal.NoMemory → RefusesText name (protocol_text input) q) → RejectsFor (RefusesInput task name input) (error_for (text_rejection q))
-text_refused task name input q refuses =
+pub text_refused : (task : Task) (name input part : List ℕ) (q : Refusal) → HasPart (part_of task) input part → (q ≢ refusal.NoMemory → RefusesText name (protocol_text input) q) → RejectsFor (RefusesInput task name input) (error_for (text_rejection q))
+text_refused task name input part q has refuses =
     (elim (text_rejection q) as (λ o. text_rejection q ≡ o → RejectsFor (RefusesInput task name input) (error_for o)) [
       | None ↦ λ is. tt
-      | Some r ↦ λ is. RefusesInput.text [] q r (needs_no_part task input) (refuses (λ out_of_memory. let none : None ≡ Some r = ap text_rejection (sym out_of_memory) ∙ is in absurd (cc))) is
+      | Some r ↦ λ is. RefusesInput.text part q r has (refuses (λ out_of_memory. let none : None ≡ Some r = ap text_rejection (sym out_of_memory) ∙ is in absurd (cc))) is
     ]) refl
+
+-- the part that the task needs is missing
+pub part_missing : (task : Task) (name input : List ℕ) (q : InputRefusal) → ((part : Part) × LacksPart task input part × (q ≡ NoPart part)) → RejectsFor (RefusesInput task name input) (error_for (input_rejection q))
+part_missing task name bytes q (part, lacks, is) = subst (λ r. RejectsFor (RefusesInput task name bytes) (error_for (input_rejection r))) (sym is) (RefusesInput.no_part part lacks)
 
 -- the reply of a rejection
 pub rejection_replied : (args : List (List ℕ)) (remaining after : Option (List ℕ)) (r : Rejection) (text : List ℕ) → IsRejected args remaining after r → text ≡ rejection_line r → IsReply args remaining after (record { status = status.Refused; text = text })
@@ -155,17 +160,17 @@ pub rejection_aborted : (args : List (List ℕ)) (remaining after : Option (List
 rejection_aborted args remaining after r rejected = record { nothing = rejected.taken.nothing; read = λ is. absurd (cc) }
 
 -- an answer on the protocol that the protocol text declares
-pub task_answered : (task : Task) (name input : List ℕ) (x : Expanded) (out : List ℕ) (s : Status) → Declares name (protocol_text input) x → IsAnswer task x [] out s → AnswersInput task name input out s
-task_answered task name input x out s declares answer = record {
-  part = [];
-  has_part = needs_no_part task input;
+pub task_answered : (task : Task) (name input part : List ℕ) (x : Expanded) (out : List ℕ) (s : Status) → HasPart (part_of task) input part → Declares name (protocol_text input) x → IsAnswer task x part out s → AnswersInput task name input out s
+task_answered task name input part x out s has declares answer = record {
+  part = part;
+  has_part = has;
   protocol = x;
   judged = judged_if_declared task name input x declares;
   answer = answer;
 }
 
--- an error of `verify` on it
-pub verify_refused : (brief : Bool) (name input : List ℕ) (x : Expanded) (e : AnswerError) → Declares name (protocol_text input) x → RejectsFor (IsVerifyRefused x) e → RejectsFor (RefusesInput (Verify brief) name input) e
-verify_refused brief name input x (error.Rejected r) declares refuses = RefusesInput.part [] x r refl declares refuses
-verify_refused brief name input x (error.Aborted aborted.ReadFault) declares refuses = absurd refuses
-verify_refused brief name input x (error.Aborted aborted.NoMemory) declares refuses = tt
+-- an error of the command on it
+pub task_refused : (task : Task) (name input part : List ℕ) (x : Expanded) (e : AnswerError) → HasPart (part_of task) input part → Declares name (protocol_text input) x → RejectsFor (IsPartRefused task x part) e → RejectsFor (RefusesInput task name input) e
+task_refused task name input part x (error.Rejected r) has declares refuses = RefusesInput.part part x r has (judged_if_declared task name input x declares) refuses
+task_refused task name input part x (error.Aborted aborted.ReadFault) has declares refuses = absurd refuses
+task_refused task name input part x (error.Aborted aborted.NoMemory) has declares refuses = tt

@@ -1,13 +1,14 @@
 -- The headline: what each line of an output claims is true of the protocol that was judged.
 use Rattle.std.specs.Prelude.{◌≡◌, ℕ, List, ◌++◌, Option, IfSome}
 use Rattle.bspl_types.specs.declared.expanded.Expanded.{Expanded}
-use Rattle.enactment_model.specs.Safety.{SafeProtocol}
 use Rattle.bspl_io.specs.Traffic.{Traffic}
+use Rattle.bspl_tool.specs.declared.claim.Claim.{Claim}
 use Rattle.bspl_tool.specs.declared.request.Task.{Task}
 use Rattle.bspl_tool.specs.Call.{AreRemaining}
+use Rattle.bspl_tool.specs.Claims.{IsClaimTrue, claim_line}
 use Rattle.bspl_tool.specs.Request.{Requests}
 use Rattle.bspl_tool.specs.Task.{Judged}
-use Rattle.bspl_tool.specs.Texts.{SaysLine, safety_safe}
+use Rattle.bspl_tool.specs.Texts.{SaysLine}
 
 -- the arguments request a task that judges the protocol on the bytes that remain
 pub record IsJudged (args : List (List ℕ)) (remaining : Option (List ℕ))
@@ -19,11 +20,11 @@ pub record IsJudged (args : List (List ℕ)) (remaining : Option (List ℕ))
   pub input : AreRemaining remaining bytes
   pub judged : Judged task name bytes x
 
--- what each line of the output claims is true of such a protocol
+-- what each line of the output claims is true of the protocol that is judged
 pub record IsTrueOf (args : List (List ℕ)) (remaining : Option (List ℕ))
     (out : List ℕ) : Type 0 where
-  -- `safety safe`: it is safe in every legal run
-  pub safe : SaysLine out safety_safe → (x : Expanded) × IsJudged args remaining x × SafeProtocol x
+  pub claimed : (claim : Claim) → SaysLine out (claim_line claim) →
+      (x : Expanded) × IsJudged args remaining x × IsClaimTrue claim x
 
 -- so it is with all that was written
 abbrev pub TrueWhereSaid : List (List ℕ) → Traffic → Type 0

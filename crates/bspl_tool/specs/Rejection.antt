@@ -1,14 +1,15 @@
 -- Rejections, and the lines in which they are written.
 use Rattle.std.specs.Prelude.{ℕ, List, [], ◌∷◌, ◌++◌, codes, Option, None, Some}
 use Rattle.std.specs.Fmt.{decimal}
-use Rattle.bspl_types.specs.Limits.{input_limit}
 use Rattle.bspl_types.specs.declared.refusals.Refusal.{Refusal}
 use Rattle.bspl_types.specs.declared.refusals.Refusal.TheVariants.{Byte, Syntax, NoProtocol, Duplicate, Unknown, Arity, BadAdornment, Recursion, Limit, NoKey, NotWholeKey, ForeignKey, SelfMessage, RepeatedParam, NoMemory}
 use Rattle.bspl_types.specs.declared.refusals.What.{What}
 use Rattle.bspl_types.specs.declared.refusals.What.TheVariants as what
+use Rattle.refutation_log.specs.declared.refusal.LogRefusal.{LogRefusal}
+use Rattle.refutation_log.specs.declared.refusal.LogRefusal.TheVariants as log
 use Rattle.bspl_tool.specs.declared.parts.Part.{Part}
 use Rattle.bspl_tool.specs.declared.rejection.Code.{Code}
-use Rattle.bspl_tool.specs.declared.rejection.Code.TheVariants.{E, N, P}
+use Rattle.bspl_tool.specs.declared.rejection.Code.TheVariants.{E, L, N, P}
 use Rattle.bspl_tool.specs.declared.rejection.Field.{Field}
 use Rattle.bspl_tool.specs.declared.rejection.Field.TheVariants as field
 use Rattle.bspl_tool.specs.declared.rejection.Rejection.{Rejection}
@@ -21,6 +22,7 @@ use Rattle.bspl_tool.specs.Texts.{line}
 abbrev pub code_text : Code → List ℕ
 code_text (P n) = codes "P" ++ decimal n
 code_text (E n) = codes "E" ++ decimal n
+code_text (L n) = codes "L" ++ decimal n
 code_text (N n) = codes "N" ++ decimal n
 
 -- the word for what is counted against a limit
@@ -98,3 +100,9 @@ input_rejection (input.NoPart part) = Some (lacks_part part)
 input_rejection (input.TooLong limit) = Some (over_limit limit)
 input_rejection input.NotBuilt = Some not_built
 input_rejection input.NoMemory = None
+
+-- a refusal of a log's text, by its code: its first bad line
+abbrev pub log_rejection : LogRefusal → Option Rejection
+log_rejection (log.Form number) = Some (with_one (L 1) (field.Number number))
+log_rejection (log.Number number) = Some (with_one (L 2) (field.Number number))
+log_rejection log.NoMemory = None

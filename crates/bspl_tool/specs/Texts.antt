@@ -1,6 +1,11 @@
 -- The texts that are written.
 use Rattle.std.specs.Prelude.{ℕ, Bool, ◌==◌, List, [], ◌∷◌, ◌++◌, cond, codes}
+use Rattle.std.specs.Fmt.{decimal}
 use Rattle.std.specs.List.{Contains, slice_split}
+use Rattle.log_checker.specs.declared.refusal.Reject.{Reject}
+use Rattle.log_checker.specs.declared.refusal.Reject.TheVariants.{NoClause, NoMemory, NoPivot, NotEmpty}
+use Rattle.bspl_tool.specs.declared.claim.Claim.TheVariants.{SafetySafe}
+use Rattle.bspl_tool.specs.Claims.{claim_line}
 
 -- a line with its LF
 abbrev pub line : List ℕ → List ℕ
@@ -18,10 +23,6 @@ SaysLine text said = Contains (lines text) said
 abbrev pub usage_text : List ℕ
 usage_text = line (codes "usage: bspl COMMAND NAME [--brief] [--conflicts N] [--threads N]")
 
--- the line that says that a protocol is safe
-abbrev pub safety_safe : List ℕ
-safety_safe = codes "safety safe"
-
 -- a log without steps: the formula of a protocol with single producers has the empty clause
 abbrev pub empty_log : List ℕ
 empty_log = line (codes "log 1 safety") ++ line (codes "end")
@@ -29,4 +30,12 @@ empty_log = line (codes "log 1 safety") ++ line (codes "end")
 -- the verdict on the protocol of that name, and unless it is brief the log
 abbrev pub safe_text : Bool → List ℕ → List ℕ
 safe_text brief name =
-    line (codes "protocol " ++ name) ++ line safety_safe ++ cond brief [] empty_log
+    line (codes "protocol " ++ name) ++ line (claim_line SafetySafe) ++ cond brief [] empty_log
+
+-- what the answer says of a log that is not accepted: its first failure
+abbrev pub reject_text : Reject → List ℕ
+reject_text (NoClause step) = codes "rejected step " ++ decimal step ++ codes " clause"
+reject_text (NoPivot step link) =
+    codes "rejected step " ++ decimal step ++ codes " link " ++ decimal link
+reject_text NotEmpty = codes "rejected not-empty"
+reject_text NoMemory = []

@@ -1,12 +1,16 @@
-ghost use Rattle.std.specs.Prelude.{◌≡◌, IfErr, IfOk, IsErrOf, map, string_bytes};
+ghost use Rattle.std.specs.Prelude.{◌≡◌, ◌≤◌, IfErr, IfOk, IsErrOf, length, map, string_bytes};
 ghost use Rattle.bspl_io.specs.Faults.{HasCounted};
+ghost use Rattle.bspl_types.specs.Limits.{input_limit};
+ghost use Rattle.bspl_tool.specs.Answer.{IsAnswer, IsPartRefused};
 ghost use Rattle.bspl_tool.specs.Output.{AnswersInput};
 ghost use Rattle.bspl_tool.specs.Refusals.{RefusesInput};
 ghost use Rattle.bspl_tool.specs.inner.Error.{HasFailed, RejectsFor};
 ghost use Rattle.bspl_tool.specs.inner.Reply.{IsAborted, IsCause, IsReply};
 
 use super::answer_error::{Aborted, AnswerError};
+use super::check_command::check;
 use super::expand_command::expand;
+use super::input_part::needed_part;
 use super::input_protocol::protocol_of;
 use super::limits::INPUT_LIMIT;
 use super::refusal::InputRefusal;
@@ -17,20 +21,39 @@ use super::status::Status;
 use super::texts::usage_text;
 use super::verify_command::verify;
 use bspl_io::{Source, read_all};
+use bspl_types::Admitted;
 use command_line::one_line;
 use std::alloc::Global;
 
+/// Answers the task on the protocol that it judges, with the bytes of the part that it needs.
+fn answer_task(
+    alloc: Global,
+    task: Task,
+    protocol: &Admitted,
+    part: &[u8],
+) -> Result<Reply, AnswerError>
+    requires { length part.now ≤ input_limit }
+    ensures ok { IfOk result (λ reply.
+        IsAnswer task protocol.now part.now reply.text reply.status) }
+    ensures refused { IfErr result (RejectsFor (IsPartRefused task protocol.now part.now)) }
+{
+    match task {
+        Task::Expand => Ok(expand(alloc, protocol)?),
+        Task::Verify { brief } => verify(alloc, brief, protocol),
+        Task::Check => check(alloc, protocol, part),
+    }
+}
+
 /// Answers the task on an input that was read.
 fn answer_input(alloc: Global, task: Task, name: &[u8], input: &[u8]) -> Result<Reply, AnswerError>
+    requires { length input.now ≤ input_limit }
     ensures ok { IfOk result (λ reply.
         AnswersInput task name.now input.now reply.text reply.status) }
     ensures refused { IfErr result (RejectsFor (RefusesInput task name.now input.now)) }
 {
+    let part = needed_part(task, input)?;
     let protocol = protocol_of(alloc, name, input)?;
-    match task {
-        Task::Expand => Ok(expand(alloc, &protocol)?),
-        Task::Verify { brief } => verify(alloc, brief, &protocol),
-    }
+    answer_task(alloc, task, &protocol, part)
 }
 
 /// Answers the arguments. The input is read only if they request it.

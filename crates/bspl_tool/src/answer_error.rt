@@ -1,12 +1,13 @@
 ghost use Rattle.std.specs.Prelude.{◌≡◌};
-ghost use Rattle.bspl_tool.specs.Rejection.{input_rejection, text_rejection};
+ghost use Rattle.bspl_tool.specs.Rejection.{input_rejection, log_rejection, text_rejection};
 ghost use Rattle.bspl_tool.specs.inner.Error.{error_for, read_error};
 
 use super::limits::INPUT_LIMIT;
 use super::refusal::InputRefusal;
-use super::rejection::{Rejection, input_rejection, text_rejection};
+use super::rejection::{Rejection, input_rejection, log_rejection, text_rejection};
 use bspl_io::ReadRefusal;
 use bspl_types::{NoMemory, Refusal};
+use refutation_log::LogRefusal;
 
 /// Why nothing is to be written.
 #[derive(Clone, Copy, Debug, PartialEq, Eq)]
@@ -94,5 +95,17 @@ impl From<ReadRefusal> for AnswerError {
             ReadRefusal::ReadFault => AnswerError::Aborted(Aborted::ReadFault),
             ReadRefusal::NoMemory => AnswerError::Aborted(Aborted::NoMemory),
         }
+    }
+}
+
+impl From<LogRefusal> for AnswerError {
+    ghost use Rattle.std.specs.Prelude.{◌≡◌};
+    ghost use Rattle.bspl_tool.specs.Rejection.{log_rejection};
+    ghost use Rattle.bspl_tool.specs.inner.Error.{error_for};
+
+    ghost from_gives = { λ refusal error. error ≡ error_for (log_rejection refusal) };
+
+    fn from(refusal: LogRefusal) -> AnswerError {
+        error_for(log_rejection(refusal))
     }
 }

@@ -15,6 +15,10 @@ pub fn answers_are_distinct()
     protocol_expand::answers_once();
     // law: an expansion is refused for one reason at most, and for none if it is admitted
     adornment_check::refuses_once();
+    // law: a text is that of one log at most, or has one first bad line
+    refutation_log::reads_once();
+    // law: a log is accepted or has one first failure
+    protocol_check::safety_fails_once();
 }
 
 /// A law: a task that is determined has one output and one status at most.
@@ -25,6 +29,8 @@ pub fn one_answer()
     bspl_parser::answers_once();
     protocol_expand::answers_once();
     adornment_check::refuses_once();
+    refutation_log::reads_once();
+    protocol_check::safety_fails_once();
     // law: an expansion has one text
     protocol_expand::prints_once();
 }

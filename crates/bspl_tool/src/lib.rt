@@ -4,7 +4,10 @@
 mod answer;
 mod answer_error;
 mod call;
+mod check_command;
+mod claim;
 mod expand_command;
+mod input_part;
 mod input_protocol;
 mod laws;
 mod limits;
@@ -19,12 +22,13 @@ mod texts;
 mod verify_command;
 
 pub use call::bspl;
+pub use claim::Claim;
 pub use input_protocol::protocol_of;
 pub use laws::{answers_are_distinct, one_answer};
 pub use limits::{INPUT_LIMIT, TEXT_LIMIT};
 pub use parts::Part;
 pub use refusal::InputRefusal;
-pub use rejection::{Code, Field, Rejection, input_rejection, text_rejection};
+pub use rejection::{Code, Field, Rejection, input_rejection, log_rejection, text_rejection};
 pub use rejection_text::rejection_line;
 pub use request::Task;
 pub use status::Status;

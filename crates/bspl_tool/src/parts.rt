@@ -1,6 +1,9 @@
-ghost use Rattle.std.specs.Prelude.{◌≡◌, ◌||◌};
+ghost use Rattle.std.specs.Prelude.{◌≡◌, ◌≤◌, ◌||◌, length, None, Some, IfSome, MatchOption};
 ghost use Rattle.std.specs.Str.{bytes_eq};
-ghost use Rattle.bspl_tool.specs.Parts.{begins_part, is_part_line, part_name, protocol_text};
+ghost use Rattle.bspl_tool.specs.Parts.{all_parts, begins_part, first_part, is_part_line};
+ghost use Rattle.bspl_tool.specs.Parts.{part_begun, part_name, protocol_text};
+
+use refutation_log::split_once;
 
 /// A part of an input after its protocol text.
 #[derive(Clone, Copy, Debug, PartialEq, Eq)]
@@ -39,6 +42,44 @@ pub fn protocol_text(input: &[u8]) -> &[u8]
         start += line.len() + 1;
     }
     input
+}
+
+/// The part that the first part line begins, and the bytes after that line.
+pub fn first_part(input: &[u8]) -> Option<(Part, &[u8])>
+    ensures within { IfSome result (λ found. length found.1.now ≤ length input.now) }
+    ensures exact { MatchOption result
+        (first_part input.now ≡ None)
+        (λ found. first_part input.now ≡ Some (found.0, found.1.now)) }
+{
+    let mut rest = input;
+    loop {
+        let (line, after) = split_once(rest, b'\n');
+        if let Some(part) = part_begun(line) {
+            return match after {
+                Some(bytes) => Some((part, bytes)),
+                None => Some((part, &[])),
+            };
+        }
+        let Some(bytes) = after else {
+            return None;
+        };
+        rest = bytes;
+    }
+}
+
+/// The part that the line begins, if it begins one.
+fn part_begun(line: &[u8]) -> Option<Part>
+    ensures { result ≡ part_begun line.now all_parts }
+{
+    if begins_part(line, Part::Agents) {
+        Some(Part::Agents)
+    } else if begins_part(line, Part::Log) {
+        Some(Part::Log)
+    } else if begins_part(line, Part::Run) {
+        Some(Part::Run)
+    } else {
+        None
+    }
 }
 
 /// Whether the line begins some part.

@@ -1,11 +1,13 @@
 ghost use Rattle.std.specs.Prelude.{◌≡◌};
-ghost use Rattle.bspl_tool.specs.declared.rejection.Code.TheVariants.{E};
+ghost use Rattle.bspl_tool.specs.declared.rejection.Code.TheVariants.{E, L};
 ghost use Rattle.bspl_tool.specs.declared.rejection.Field.TheVariants as field;
-ghost use Rattle.bspl_tool.specs.Rejection.{bare, input_rejection, text_rejection, with_one, with_two};
+ghost use Rattle.bspl_tool.specs.Rejection.{bare, input_rejection, log_rejection, text_rejection};
+ghost use Rattle.bspl_tool.specs.Rejection.{with_one, with_two};
 
 use super::parts::Part;
 use super::refusal::InputRefusal;
 use bspl_types::{Name, Refusal, What};
+use refutation_log::LogRefusal;
 
 /// The code of a rejection: a letter and a number.
 #[derive(Clone, Copy, Debug, PartialEq, Eq)]
@@ -14,6 +16,8 @@ pub enum Code {
     P(u8),
     /// The protocol text.
     E(u8),
+    /// The text of a log.
+    L(u8),
     /// What is not supported.
     N(u8),
 }
@@ -21,7 +25,7 @@ pub enum Code {
 /// What a rejection names.
 #[derive(Drop)]
 pub enum Field {
-    /// An offset, a count or a limit.
+    /// An offset, a count, a limit or a line.
     Number(u64),
     /// The name of a protocol, a message or a parameter.
     Name(Name),
@@ -132,4 +136,17 @@ pub fn text_rejection(refusal: Refusal) -> Option<Rejection>
         Refusal::NoMemory => return None,
     };
     Some(rejection)
+}
+
+/// The rejection of a log's text, unless memory ran out.
+pub fn log_rejection(refusal: LogRefusal) -> Option<Rejection>
+    ensures { result ≡ log_rejection refusal }
+{
+    match refusal {
+        LogRefusal::Form { line } => { Some(Rejection::with_one(Code::L(1), Field::Number(line))) }
+        LogRefusal::Number { line } => {
+            Some(Rejection::with_one(Code::L(2), Field::Number(line)))
+        }
+        LogRefusal::NoMemory => None,
+    }
 }

@@ -24,6 +24,7 @@ fn push_code(alloc: Global, text: &mut Bytes, code: Code) -> Result<(), NoMemory
     let (letter, number) = match code {
         Code::P(number) => (b'P', number),
         Code::E(number) => (b'E', number),
+        Code::L(number) => (b'L', number),
         Code::N(number) => (b'N', number),
     };
     text.push(letter)?;

@@ -1,7 +1,9 @@
-ghost use Rattle.std.specs.Prelude.{List, ℕ, IfOk, map, string_bytes};
+ghost use Rattle.std.specs.Prelude.{◌≡◌, List, ℕ, IfOk, map, string_bytes};
 ghost use Rattle.command_line.specs.Line.{IsCommandLine};
 ghost use Rattle.bspl_tool.specs.Request.{IsRequest};
+ghost use Rattle.bspl_tool.specs.Task.{part_of};
 
+use super::parts::Part;
 use bspl_types::NoMemory;
 use command_line::{Command, CommandLine, Subject, command_line};
 use std::alloc::Global;
@@ -13,6 +15,8 @@ pub enum Task {
     Expand,
     /// It is verified. A brief verdict has no log.
     Verify { brief: bool },
+    /// A log is checked against its safety formula.
+    Check,
 }
 
 /// What the arguments request.
@@ -24,6 +28,18 @@ pub enum Request<'a> {
     Unsupported,
     /// A task on the protocol of that name.
     Do { task: Task, name: &'a [u8] },
+}
+
+impl Task {
+    /// The part of the input that the command needs beside the protocol text.
+    pub fn part(self) -> Option<Part>
+        ensures { result ≡ part_of self }
+    {
+        match self {
+            Task::Expand | Task::Verify { .. } => None,
+            Task::Check => Some(Part::Log),
+        }
+    }
 }
 
 /// Reads what the arguments request.
@@ -46,6 +62,7 @@ fn request_of(line: CommandLine<'_>) -> Request<'_>
     let task = match line.command {
         Command::Expand => Task::Expand,
         Command::Verify => Task::Verify { brief: line.brief },
+        Command::Check => Task::Check,
         _ => return Request::Unsupported,
     };
     Request::Do { task, name }

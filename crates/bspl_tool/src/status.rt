@@ -6,6 +6,8 @@ ghost use Rattle.bspl_tool.specs.Status.{exit_status};
 pub enum Status {
     /// The protocol has what was asked for.
     Done,
+    /// The protocol, or the log, does not have what was asked for.
+    Refuted,
     /// The arguments are no command line.
     Usage,
     /// The input was refused with a code.
@@ -25,6 +27,7 @@ impl Status {
     {
         match self {
             Status::Done => 0,
+            Status::Refuted => 1,
             Status::Usage => 3,
             Status::Refused => 4,
             Status::ReadFault => 5,

@@ -1,4 +1,4 @@
--- Literals are told apart by their rank.
+-- A literal is known by its rank: two literals of one rank are one.
 use Rattle.std.proofs.Common.{◌≡◌, ◌≢◌, ◌⊎◌, inl, inr, ℕ, ◌+◌, ◌*◌, Bool, true, false, if◌then◌else◌, not, true≢false, sym, refl, ap, ap₂, arith}
 use Rattle.std.proofs.lemmas.Bool.{cases_eq}
 use Rattle.clause_core.specs.declared.literal.Lit.{Lit}

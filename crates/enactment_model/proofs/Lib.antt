@@ -10,3 +10,10 @@ pub mod ExampleShapes
 pub mod ExampleRuns
 pub mod ExampleLemmas
 pub mod RivalLemmas
+pub mod RoleLemmas
+pub mod RestLemmas
+pub mod ConflictLemmas
+pub mod DecidedLemmas
+pub mod ShortestLemmas
+pub mod CarryingLemmas
+pub mod ReasonLemmas

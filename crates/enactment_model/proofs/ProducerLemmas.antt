@@ -40,7 +40,7 @@ never_again x before first second p is_run emitted same_message same_key adorned
     enabled.can.outs p (subst (λ m. Adorns x m Out p) (sym same_message) adorned) (v, knows_of_second)
 
 -- a message that adorns a parameter is one of the protocol's
-known_message : (x : Expanded) (m p : ℕ) → Adorns x m Out p → m < length x.messages
+pub known_message : (x : Expanded) (m p : ℕ) → Adorns x m Out p → m < length x.messages
 known_message x m p adorned =
     ⊎_elim
     (λ (known : m < length x.messages). known)

@@ -1,14 +1,22 @@
--- Legal runs, safety and liveness come first; what holds of them follows.
+-- Legal runs, safety and liveness come first; what decides them over a run and what holds follow.
 pub mod Legal
 pub mod Safety
 pub mod Liveness
+pub mod BadEvent
+pub mod LeastConflict
+pub mod FirstLoose
+pub mod FirstUnbound
 pub mod Projection
 pub mod Binding
 pub mod Producers
+pub mod ShortestConflict
 pub mod Laws
 pub mod Examples
+pub mod inner
 pub use Rattle.bspl_types.specs.Admission
 pub use Rattle.bspl_types.specs.Expansion
 pub use Rattle.bspl_types.specs.History
 pub use Rattle.bspl_types.specs.Instance
 pub use Rattle.bspl_types.specs.Knowledge
+pub use Rattle.role_knowledge.specs.Blocked
+pub use Rattle.role_knowledge.specs.FirstKnown

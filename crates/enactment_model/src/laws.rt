@@ -2,6 +2,7 @@ ghost use Rattle.enactment_model.specs.Laws.{HistoryIsRun, KnownExactlyIfSomeEve
 ghost use Rattle.enactment_model.specs.Laws.{LegalByPositions, PrefixIsLegal, PrefixIsLegalRun};
 ghost use Rattle.enactment_model.specs.Laws.{NoConflictAgrees, OneProducerIsSafe};
 ghost use Rattle.enactment_model.specs.Laws.{ProjectionKeeps, SecondEmissionIsNotEnabled};
+ghost use Rattle.enactment_model.specs.ShortestConflict.{ShortestConflict};
 
 use bspl_types::equal_values_are_one;
 
@@ -49,3 +50,12 @@ pub fn second_emission_is_not_enabled()
 pub fn one_producer_is_safe()
     ensures { OneProducerIsSafe }
 {}
+
+/// A legal run with a conflict has a shortest prefix with one: a legal run whose last event is the
+/// conflict's second producer.
+pub fn shortest_conflict()
+    ensures { ShortestConflict }
+{
+    // law: lists of values that the test finds equal are one list
+    equal_values_are_one();
+}

@@ -1,10 +1,21 @@
-//! Legal runs, safety and liveness of a protocol, and what holds of every legal run.
+//! Legal runs, safety and liveness of a protocol: what decides them over a run, and what holds of
+//! every legal run.
 #![tactic(auto)]
 
+mod bad_event;
+mod boundness;
+mod conflicts;
 mod examples;
+mod known_values;
 mod laws;
-mod producers;
+mod legality;
+mod occurrence;
+mod producing_messages;
+mod quietness;
 
+pub use bad_event::{BadEvent, Why};
+pub use boundness::unbound;
+pub use conflicts::{Conflict, producers};
 pub use examples::{
     nothing_is_not_live, ping_comes_to_rest, ping_is_safe_and_live, rivals_disagree,
     twin_is_not_safe,
@@ -12,5 +23,8 @@ pub use examples::{
 pub use laws::{
     known_exactly_if_some_event_binds, legal_by_positions, no_conflict_agrees,
     one_producer_is_safe, prefix_is_legal, projection_keeps, second_emission_is_not_enabled,
+    shortest_conflict,
 };
-pub use producers::single_producer;
+pub use legality::legal;
+pub use producing_messages::single_producer;
+pub use quietness::{Loose, quiet};

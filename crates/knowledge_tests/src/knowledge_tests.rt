@@ -28,7 +28,7 @@ fn carried(alloc: Global, pairs: &[(u32, Adornment)]) -> Result<CarriedList, NoM
 }
 
 /// The protocol, if it is well formed.
-fn assemble(alloc: Global, protocol: Protocol) -> Result<Option<Expanded>, NoMemory> {
+pub(crate) fn assemble(alloc: Global, protocol: Protocol) -> Result<Option<Expanded>, NoMemory> {
     let mut roles = Seq::new(alloc);
     for role in [b"A", b"B", b"C"] {
         roles.push(Seq::from_slice(alloc, role)?)?;
@@ -68,7 +68,7 @@ fn cells(numbers: &[u64]) -> Option<[Value; 5]> {
 }
 
 /// The key of these numbers, if there are one to four.
-fn key(numbers: &[u64]) -> Option<Key> {
+pub(crate) fn key(numbers: &[u64]) -> Option<Key> {
     let cells = cells(numbers)?;
     if numbers.is_empty() || numbers.len() > 4 {
         return None;
@@ -103,7 +103,7 @@ fn event(act: Act) -> Option<Event> {
 }
 
 /// The events, if there is room for their numbers.
-fn run(alloc: Global, acts: &[Act]) -> Result<Option<Run>, NoMemory> {
+pub(crate) fn run(alloc: Global, acts: &[Act]) -> Result<Option<Run>, NoMemory> {
     let mut run = Seq::new(alloc);
     for act in acts {
         let Some(event) = event(*act) else {
@@ -115,7 +115,7 @@ fn run(alloc: Global, acts: &[Act]) -> Result<Option<Run>, NoMemory> {
 }
 
 /// Whether each event fits the protocol.
-fn are_fit(x: &Expanded, events: &[Event]) -> bool
+pub(crate) fn are_fit(x: &Expanded, events: &[Event]) -> bool
     ensures { IsTrue result ↔ IsRun x.now events.now }
 {
     events.iter().all(|event| is_fit(x, event))

@@ -1,7 +1,11 @@
-//! Tests of what a role knows and may emit.
+//! Tests of what a role knows and may emit, and of what is decided over runs.
 #![tactic(auto)]
 
 #[cfg(test)]
 mod knowledge_tests;
 #[cfg(test)]
 mod rows;
+#[cfg(test)]
+mod run_rows;
+#[cfg(test)]
+mod run_tests;

@@ -7,7 +7,7 @@ use Rattle.refutation_log.specs.declared.refutation.Link.{Link}
 use Rattle.refutation_log.specs.declared.refutation.Chain.{Chain}
 use Rattle.refutation_log.specs.declared.refutation.Log.{Log}
 use Rattle.clause_core.specs.Numbering.{Numbering, numbered, HasNumber}
-use Rattle.refutation_log.specs.Resolution.{Folds, DerivesAll}
+use Rattle.refutation_log.specs.Resolution.{Accepts, Folds, DerivesAll}
 use Rattle.log_checker.specs.declared.refusal.Reject.{Reject}
 use Rattle.log_checker.specs.declared.refusal.Reject.TheVariants.{NoClause, NoPivot, NotEmpty, NoMemory}
 
@@ -76,3 +76,14 @@ FailsFirst f log (NoClause step) = FailsAt f.clauses log.steps step LacksClause
 FailsFirst f log (NoPivot step link) = FailsAt f.clauses log.steps step (LacksPivot link)
 FailsFirst f log NotEmpty = LacksEmpty f.clauses log.steps
 FailsFirst f log NoMemory = ⊥
+
+-- a log has one first failure at most
+abbrev pub HasOneFailure : Type 0
+HasOneFailure =
+    (f : Formula) (log : Log) (first second : Reject) →
+    FailsFirst f log first → FailsFirst f log second → first ≡ second
+
+-- and none if it is accepted
+abbrev pub AcceptedDoesNotFail : Type 0
+AcceptedDoesNotFail =
+    (f : Formula) (log : Log) (reject : Reject) → Accepts f log → ¬ FailsFirst f log reject

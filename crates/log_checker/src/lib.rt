@@ -3,9 +3,11 @@
 
 mod chains;
 mod checker;
+mod laws;
 mod lookup;
 mod refusal;
 mod steps;
 
 pub use checker::check_log;
+pub use laws::fails_once;
 pub use refusal::Reject;

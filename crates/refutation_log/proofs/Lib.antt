@@ -9,4 +9,5 @@ pub mod ResolutionLemmas
 pub mod RightLines
 pub mod Separators
 pub mod Spellings
+pub mod StepCount
 pub mod WritingLemmas

@@ -76,7 +76,7 @@ one_way text m n form number =
     let moved : IsMisformed number.before number.after = subst (IsMisformed number.before) same.1 (subst (λ (ls : List Line). IsMisformed ls form.after) same.0 form.bad) in
     clash number.before number.after moved number.bad
 
-one_refusal : (text : List ℕ) (refusal other : LogRefusal) → IsRefusedLog text refusal → IsRefusedLog text other → refusal ≢ NoMemory → other ≢ NoMemory → refusal ≡ other
+pub one_refusal : (text : List ℕ) (refusal other : LogRefusal) → IsRefusedLog text refusal → IsRefusedLog text other → refusal ≢ NoMemory → other ≢ NoMemory → refusal ≡ other
 one_refusal text (Form m) (Form n) first second some any = ap Form (one_line IsMisformed IsMisformed text m n misformed_excludes misformed_excludes first second)
 one_refusal text (Form m) (Number n) first second some any = absurd (one_way text m n first second)
 one_refusal text (Number m) (Form n) first second some any = absurd (one_way text n m second first)
@@ -105,7 +105,7 @@ all_right IsBad excludes wants kind log good before (line ∷ after) e bad =
     let right = whole_right kind log.steps (recursion_from_All StepInRange log.steps good) before after line e in
     excludes before after line bad right.0 right.1
 
-no_fault : (text : List ℕ) (kind : Kind) (log : Log) (refusal : LogRefusal) → IsTextOf text kind log → refusal ≢ NoMemory → IsRefusedLog text refusal → ⊥
+pub no_fault : (text : List ℕ) (kind : Kind) (log : Log) (refusal : LogRefusal) → IsTextOf text kind log → refusal ≢ NoMemory → IsRefusedLog text refusal → ⊥
 no_fault text kind log (Form n) is some first =
     all_right IsMisformed misformed_excludes (λ before bad. bad) kind log is.numbers first.before first.after (sym (ap lines_of is.text ∙ lines-log kind log) ∙ first.lines) first.bad
 no_fault text kind log (Number n) is some first =
@@ -117,7 +117,7 @@ no_fault text kind log NoMemory is some first = some refl
 abbrev log_of : List Chain → Log
 log_of steps = record { steps = steps }
 
-same_logs : (kind other : Kind) (log another : Log) → log_text kind log ≡ log_text other another → (kind ≡ other) × (log ≡ another)
+pub same_logs : (kind other : Kind) (log another : Log) → log_text kind log ≡ log_text other another → (kind ≡ other) × (log ≡ another)
 same_logs kind other log another e =
     let lines = sym (lines-log kind log) ∙ ap lines_of e ∙ lines-log other another in
     let fronts : front_lines kind log.steps ≡ front_lines other another.steps = (same_from_push (front_lines kind log.steps) (front_lines other another.steps) end_line end_line lines).0 in

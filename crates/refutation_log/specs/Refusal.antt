@@ -1,12 +1,12 @@
 -- Which line of a text is the first bad one, and in what way it is bad.
-use Rattle.std.specs.Prelude.{◌≡◌, ◌≢◌, ℕ, ◌+◌, List, [], ◌∷◌, ◌++◌, length, ◌==◌, if◌then◌else◌, All, ◌⊎◌, Result, Err}
+use Rattle.std.specs.Prelude.{◌≡◌, ◌≢◌, ℕ, ◌+◌, ◌≤◌, List, [], ◌∷◌, ◌++◌, length, ◌==◌, if◌then◌else◌, All, ◌⊎◌, Result, Err}
 use Rattle.std.specs.List.{onto_first}
 use Rattle.refutation_log.specs.declared.refutation.Kind.{Kind}
 use Rattle.refutation_log.specs.declared.refutation.Chain.{Chain}
 use Rattle.refutation_log.specs.declared.refutation.Log.{Log}
 use Rattle.refutation_log.specs.declared.refusal.LogRefusal.{LogRefusal}
 use Rattle.refutation_log.specs.declared.refusal.LogRefusal.TheVariants.{Form, Number, NoMemory}
-use Rattle.refutation_log.specs.LogText.{StepInRange, header_line, step_line, end_line}
+use Rattle.refutation_log.specs.LogText.{IsTextOf, StepInRange, header_line, step_line, end_line}
 
 -- a line, with its LF
 abbrev pub Line : Type 0
@@ -70,3 +70,27 @@ IsRefusedLog text NoMemory = Unit {0}
 -- the result is this answer, unless memory ran out
 abbrev pub Answers : Result (Kind × Log) LogRefusal → Result (Kind × Log) LogRefusal → Type 0
 Answers result answer = (result ≡ answer) ⊎ (result ≡ Err NoMemory)
+
+-- a text is that of one log
+abbrev pub TextHasOneLog : Type 0
+TextHasOneLog =
+    (text : List ℕ) (kind other : Kind) (log another : Log) → IsTextOf text kind log →
+    IsTextOf text other another → (kind ≡ other) × (log ≡ another)
+
+-- it is refused for one thing
+abbrev pub TextHasOneRefusal : Type 0
+TextHasOneRefusal =
+    (text : List ℕ) (refusal other : LogRefusal) → refusal ≢ NoMemory → other ≢ NoMemory →
+    IsRefusedLog text refusal → IsRefusedLog text other → refusal ≡ other
+
+-- and not both
+abbrev pub LogIsNotRefused : Type 0
+LogIsNotRefused =
+    (text : List ℕ) (kind : Kind) (log : Log) (refusal : LogRefusal) → refusal ≢ NoMemory →
+    IsTextOf text kind log → ¬ IsRefusedLog text refusal
+
+-- a log has no more steps than its text has bytes
+abbrev pub StepsAreFewerThanBytes : Type 0
+StepsAreFewerThanBytes =
+    (text : List ℕ) (kind : Kind) (log : Log) → IsTextOf text kind log →
+    length log.steps ≤ length text

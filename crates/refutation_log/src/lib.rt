@@ -12,7 +12,7 @@ mod refutation;
 mod steps;
 mod writer;
 
-pub use laws::{new_clause_appends, step_appends};
+pub use laws::{new_clause_appends, reads_once, step_appends, steps_are_fewer_than_bytes};
 pub use line_error::LineError;
 pub use numbers::{number_of, pivot_of};
 pub use parts::split_once;

@@ -69,7 +69,7 @@ fn answers_each_row(rt: HostRuntime) -> Result<(), Fail> {
         ("verify Pong", PING, b"refused E3 Pong\n", Status::Refused),
         ("verify Twin", TWIN, NOT_BUILT, Status::Refused),
         ("verify Twin --brief", TWIN, NOT_BUILT, Status::Refused),
-        ("check Ping", PING, NOT_BUILT, Status::Refused),
+        ("check Ping", PING, b"refused P1 log\n", Status::Refused),
         ("replay Ping", PING_AND_LOG, NOT_BUILT, Status::Refused),
         (
             "run Ping --threads 0",
@@ -110,8 +110,8 @@ fn stops_at_faults(rt: HostRuntime) -> Result<(), Fail> {
     let mut first = NumberList::new(alloc);
     first.push(1)?;
     let mut unread = MemSource::new(Bytes::from_slice(alloc, PING)?, 16, first);
-    let check = args_of(alloc, "check Ping")?;
-    let given = bspl(alloc, check.as_slice(), &mut unread, &mut output);
+    let replay = args_of(alloc, "replay Ping")?;
+    let given = bspl(alloc, replay.as_slice(), &mut unread, &mut output);
     assert_eq!(rt; given, Status::Refused);
     assert!(rt; output.written() == NOT_BUILT);
 

@@ -6,6 +6,8 @@ mod argument_tests;
 #[cfg(test)]
 mod call_tests;
 #[cfg(test)]
+mod check_tests;
+#[cfg(test)]
 mod expansion_tests;
 #[cfg(test)]
 mod option_tests;

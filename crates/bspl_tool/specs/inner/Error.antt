@@ -1,9 +1,8 @@
 -- Why there is no answer, as the code hands it on.
-use Rattle.std.specs.Prelude.{◌≡◌, ℕ, Option, None, Some, Result, IsErrOf, ⊤}
+use Rattle.std.specs.Prelude.{Option, None, Some, Result, IsErrOf, ⊤}
 use Rattle.bspl_io.specs.declared.source.ReadRefusal.{ReadRefusal}
 use Rattle.bspl_io.specs.declared.source.ReadRefusal.TheVariants as read
 use Rattle.bspl_types.specs.Limits.{input_limit}
-use Rattle.bspl_tool.specs.declared.answer_error.Aborted.{Aborted}
 use Rattle.bspl_tool.specs.declared.answer_error.Aborted.TheVariants as aborted
 use Rattle.bspl_tool.specs.declared.answer_error.AnswerError.{AnswerError}
 use Rattle.bspl_tool.specs.declared.answer_error.AnswerError.TheVariants as error

@@ -17,4 +17,11 @@ returns c =
         unadmitted = c.refuses_once.ensures.refusals;
         admitted = c.refuses_once.ensures.exclusive;
       };
+      check = record {
+        logs = c.reads_once.ensures.logs;
+        refusals = c.reads_once.ensures.refusals;
+        exclusive = c.reads_once.ensures.exclusive;
+        failure = c.safety_fails_once.ensures.failure;
+        accepted = c.safety_fails_once.ensures.accepted;
+      };
     } in record { usage = usage_law; rejection = rejection_law each; refused = refusal_law each }

@@ -1,5 +1,5 @@
 -- What the crates below answer once, the tool does.
-use Rattle.bspl_tool.proofs.Distinct.{OneEach, answer_law}
+use Rattle.bspl_tool.proofs.Distinct.{answer_law}
 use Rattle.bspl_tool.proofs.laws.one_answer.Goals as goal
 
 pub returns : goal.returns
@@ -15,5 +15,12 @@ returns c = answer_law (record {
     expanded = c.answers_once-2.ensures.distinct;
     unadmitted = c.refuses_once.ensures.refusals;
     admitted = c.refuses_once.ensures.exclusive;
+  };
+  check = record {
+    logs = c.reads_once.ensures.logs;
+    refusals = c.reads_once.ensures.refusals;
+    exclusive = c.reads_once.ensures.exclusive;
+    failure = c.safety_fails_once.ensures.failure;
+    accepted = c.safety_fails_once.ensures.accepted;
   };
 }) c.prints_once.ensures

@@ -1,0 +1,23 @@
+ghost use Rattle.std.specs.Prelude.{◌≡◌};
+ghost use Rattle.bspl_tool.specs.Claims.{claim_line};
+
+/// A line that claims something of the protocol that was judged.
+#[derive(Clone, Copy, Debug, PartialEq, Eq)]
+pub enum Claim {
+    /// A verdict: the protocol is safe.
+    SafetySafe,
+    /// A log of safety was accepted, so the protocol is safe.
+    AcceptedSafety,
+}
+
+impl Claim {
+    /// The line, without its LF.
+    pub fn line(self) -> &'static [u8]
+        ensures { result.now ≡ claim_line self }
+    {
+        match self {
+            Claim::SafetySafe => b"safety safe",
+            Claim::AcceptedSafety => b"accepted safety",
+        }
+    }
+}

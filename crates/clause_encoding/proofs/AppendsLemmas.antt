@@ -1,0 +1,69 @@
+-- What is appended step by step.
+use Rattle.std.proofs.Common.{◌≡◌, ℕ, ◌+◌, ◌-◌, ◌<◌, ◌≤◌, List, [], ◌∷◌, ◌++◌, length, get_or, take, map, sym, ap, ◌∙◌, subst, arith, append-nil, append_assoc}
+use Rattle.std.specs.List.{flat_map, range_with_len}
+use Rattle.std.proofs.lemmas.List.{map_more, take_more}
+use Rattle.std.proofs.lemmas.List.Concat.{flat_map-append}
+use Rattle.std.proofs.lemmas.List.FromFn.{map-range_with_len_more}
+use Rattle.clause_core.specs.declared.literal.Lit.{Lit}
+use Rattle.clause_core.specs.Clause.{IsAscending, HasExactly}
+use Rattle.clause_encoding.specs.Families.{Written}
+use Rattle.clause_encoding.specs.Formula.{AreClausesOf}
+use Rattle.clause_encoding.specs.inner.Appends.{Appends}
+use Rattle.clause_encoding.proofs.RangeLemmas.{flat_map_next}
+
+-- clauses of one list and then of another
+joined : (written others : List Written) (clauses more : List (List Lit)) → AreClausesOf written clauses → AreClausesOf others more → AreClausesOf (written ++ others) (clauses ++ more)
+joined [] others [] more are also = also
+joined [] others (clause ∷ clauses) more are also = absurd are
+joined (lits ∷ written) others [] more are also = absurd are
+joined (lits ∷ written) others (clause ∷ clauses) more are also = (are.0, joined written others clauses more are.1 also)
+
+-- nothing is appended
+pub appends_nothing : (old : List (List Lit)) → Appends old old []
+appends_nothing old = record { added = []; follows = sym (append-nil old); are = tt }
+
+-- one clause is appended
+pub appends_one : (old new : List (List Lit)) (lits clause : List Lit) → IsAscending clause → HasExactly clause lits → new ≡ old ++ clause ∷ [] → Appends old new (lits ∷ [])
+appends_one old new lits clause ascending exactly is_new =
+    record { added = clause ∷ []; follows = is_new; are = (record { ascending = ascending; exactly = exactly }, tt) }
+
+-- two steps
+pub appends_both : (old mid new : List (List Lit)) (written others : List Written) → Appends old mid written → Appends mid new others → Appends old new (written ++ others)
+appends_both old mid new written others first second =
+    record {
+      added = first.added ++ second.added;
+      follows = second.follows ∙ ap (λ clauses. clauses ++ second.added) first.follows ∙ append_assoc old first.added second.added;
+      are = joined written others first.added second.added first.are second.are;
+    }
+
+-- a longer list of what is written
+pub appends_more : (old mid new : List (List Lit)) (written more all : List Written) → all ≡ written ++ more → Appends old mid written → Appends mid new more → Appends old new all
+appends_more old mid new written more all longer so_far step = subst (Appends old new) (sym longer) (appends_both old mid new written more so_far step)
+
+-- one number more of a range that begins after another
+pub appends_next : (f : ℕ → List Written) (old mid new : List (List Lit)) (a k : ℕ) → a ≤ k → Appends old mid (flat_map f (range_with_len a (k - a))) → Appends mid new (f k) → Appends old new (flat_map f (range_with_len a (k + 1 - a)))
+appends_next f old mid new a k from =
+    let longer : k + 1 - a ≡ k - a + 1 = omega arith in
+    let next = ap (λ n. flat_map f (range_with_len a n)) longer ∙ flat_map_next f a (k - a) k (omega arith) in
+    appends_more old mid new (flat_map f (range_with_len a (k - a))) (f k) (flat_map f (range_with_len a (k + 1 - a))) next
+
+-- one message more
+pub appends_message : (f : ℕ → List Written) (old mid new : List (List Lit)) (m : ℕ) → Appends old mid (flat_map f (range_with_len 0 m)) → Appends mid new (f m) → Appends old new (flat_map f (range_with_len 0 (m + 1)))
+appends_message f old mid new m =
+    appends_more old mid new (flat_map f (range_with_len 0 m)) (f m) (flat_map f (range_with_len 0 (m + 1))) (flat_map_next f 0 m m (omega arith))
+
+-- one message more, with one clause
+pub appends_message_clause : (f : ℕ → Written) (old mid new : List (List Lit)) (m : ℕ) → Appends old mid (map f (range_with_len 0 m)) → Appends mid new (f m ∷ []) → Appends old new (map f (range_with_len 0 (m + 1)))
+appends_message_clause f old mid new m =
+    appends_more old mid new (map f (range_with_len 0 m)) (f m ∷ []) (map f (range_with_len 0 (m + 1))) (map-range_with_len_more f 0 m m (omega arith))
+
+-- one item more
+pub appends_item : (f : ℕ → List Written) (old mid new : List (List Lit)) (xs : List ℕ) (i d : ℕ) → i < length xs → Appends old mid (flat_map f (take i xs)) → Appends mid new (f (get_or xs i d)) → Appends old new (flat_map f (take (i + 1) xs))
+appends_item f old mid new xs i d within =
+    let next = ap (flat_map f) (take_more xs i d within) ∙ flat_map-append f (take i xs) (get_or xs i d ∷ []) ∙ ap (λ ys. flat_map f (take i xs) ++ ys) (append-nil (f (get_or xs i d))) in
+    appends_more old mid new (flat_map f (take i xs)) (f (get_or xs i d)) (flat_map f (take (i + 1) xs)) next
+
+-- one item more, with one clause
+pub appends_item_clause : (f : ℕ → Written) (old mid new : List (List Lit)) (xs : List ℕ) (i d : ℕ) → i < length xs → Appends old mid (map f (take i xs)) → Appends mid new (f (get_or xs i d) ∷ []) → Appends old new (map f (take (i + 1) xs))
+appends_item_clause f old mid new xs i d within =
+    appends_more old mid new (map f (take i xs)) (f (get_or xs i d) ∷ []) (map f (take (i + 1) xs)) (map_more f xs i d within)

@@ -1,0 +1,14 @@
+-- Ranges and filtered lists; how long lists are; kinds; what is appended; which variables exist; and
+-- what follows for the safety formula.
+mod RangeLemmas
+mod FilterLemmas
+mod LengthLemmas
+mod ClauseLengths
+mod KindLemmas
+mod AppendsLemmas
+mod OccurrenceLemmas
+mod SelectionLemmas
+mod VariableLemmas
+mod ExistenceLemmas
+mod FamilyLemmas
+mod SafetyLemmas

@@ -1,0 +1,135 @@
+-- The safety formula: its variables are small and exist, and its clauses are few.
+use Rattle.std.proofs.Common.{◌≡◌, ℕ, ◌+◌, ◌<◌, ◌≤◌, List, [], ◌∷◌, length, map, suc, Contains, refl, ap, sym, subst, arith, length-append}
+use Rattle.std.specs.List.{All, enumerate_from, flat_map}
+use Rattle.std.proofs.lemmas.List.Elements.{All-append, All-cons, All-contains, All-head, All-nil, All-tail, All-weaker}
+use Rattle.std.proofs.lemmas.List.Elements.{All-contains_itself}
+use Rattle.std.proofs.lemmas.List.FromFn.{length-enumerate_from}
+use Rattle.bspl_types.specs.declared.expanded.Expanded.{Expanded}
+use Rattle.clause_core.specs.declared.literal.Lit.{Lit}
+use Rattle.clause_core.specs.Clause.{IsClauseOf, VariablesExist}
+use Rattle.clause_core.specs.Literal.{negated}
+use Rattle.clause_encoding.specs.declared.rivals.Rivals.{Rivals}
+use Rattle.clause_encoding.specs.declared.variables.Variables.{Variables}
+use Rattle.clause_encoding.specs.Families.{Written, shared_clauses}
+use Rattle.clause_encoding.specs.Formula.{AreClausesOf, safety_clauses, safety_variables}
+use Rattle.clause_encoding.specs.Rivals.{rival_clauses, rivals_of, selected_is_sent, selectors}
+use Rattle.clause_encoding.specs.Variables.{kind_count, occurs, positive, sent, variable_count}
+use Rattle.clause_encoding.specs.inner.Appends.{Appends}
+use Rattle.clause_encoding.specs.inner.Kinds.{AreOver, AreWithin}
+use Rattle.clause_encoding.proofs.ClauseLengths.{few_added, few_shared}
+use Rattle.clause_encoding.proofs.ExistenceLemmas.{ClauseExists, all_added, all_images, both_exist, two_exist}
+use Rattle.clause_encoding.proofs.FamilyLemmas.{sent_exists, shared_exist}
+use Rattle.clause_encoding.proofs.FilterLemmas.{all_one}
+use Rattle.clause_encoding.proofs.KindLemmas.{rivals_within}
+use Rattle.clause_encoding.proofs.LengthLemmas.{few_rivals}
+use Rattle.clause_encoding.proofs.VariableLemmas.{LitExists}
+
+-- what is appended to nothing is all
+pub all_appended : (clauses : List (List Lit)) (written : List Written) → Appends [] clauses written → AreClausesOf written clauses
+all_appended clauses written appends = subst (AreClausesOf written) (sym appends.follows) appends.are
+
+-- there is a clause for each that is written
+as_many : (written : List Written) (clauses : List (List Lit)) → AreClausesOf written clauses → length clauses ≡ length written
+as_many [] [] are = refl
+as_many [] (clause ∷ clauses) are = absurd are
+as_many (lits ∷ written) [] are = absurd are
+as_many (lits ∷ written) (clause ∷ clauses) are = ap suc (as_many written clauses are.1)
+
+-- a clause has the variables that are written
+clause_exists : (vars : Variables) (lits clause : List Lit) → IsClauseOf lits clause → ClauseExists vars lits → ClauseExists vars clause
+clause_exists vars lits clause is exist =
+    All-weaker (Contains clause) (LitExists vars) (λ l among. All-contains (LitExists vars) lits l exist ((is.exactly l).0 among)) clause (All-contains_itself clause)
+
+-- so have all clauses
+clauses_exist : (vars : Variables) (written : List Written) (clauses : List (List Lit)) → AreClausesOf written clauses → All (ClauseExists vars) written → All (ClauseExists vars) clauses
+clauses_exist vars [] [] are exist = All-nil (ClauseExists vars)
+clauses_exist vars [] (clause ∷ clauses) are exist = absurd are
+clauses_exist vars (lits ∷ written) [] are exist = absurd are
+clauses_exist vars (lits ∷ written) (clause ∷ clauses) are exist =
+    All-cons (ClauseExists vars) clause clauses
+    (clause_exists vars lits clause are.0 (All-head (ClauseExists vars) lits written exist))
+    (clauses_exist vars written clauses are.1 (All-tail (ClauseExists vars) lits written exist))
+
+-- the variables of the safety formula are over the protocol's kinds, and small
+pub safety_over : (x : Expanded) → AreOver x (safety_variables x)
+safety_over x =
+    let messages = x.shape.counts.few_messages in
+    let rivals = few_rivals x in
+    record {
+      every_kind = refl;
+      small = record { few_kinds = omega (arith, messages); occurrences_first = omega arith; few_others = omega (arith, messages, rivals) };
+    }
+
+-- the numbers of items, and what holds of them
+numbered : (P : Rivals → Type 0) (a : ℕ) (xs : List Rivals) → All P xs → All (λ pair. (a ≤ pair.0) × (pair.0 < a + length xs) × P pair.1) (enumerate_from a xs)
+numbered P a [] all = All-nil (λ pair. (a ≤ pair.0) × (pair.0 < a + 0) × P pair.1)
+numbered P a (x ∷ xs) all =
+    let Number = λ (low high : ℕ) (pair : ℕ × Rivals). (low ≤ pair.0) × (pair.0 < high) × P pair.1 in
+    let later = numbered P (a + 1) xs (All-tail P x xs all) in
+    All-cons (Number a (a + length (x ∷ xs))) (a, x) (enumerate_from (a + 1) xs) (omega arith, omega arith, All-head P x xs all)
+    (All-weaker (Number (a + 1) (a + 1 + length xs)) (Number a (a + length (x ∷ xs)))
+    (λ pair within. let from = within.0 in let to = within.1 in (omega (arith, from), omega (arith, to), within.2)) (enumerate_from (a + 1) xs) later)
+
+-- the variable selects two messages
+abbrev IsSelector : Expanded → ℕ × Rivals → Type 0
+IsSelector x pair = (0 < pair.0) × (pair.0 ≤ (safety_variables x).order_base) × AreWithin (length x.messages) pair.1
+
+-- so do all that there are
+selectors_select : (x : Expanded) → All (IsSelector x) (selectors x)
+selectors_select x =
+    let first = kind_count x + 1 in
+    All-weaker (λ pair. (first ≤ pair.0) × (pair.0 < first + length (rivals_of x)) × AreWithin (length x.messages) pair.1) (IsSelector x)
+    (λ pair within. let from = within.0 in let to = within.1 in (omega (arith, from), omega (arith, to), within.2))
+    (selectors x) (numbered (AreWithin (length x.messages)) first (rivals_of x) (rivals_within x))
+
+-- the literal of a selector
+selector_exists : (x : Expanded) (pair : ℕ × Rivals) → IsSelector x pair → LitExists (safety_variables x) (positive pair.0)
+selector_exists x pair selects = let to = selects.1 in (selects.0, omega (arith, to))
+
+-- its clauses
+selected_exists : (x : Expanded) (pair : ℕ × Rivals) → IsSelector x pair → All (ClauseExists (safety_variables x)) (selected_is_sent pair)
+selected_exists x pair selects =
+    let vars = safety_variables x in
+    let selector = negated (positive pair.0) in
+    let exists = selector_exists x pair selects in
+    let first = occurs (sent pair.1.first) in
+    let second = occurs (sent pair.1.second) in
+    both_exist vars (selector ∷ first ∷ []) (selector ∷ second ∷ [])
+    (two_exist vars selector first exists (sent_exists x vars pair.1.first (safety_over x) selects.2.first))
+    (two_exist vars selector second exists (sent_exists x vars pair.1.second (safety_over x) selects.2.second))
+
+-- the clauses on rivals
+rivals_exist : (x : Expanded) → All (ClauseExists (safety_variables x)) (rival_clauses x)
+rivals_exist x =
+    let vars = safety_variables x in
+    let lit = λ (pair : ℕ × Rivals). positive pair.0 in
+    All-append (ClauseExists vars) (flat_map selected_is_sent (selectors x)) (map lit (selectors x) ∷ [])
+    (all_added (IsSelector x) (ClauseExists vars) selected_is_sent (selectors x) (selected_exists x) (selectors_select x))
+    (all_one (ClauseExists vars) (map lit (selectors x)) (all_images (IsSelector x) (LitExists vars) lit (selectors x) (selector_exists x) (selectors_select x)))
+
+-- the variables of the clauses exist
+pub formula_exists : (x : Expanded) (clauses : List (List Lit)) → Appends [] clauses (safety_clauses x) → All (VariablesExist (variable_count (safety_variables x))) clauses
+formula_exists x clauses appends =
+    let vars = safety_variables x in
+    clauses_exist vars (safety_clauses x) clauses (all_appended clauses (safety_clauses x) appends)
+    (All-append (ClauseExists vars) (shared_clauses x vars) (rival_clauses x) (shared_exist x vars (safety_over x)) (rivals_exist x))
+
+-- the clauses on rivals are few
+few_rival_clauses : (x : Expanded) → length (rival_clauses x) ≤ 524289
+few_rival_clauses x =
+    let lit = λ (pair : ℕ × Rivals). positive pair.0 in
+    let rivals = few_rivals x in
+    let count = length-enumerate_from (kind_count x + 1) (rivals_of x) in
+    let pairs = few_added selected_is_sent 2 262144 524288 (selectors x) (λ pair. omega arith) (omega (arith, rivals, count)) (omega arith) in
+    omega (arith, pairs, length-append (flat_map selected_is_sent (selectors x)) (map lit (selectors x) ∷ []))
+
+-- the clauses are few
+pub clauses_few : (x : Expanded) → length (safety_clauses x) ≤ 8000000
+clauses_few x =
+    let vars = safety_variables x in
+    omega (arith, few_shared x vars (safety_over x).small.few_kinds, few_rival_clauses x, length-append (shared_clauses x vars) (rival_clauses x))
+
+-- and those of the formula are as many
+pub formula_few : (x : Expanded) (clauses : List (List Lit)) → Appends [] clauses (safety_clauses x) → length clauses ≤ 8000000
+formula_few x clauses appends =
+    omega (arith, as_many (safety_clauses x) clauses (all_appended clauses (safety_clauses x) appends), clauses_few x)

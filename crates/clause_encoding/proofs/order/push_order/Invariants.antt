@@ -1,0 +1,10 @@
+-- What the loop over the first kinds has appended.
+use Rattle.std.proofs.Common.{◌-◌}
+use Rattle.std.specs.List.{flat_map, range_with_len}
+use Rattle.clause_encoding.specs.inner.Appends.{Appends}
+use Rattle.clause_encoding.specs.inner.Order.{order_of_one}
+use Rattle.clause_encoding.proofs.order.push_order.Given as goal
+
+-- the clauses of the kinds before this one
+abbrev pub invariant-loop-i : goal.invariant-loop-i
+invariant-loop-i l = Appends l.initial.clauses l.clauses (flat_map (order_of_one l.vars) (range_with_len 1 (l.i - 1)))

@@ -1,0 +1,8 @@
+-- The variables come first, then what the clauses speak of, a definition for each family of clauses,
+-- and the formula.
+pub mod Variables
+pub mod Carriers
+pub mod Families
+pub mod Rivals
+pub mod Formula
+pub mod inner

@@ -1,0 +1,16 @@
+-- Clauses of two literals: an emission or a reception, and what stands before it.
+use Rattle.std.specs.Prelude.{ℕ, [], ◌∷◌}
+use Rattle.clause_core.specs.Literal.{negated}
+use Rattle.clause_encoding.specs.declared.variables.Variables.{Variables}
+use Rattle.clause_encoding.specs.Families.{Written}
+use Rattle.clause_encoding.specs.Variables.{occurs, received, sent, stands_before}
+
+-- the message is sent before it is received
+abbrev pub delivery_clause : Variables → ℕ → Written
+delivery_clause vars m =
+    negated (occurs (received m)) ∷ stands_before vars (sent m) (received m) ∷ []
+
+-- the kind does not come before the message is sent
+abbrev pub fresh_clause : Variables → ℕ → ℕ → Written
+fresh_clause vars m kind =
+    negated (occurs (sent m)) ∷ negated (stands_before vars kind (sent m)) ∷ []

@@ -1,0 +1,80 @@
+ghost use Rattle.std.specs.Prelude.{◌≡◌, ◌≤◌, ◌<◌, ◌++◌, [], ◌∷◌, length, IfOk, OnOk};
+ghost use Rattle.std.specs.List.{All};
+ghost use Rattle.clause_encoding.specs.Rivals.{selected_is_sent};
+ghost use Rattle.clause_encoding.specs.inner.Appends.{Appends};
+ghost use Rattle.clause_encoding.specs.inner.Kinds.{AreWithin};
+ghost use Rattle.clause_encoding.specs.inner.Selection.{selections, selector_lits};
+
+use super::clauses::push_clause;
+use super::kinds::sent;
+use super::rivals::Rivals;
+use super::variables::positive;
+use clause_core::{ClauseList, Lit};
+use list_base::{NoMemory, Seq};
+use std::alloc::Global;
+
+/// Appends the clauses that select two rivals which are both sent. The variables that select
+/// them come after the kinds.
+pub(crate) fn push_rivals(
+    clauses: &mut ClauseList,
+    alloc: Global,
+    kinds: u32,
+    rivals: &[Rivals],
+) -> Result<(), NoMemory>
+    requires few_kinds { kinds ≤ 128 }
+    requires few_rivals { length rivals.now ≤ 262144 }
+    requires known { All (AreWithin 64) rivals.now }
+    ensures { let some = selector_lits kinds rivals.now ∷ [] in OnOk result
+        (Appends clauses.old clauses.new (selections kinds rivals.now ++ some)) }
+{
+    push_selections(clauses, alloc, kinds, rivals)?;
+    let lits = selector_lits(alloc, kinds, rivals)?;
+    push_clause(clauses, alloc, lits.as_slice())
+}
+
+/// Appends the clauses that make what is selected sent.
+fn push_selections(
+    clauses: &mut ClauseList,
+    alloc: Global,
+    kinds: u32,
+    rivals: &[Rivals],
+) -> Result<(), NoMemory>
+    requires few_kinds { kinds ≤ 128 }
+    requires few_rivals { length rivals.now ≤ 262144 }
+    requires known { All (AreWithin 64) rivals.now }
+    ensures { OnOk result (Appends clauses.old clauses.new (selections kinds rivals.now)) }
+{
+    for (n, pair) in rivals.iter().enumerate() {
+        push_selection(clauses, alloc, kinds + 1 + n as u32, *pair)?;
+    }
+    Ok(())
+}
+
+/// Appends those of two rivals.
+fn push_selection(
+    clauses: &mut ClauseList,
+    alloc: Global,
+    selector: u32,
+    rivals: Rivals,
+) -> Result<(), NoMemory>
+    requires { AreWithin 64 rivals }
+    ensures { OnOk result
+        (Appends clauses.old clauses.new (selected_is_sent (selector, rivals))) }
+{
+    let unselected = positive(selector).negation();
+    push_clause(clauses, alloc, &[unselected, positive(sent(rivals.first))])?;
+    push_clause(clauses, alloc, &[unselected, positive(sent(rivals.second))])
+}
+
+/// The literals of the variables that select rivals.
+fn selector_lits(alloc: Global, kinds: u32, rivals: &[Rivals]) -> Result<Seq<Lit>, NoMemory>
+    requires few_kinds { kinds ≤ 128 }
+    requires few_rivals { length rivals.now ≤ 262144 }
+    ensures { IfOk result (λ lits. lits ≡ selector_lits kinds rivals.now) }
+{
+    let mut lits = Seq::new(alloc);
+    for n in 0..rivals.len() as u32 {
+        lits.push(positive(kinds + 1 + n))?;
+    }
+    Ok(lits)
+}

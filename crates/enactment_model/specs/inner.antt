@@ -1,0 +1,4 @@
+-- What only private functions cite.
+pub mod Carrying
+pub mod Rivals
+pub mod Rest

@@ -1,0 +1,25 @@
+-- What satisfies a clause: its first literal, a later one, or the rest where the first one is a premise.
+use Rattle.std.proofs.Common.{◌≡◌, ℕ, Bool, true, List, ◌∷◌, ⊎_elim}
+use Rattle.std.proofs.lemmas.Bool.{cases_Bool}
+use Rattle.list_base.proofs.Members.{here, there}
+use Rattle.clause_core.specs.declared.literal.Lit.{Lit}
+use Rattle.clause_core.specs.Clause.{Satisfies}
+use Rattle.clause_core.specs.Literal.{MakesTrue, negated}
+use Rattle.clause_encoding.specs.Variables.{positive}
+use Rattle.first_occurrences.proofs.ListedLemmas.{some_member}
+
+-- its first literal is true
+pub satisfied_first : (v : ℕ → Bool) (l : Lit) (rest : List Lit) → MakesTrue v l → Satisfies v (l ∷ rest)
+satisfied_first v l rest holds = some_member (MakesTrue v) (l ∷ rest) l (here l rest) holds
+
+-- the rest is satisfied
+pub satisfied_later : (v : ℕ → Bool) (l : Lit) (rest : List Lit) → Satisfies v rest → Satisfies v (l ∷ rest)
+satisfied_later v l rest (k, m, within, is, holds) = some_member (MakesTrue v) (l ∷ rest) m (there l rest m (k, within, is)) holds
+
+-- the rest is satisfied if the variable is true
+pub satisfied_if : (v : ℕ → Bool) (variable : ℕ) (rest : List Lit) → (v variable ≡ true → Satisfies v rest) → Satisfies v (negated (positive variable) ∷ rest)
+satisfied_if v variable rest then_rest =
+    ⊎_elim
+    (λ yes. satisfied_later v (negated (positive variable)) rest (then_rest yes))
+    (λ none. satisfied_first v (negated (positive variable)) rest none)
+    (cases_Bool (v variable))

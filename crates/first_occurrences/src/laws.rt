@@ -1,0 +1,95 @@
+ghost use Rattle.first_occurrences.specs.Laws.{AssignmentExists, DeliveryHolds, FreshnessHolds};
+ghost use Rattle.first_occurrences.specs.Laws.{OccurrenceHolds, OrderHolds, PremisesHold};
+ghost use Rattle.first_occurrences.specs.Laws.{RivalsHold, SharedClausesHold};
+ghost use Rattle.first_occurrences.specs.Headline.{UnsatisfiableIsSafe};
+
+use bspl_types::equal_values_are_one;
+use enactment_model::{
+    known_exactly_if_some_event_binds, legal_by_positions, no_conflict_agrees,
+    second_emission_is_not_enabled,
+};
+
+/// Each run has an assignment of its first occurrences under a key, with any values of the
+/// variables between.
+pub fn assignment_exists()
+    ensures { AssignmentExists }
+{}
+
+/// First positions order the kinds.
+pub fn order_holds()
+    ensures { OrderHolds }
+{}
+
+/// A kind that occurs comes before one that does not.
+pub fn occurrence_holds()
+    ensures { OccurrenceHolds }
+{}
+
+/// In a legal run what is received was sent before.
+pub fn delivery_holds()
+    ensures { DeliveryHolds }
+{
+    // law: each event of a legal run may follow those before it
+    legal_by_positions();
+}
+
+/// In a legal run each `in` parameter of what is sent was known to the sender before.
+pub fn premises_hold()
+    ensures { PremisesHold }
+{
+    // law: lists of values that the test finds equal are one list
+    equal_values_are_one();
+    // law: each event of a legal run may follow those before it
+    legal_by_positions();
+    // law: what is known was bound by an event before
+    known_exactly_if_some_event_binds();
+}
+
+/// In a legal run no `out` or `nil` parameter of what is sent was known to the sender before.
+pub fn freshness_holds()
+    ensures { FreshnessHolds }
+{
+    // law: lists of values that the test finds equal are one list
+    equal_values_are_one();
+    // law: each event of a legal run may follow those before it
+    legal_by_positions();
+    // law: what an event binds is known after it
+    known_exactly_if_some_event_binds();
+}
+
+/// The first occurrences of a legal run satisfy the families that all formulas share.
+pub fn shared_clauses_hold()
+    ensures { SharedClausesHold }
+{
+    // laws: each family holds
+    order_holds();
+    occurrence_holds();
+    delivery_holds();
+    premises_hold();
+    freshness_holds();
+}
+
+/// A legal run with a conflict sends two rivals, so it satisfies the clauses of rival producers.
+pub fn rivals_hold()
+    ensures { RivalsHold }
+{
+    // law: lists of values that the test finds equal are one list
+    equal_values_are_one();
+    // law: each event of a legal run may follow those before it
+    legal_by_positions();
+    // law: one message does not produce twice under a key
+    second_emission_is_not_enabled();
+}
+
+/// A protocol is safe if no assignment satisfies its safety formula: a conflict in any legal run,
+/// over any number of keys, would give one (after Singh 2012).
+pub fn unsatisfiable_is_safe()
+    ensures { UnsatisfiableIsSafe }
+{
+    // laws: a conflict gives an assignment that satisfies each family
+    assignment_exists();
+    shared_clauses_hold();
+    rivals_hold();
+    // law: without a conflict all roles agree
+    no_conflict_agrees();
+}

@@ -1,0 +1,9 @@
+//! What first occurs before what in a legal run, and why a formula without a model speaks of all.
+#![tactic(auto)]
+
+mod laws;
+
+pub use laws::{
+    assignment_exists, delivery_holds, freshness_holds, occurrence_holds, order_holds,
+    premises_hold, rivals_hold, shared_clauses_hold, unsatisfiable_is_safe,
+};

@@ -1,0 +1,2 @@
+-- When a log is accepted for a protocol's formula, and its first failure otherwise.
+pub mod Safety

@@ -1,0 +1,11 @@
+pub mod BreakLemmas
+pub mod EventCount
+pub mod EventLemmas
+pub mod FieldLemmas
+pub mod FirstBad
+pub mod InstanceLemmas
+pub mod KeyLemmas
+pub mod LineFieldsLemmas
+pub mod OneAnswer
+pub mod RightLines
+pub mod Separators

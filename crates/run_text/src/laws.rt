@@ -1,0 +1,19 @@
+ghost use Rattle.run_text.specs.Refusal.{EventsAreFewerThanBytes, RunIsNotRefused};
+ghost use Rattle.run_text.specs.Refusal.{TextHasOneBadLine, TextHasOneRun};
+
+use bspl_types::spells_once;
+
+/// A law: a text is that of one run of an admitted protocol at most, or refused for one line, and
+/// not both.
+pub fn reads_once()
+    ensures runs { TextHasOneRun }
+    ensures refusals { TextHasOneBadLine }
+    ensures exclusive { RunIsNotRefused }
+{
+    spells_once(); // law: a field spells one value at most
+}
+
+/// A law: a run has no more events than its text has bytes.
+pub fn events_are_fewer_than_bytes()
+    ensures { EventsAreFewerThanBytes }
+{}

@@ -1,0 +1,16 @@
+//! The text of a run, both ways.
+#![tactic(auto)]
+
+mod event;
+mod fields;
+mod key;
+mod laws;
+mod reader;
+mod refusal;
+mod values;
+mod writer;
+
+pub use laws::{events_are_fewer_than_bytes, reads_once};
+pub use reader::read_run;
+pub use refusal::RunRefusal;
+pub use writer::write_run;

@@ -1,0 +1,16 @@
+pub mod ListedLemmas
+pub mod NumberingLemmas
+pub mod KindLemmas
+pub mod LiteralLemmas
+pub mod OrderLemmas
+pub mod InsertLemmas
+pub mod ValueLemmas
+pub mod FamilyLemmas
+pub mod CarrierLemmas
+pub mod RunLemmas
+pub mod HappenLemmas
+pub mod LegalLemmas
+pub mod RivalLemmas
+pub mod ConflictLemmas
+pub mod ExistenceLemmas
+pub mod ModelLemmas

@@ -1,0 +1,4 @@
+-- What only private functions cite.
+pub mod Order
+pub mod Steps
+pub mod Values

@@ -1,0 +1,14 @@
+//! The run that an assignment of a protocol's formula describes, and the laws of its models.
+#![tactic(auto)]
+
+mod events;
+mod instances;
+mod laws;
+mod order;
+mod replay;
+mod safety;
+mod values;
+
+pub use laws::{conflict_has_model, model_is_not_safe};
+pub use replay::order_run;
+pub use safety::run_of;
