@@ -31,7 +31,7 @@ pub(crate) fn instance_after(
 }
 
 /// The key that has the value 1 for each key parameter.
-fn key_of_ones(x: &Expanded) -> Key
+pub fn key_of_ones(x: &Expanded) -> Key
     requires { 0 < length x.now.keys }
     ensures { result ≡ key_of_ones x.now }
 {

@@ -9,6 +9,7 @@ mod replay;
 mod safety;
 mod values;
 
+pub use instances::key_of_ones;
 pub use laws::{conflict_has_model, model_is_not_safe};
 pub use replay::order_run;
 pub use safety::run_of;

@@ -1,0 +1,4 @@
+pub mod KeyLemmas
+pub mod LineLemmas
+pub mod OneBadEvent
+pub mod OneReplay

@@ -1,0 +1,8 @@
+-- The texts that report on a run and on a protocol, in reading order.
+pub mod Keys
+pub mod Status
+pub mod ReplayLines
+pub mod ReplayText
+pub mod VerdictText
+pub mod Laws
+pub mod inner

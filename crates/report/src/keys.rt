@@ -1,0 +1,52 @@
+ghost use Rattle.std.specs.Prelude.{◌≡◌, ◌<◌, length, IfOk};
+ghost use Rattle.std.specs.List.{All};
+ghost use Rattle.bspl_types.specs.History.{instance_of, IsRun};
+ghost use Rattle.report.specs.Keys.{keys_of, reported_keys};
+
+use bspl_types::{Event, Expanded, Key, equal_values_are_one};
+use list_base::{NoMemory, Seq};
+use std::alloc::Global;
+use witness_replay::key_of_ones;
+
+/// The keys that are reported.
+pub(crate) fn reported_keys(
+    alloc: Global,
+    x: &Expanded,
+    run: &[Event],
+) -> Result<Seq<Key>, NoMemory>
+    requires some { 0 < length x.now.keys }
+    requires fits { IsRun x.now run.now }
+    ensures keys { IfOk result (λ keys. keys ≡ reported_keys x.now run.now) }
+    ensures lengths { IfOk result (λ keys. All (λ key. length key ≡ length x.now.keys) keys) }
+{
+    let mut keys = keys_of(alloc, run)?;
+    if run.is_empty() {
+        keys.push(key_of_ones(x))?;
+    }
+    Ok(keys)
+}
+
+/// The keys of the events, each once, in order of first event.
+fn keys_of(alloc: Global, run: &[Event]) -> Result<Seq<Key>, NoMemory>
+    ensures { IfOk result (λ keys. keys ≡ keys_of run.now) }
+{
+    // law: keys that the test finds equal are one key
+    equal_values_are_one();
+    let mut keys = Seq::new(alloc);
+    for event in run {
+        let key = key_of(event);
+        if !keys.as_slice().contains(&key) {
+            keys.push(key)?;
+        }
+    }
+    Ok(keys)
+}
+
+/// The key of what is emitted or received.
+fn key_of(event: &Event) -> Key
+    ensures { result ≡ (instance_of event.now).key }
+{
+    match event {
+        Event::Emit(instance) | Event::Receive(instance) => instance.key,
+    }
+}

@@ -1,0 +1,6 @@
+pub mod FormulaLemmas
+pub mod RangeLemmas
+pub mod RivalLemmas
+pub mod OutcomeLemmas
+pub mod RunLemmas
+pub mod VariableLemmas

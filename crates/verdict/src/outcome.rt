@@ -1,0 +1,25 @@
+use bspl_types::Run;
+use refutation_log::Log;
+
+/// Whether a protocol is safe, and why.
+#[derive(Drop)]
+pub enum Safety {
+    /// The protocol is safe; the log, which was checked, refutes its safety formula.
+    Safe(Log),
+    /// The protocol is not safe; the run is legal, and its last event is the second producer of its
+    /// first conflict. Positions count from 1.
+    Unsafe {
+        run: Run,
+        param: u32,
+        first: usize,
+        second: usize,
+    },
+    /// The search came to its budget; the log has the new clauses that it learned.
+    Undecided(Log),
+}
+
+/// The verdicts on a protocol.
+#[derive(Drop)]
+pub struct Verdicts {
+    pub safety: Safety,
+}
