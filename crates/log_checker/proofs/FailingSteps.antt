@@ -1,13 +1,17 @@
 -- A log that fails at a step derives nothing beyond it, and fails at that step alone.
-use Rattle.std.proofs.Common.{◌≡◌, ℕ, zero, suc, ◌+◌, ◌<◌, inl, inr, Some, List, [], ◌∷◌, ◌++◌, length, get_or, take, slice_get, refl, ap₂, arith, take_all, append_assoc, append-nil}
+use Rattle.std.proofs.Common.{◌≡◌, ℕ, zero, suc, ◌+◌, ◌<◌, inl, inr, Some, List, [], ◌∷◌, ◌++◌, length, get_or, take, slice_get, refl, sym, ap, ap₂, ◌∙◌, arith, take_all, append_assoc, append-nil}
 use Rattle.std.proofs.lemmas.List.{take_more}
 use Rattle.std.proofs.lemmas.Bool.{cases_order}
+use Rattle.std.proofs.lemmas.Option.{slice_get-get_or}
 use Rattle.clause_core.specs.declared.literal.Lit.{Lit}
 use Rattle.refutation_log.specs.declared.refutation.Chain.{Chain}
 use Rattle.clause_core.specs.Numbering.{Numbering, numbered}
 use Rattle.clause_core.specs.Resolvent.{ResolventsAgree}
 use Rattle.refutation_log.specs.Resolution.{Derives, DerivesAll, StepsAppend}
+use Rattle.log_checker.specs.declared.refusal.ChainError.{ChainError}
+use Rattle.log_checker.specs.declared.refusal.ChainError.TheVariants.{NoClause, NoPivot, NoMemory}
 use Rattle.log_checker.specs.FirstFailure.{FailsAt}
+use Rattle.log_checker.specs.inner.Stops.{ChainStops, StepsStop, rejection}
 use Rattle.log_checker.proofs.Folding.{derives_one}
 
 -- the steps derive one list of clauses
@@ -23,6 +27,14 @@ derived_one agree clauses (step ∷ steps) (c ∷ first) (d ∷ second) is_first
 pub derives_next : StepsAppend → (clauses : List (List Lit)) (steps : List Chain) (derived new : List (List Lit)) (index : ℕ) (chain : Chain) (clause : List Lit) → index < length steps → chain ≡ get_or steps index chain → new ≡ derived ++ clause ∷ [] → DerivesAll clauses (take index steps) derived → Derives (numbered (clauses ++ derived)) chain clause → DerivesAll clauses (take (index + 1) steps) new
 derives_next append clauses steps derived new index chain clause within is pushed before next =
     rw (take_more steps index chain within, ← is, pushed) (append clauses derived (take index steps) chain clause before next)
+
+-- the step at the index stops, and those before it derive clauses
+pub steps_stop : (clauses : List (List Lit)) (steps : List Chain) (derived : List (List Lit)) (index : ℕ) (chain : Chain) (error : ChainError) → index < length steps → chain ≡ get_or steps index chain → DerivesAll clauses (take index steps) derived → ChainStops (numbered (clauses ++ derived)) chain error → StepsStop clauses steps (rejection (index + 1) error)
+steps_stop clauses steps derived index chain NoClause within is before stops =
+    record { index = index; counted = refl; chain = chain; next = slice_get-get_or steps index chain within ∙ ap Some (sym is); derived = derived; before = before; fails = stops }
+steps_stop clauses steps derived index chain (NoPivot link) within is before stops =
+    record { index = index; counted = refl; chain = chain; next = slice_get-get_or steps index chain within ∙ ap Some (sym is); derived = derived; before = before; fails = stops }
+steps_stop clauses steps derived index chain NoMemory within is before stops = tt
 
 -- the steps before the index derive clauses, and the step there derives one from all of them
 pub record StepPasses (clauses : List (List Lit)) (steps : List Chain) (index : ℕ) (chain : Chain) : Type 0 where

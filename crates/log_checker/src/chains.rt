@@ -1,69 +1,70 @@
-ghost use Rattle.std.specs.Prelude.{◌≡◌, ◌++◌, IfOk, IfErr, unwrap_or};
+ghost use Rattle.std.specs.Prelude.{◌≡◌, ◌++◌, [], List, All, IfOk, IfErr, OnOk};
+ghost use Rattle.clause_core.specs.declared.literal.Lit.{Lit};
+ghost use Rattle.clause_core.specs.Clause.{VariablesExist};
 ghost use Rattle.clause_core.specs.Numbering.{numbered};
-ghost use Rattle.refutation_log.specs.Resolution.{Derives};
-ghost use Rattle.log_checker.specs.inner.Stops.{ResolvesTo, LinkStops, ChainStops};
+ghost use Rattle.refutation_log.specs.Resolution.{Derives, Resolved};
+ghost use Rattle.log_checker.specs.inner.Marks.{Marks};
+ghost use Rattle.log_checker.specs.inner.Stops.{LinkStops, ChainStops};
 
 use super::lookup::clause_of;
+use super::mark_table::MarkTable;
 use super::refusal::ChainError;
-use clause_core::{Clause, ResolveRefusal, resolve};
-use list_base::TryClone;
+use clause_core::{Clause, equal_members, lists_have_clauses};
 use refutation_log::{Chain, Link};
 use std::alloc::Global;
 
-/// The clause that the chain derives from the formula's clauses and the derived ones.
+/// The clause that the chain derives from the formula's clauses and the derived ones. The table is
+/// empty before, and again after a clause.
 pub fn chain_clause(
     alloc: Global,
     formula: &[Clause],
     derived: &[Clause],
     chain: &Chain,
+    marks: &mut MarkTable,
 ) -> Result<Clause, ChainError>
+    requires exist { All (VariablesExist marks.old.vars) (formula.now ++ derived.now) }
+    requires empty { Marks marks.old [] }
     ensures ok { IfOk result (Derives (numbered (formula.now ++ derived.now)) chain.now) }
+    ensures exist { IfOk result (λ clause. VariablesExist marks.old.vars clause) }
+    ensures empty { OnOk result (Marks marks.new []) }
+    ensures vars { OnOk result (marks.new.vars ≡ marks.old.vars) }
     ensures err { IfErr result (ChainStops (numbered (formula.now ++ derived.now)) chain.now) }
 {
     let Some(first) = clause_of(formula, derived, chain.first) else {
         return Err(ChainError::NoClause);
     };
-    let mut folded: Option<Clause> = None;
+    marks.insert_all(first.lits())?;
     for (index, link) in chain.links.as_slice().iter().enumerate() {
-        let clause = so_far(first, &folded);
-        let resolvent = link_resolvent(alloc, formula, derived, clause, *link, index as u64 + 1)?;
-        folded = Some(resolvent);
+        fold_link(formula, derived, *link, index as u64 + 1, marks)?;
     }
-    match folded {
-        Some(clause) => Ok(clause),
-        None => Ok(first.try_clone()?),
-    }
+    // law: clauses with the same literals are equal
+    equal_members();
+    Ok(marks.take_clause(alloc)?)
 }
 
-/// The chain's first clause, until a link was folded.
-fn so_far<'a>(first: &'a Clause, folded: &'a Option<Clause>) -> &'a Clause
-    ensures { result.now ≡ unwrap_or folded.now first.now }
-{
-    match folded {
-        Some(clause) => clause,
-        None => first,
-    }
-}
-
-/// The resolvent of a clause with that of the link, the chain's link of this number.
-fn link_resolvent(
-    alloc: Global,
+/// Resolves the marked clause with that of the link, the chain's link of this number.
+fn fold_link(
     formula: &[Clause],
     derived: &[Clause],
-    clause: &Clause,
     link: Link,
     number: u64,
-) -> Result<Clause, ChainError>
-    ensures ok { IfOk result (ResolvesTo (numbered (formula.now ++ derived.now)) clause.now link) }
-    ensures err { IfErr result
-        (LinkStops (numbered (formula.now ++ derived.now)) clause.now link number) }
+    marks: &mut MarkTable,
+) -> Result<(), ChainError>
+    requires exist { All (VariablesExist marks.old.vars) (formula.now ++ derived.now) }
+    ensures vars { OnOk result (marks.new.vars ≡ marks.old.vars) }
+    ensures ok { (clause : List Lit) → Marks marks.old clause → OnOk result
+        (Resolved (numbered (formula.now ++ derived.now)) clause link (Marks marks.new)) }
+    ensures err { (clause : List Lit) → Marks marks.old clause → IfErr result
+        (LinkStops (numbered (formula.now ++ derived.now)) clause link number) }
 {
     let Some(other) = clause_of(formula, derived, link.clause) else {
         return Err(ChainError::NoClause);
     };
-    match resolve(alloc, clause, link.pivot, other) {
-        Ok(resolvent) => Ok(resolvent),
-        Err(ResolveRefusal::NoPivot) => Err(ChainError::NoPivot { link: number }),
-        Err(ResolveRefusal::NoMemory) => Err(ChainError::NoMemory),
+    if !marks.has(link.pivot) || !other.has(link.pivot.negation()) {
+        return Err(ChainError::NoPivot { link: number });
     }
+    // law: each list of literals has a clause
+    lists_have_clauses();
+    marks.resolve(link.pivot, other.lits())?;
+    Ok(())
 }

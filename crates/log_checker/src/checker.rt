@@ -35,7 +35,7 @@ fn checked(alloc: Global, f: &Formula, log: &Log) -> Result<(), Reject>
     ensures err { IfErr result (LogStops f.now log.now) }
 {
     let formula = f.clauses.as_slice();
-    let derived = derived_clauses(alloc, formula, log.steps.as_slice())?;
+    let derived = derived_clauses(alloc, f.vars, formula, log.steps.as_slice())?;
     if any_empty(formula, derived.as_slice()) {
         Ok(())
     } else {

@@ -5,6 +5,7 @@ mod chains;
 mod checker;
 mod laws;
 mod lookup;
+mod mark_table;
 mod refusal;
 mod steps;
 

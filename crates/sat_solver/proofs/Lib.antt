@@ -3,6 +3,7 @@ mod ConflictLemmas
 mod CurrentLemmas
 mod EntryLemmas
 mod GatheringLemmas
+mod GrowthLemmas
 mod LearningLemmas
 mod LevelLemmas
 mod LiteralLemmas

@@ -1,4 +1,5 @@
 pub mod Choice
+pub mod Queue
 pub mod Search
 pub mod Progress
 pub mod LiteralSet

@@ -1,71 +1,65 @@
-ghost use Rattle.std.specs.Prelude.{◌≡◌, ◌<◌, None, IfSome, IfNone};
-ghost use Rattle.clause_core.specs.Clause.{VariablesExist};
+ghost use Rattle.std.specs.Prelude.{◌≡◌, ◌≤◌, ◌↔◌, IsTrue, IfSome, IfNone};
 ghost use Rattle.sat_trail.specs.Trail.{IsTrail};
-ghost use Rattle.sat_solver.specs.inner.Choice.{IsFree, AllSet};
+ghost use Rattle.sat_solver.specs.inner.Choice.{IsFree, AllSet, AreSetUpTo};
 
+use super::decision_rule::DecisionRule;
 use clause_core::Lit;
 use sat_trail::Trail;
 
-/// The literal to decide: the last one that has no value in the newest clause that is not
-/// satisfied, as in BerkMin. The clauses after `mark` are satisfied until the next way back.
-pub fn choose(trail: &Trail, vars: u32, mark: &mut u32) -> Option<Lit>
+/// How far the walks of a search came since the last way back. Both only go on until the next one.
+#[derive(Clone, Copy, Debug)]
+pub struct Marks {
+    /// The clauses after this number are satisfied.
+    pub clause: u32,
+    /// The variables up to this one are set.
+    pub lowest: u32,
+}
+
+/// The literal to decide: the one that the rule proposes, if it is unset, and else the negation of
+/// the lowest unset variable.
+pub fn choose(trail: &Trail, vars: u32, rule: &mut DecisionRule, marks: &mut Marks) -> Option<Lit>
     requires vars { vars ≡ trail.now.vars }
+    requires rule { rule.old.queue.vars ≡ trail.now.vars }
     requires sound { IsTrail trail.now }
+    requires passed { AreSetUpTo trail.now marks.old.lowest }
     ensures free { IfSome result (IsFree trail.now) }
     ensures all_set { IfNone result (AllSet trail.now) }
+    ensures passed { AreSetUpTo trail.now marks.new.lowest }
+    ensures rule { rule.new.queue.vars ≡ rule.old.queue.vars }
 {
-    while *mark > 0 {
-        if let Some(lit) = wanted_in(trail, *mark) {
+    if let Some(lit) = rule.propose(trail, &mut marks.clause) {
+        if is_free(trail, vars, lit) {
             return Some(lit);
         }
-        *mark -= 1;
     }
-    lowest_free(trail, vars)
+    lowest_free(trail, vars, &mut marks.lowest)
 }
 
-/// The literal that is wanted in the clause of the number, if a clause has it.
-fn wanted_in(trail: &Trail, number: u32) -> Option<Lit>
-    requires { IsTrail trail.now }
-    ensures { IfSome result (IsFree trail.now) }
+/// Whether the literal's variable exists and has no value.
+fn is_free(trail: &Trail, vars: u32, lit: Lit) -> bool
+    requires { vars ≡ trail.now.vars }
+    ensures { IsTrue result ↔ IsFree trail.now lit }
 {
-    if !trail.has_clause(number) {
-        return None;
-    }
-    wanted(trail, trail.clause(number).lits())
-}
-
-/// The last literal that has no value, unless a literal is true.
-fn wanted(trail: &Trail, clause: &[Lit]) -> Option<Lit>
-    requires { VariablesExist trail.now.vars clause.now }
-    ensures { IfSome result (IsFree trail.now) }
-{
-    let mut free = None;
-    for lit in clause {
-        match trail.value(lit.var) {
-            None => free = Some(*lit),
-            Some(value) => {
-                if value == lit.positive {
-                    return None;
-                }
-            }
-        }
-    }
-    free
+    0 < lit.var && lit.var <= vars && trail.value(lit.var).is_none()
 }
 
 /// The negation of the lowest variable that has no value.
-fn lowest_free(trail: &Trail, vars: u32) -> Option<Lit>
-    requires { vars ≡ trail.now.vars }
+fn lowest_free(trail: &Trail, vars: u32, lowest: &mut u32) -> Option<Lit>
+    requires vars { vars ≡ trail.now.vars }
+    requires passed { AreSetUpTo trail.now lowest.old }
     ensures free { IfSome result (IsFree trail.now) }
     ensures all_set { IfNone result (AllSet trail.now) }
+    ensures passed { AreSetUpTo trail.now lowest.new }
 {
-    for index in 0..vars {
-        if trail.value(index + 1).is_none() {
+    while *lowest < vars {
+        let var = *lowest + 1;
+        if trail.value(var).is_none() {
             return Some(Lit {
-                var: index + 1,
+                var,
                 positive: false,
             });
         }
+        *lowest = var;
     }
     None
 }

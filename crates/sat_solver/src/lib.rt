@@ -4,13 +4,16 @@
 mod analysis;
 mod choice;
 mod conflict;
+mod decision_rule;
 mod false_lits;
 mod lit_set;
 mod model;
 mod outcome;
+mod recent_clause;
 mod search;
 mod search_stats;
 mod solver;
+mod variable_queue;
 
 pub use outcome::Outcome;
 pub use search_stats::SearchStats;

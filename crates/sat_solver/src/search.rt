@@ -6,13 +6,20 @@ ghost use Rattle.sat_trail.specs.Trail.{IsTrail};
 ghost use Rattle.sat_solver.specs.inner.Choice.{AllSet};
 ghost use Rattle.sat_solver.specs.inner.Search.{KeepsClauses};
 
-use super::choice::choose;
+use super::choice::{Marks, choose};
+use super::decision_rule::DecisionRule;
 use super::search_stats::SearchStats;
 use sat_trail::Trail;
 
 /// Decides and propagates until a clause is false, whose number it gives, or all variables are set.
-pub fn search(trail: &mut Trail, vars: u32, stats: &mut SearchStats) -> Option<u32>
+pub fn search(
+    trail: &mut Trail,
+    vars: u32,
+    rule: &mut DecisionRule,
+    stats: &mut SearchStats,
+) -> Option<u32>
     requires vars { vars ≡ trail.old.vars }
+    requires rule { rule.old.queue.vars ≡ trail.old.vars }
     requires sound { IsTrail trail.old }
     ensures keeps { KeepsClauses trail.old trail.new }
     ensures falsified { let values = values_of trail.new.entries in
@@ -20,8 +27,12 @@ pub fn search(trail: &mut Trail, vars: u32, stats: &mut SearchStats) -> Option<u
     ensures propagated { let values = values_of trail.new.entries in
         IfNone result (IsPropagated values (numbering_of trail.new)) }
     ensures all_set { IfNone result (AllSet trail.new) }
+    ensures rule { rule.new.queue.vars ≡ rule.old.queue.vars }
 {
-    let mut mark = trail.last_number();
+    let mut marks = Marks {
+        clause: trail.last_number(),
+        lowest: 0,
+    };
     'deciding: loop {
         let before = trail.len();
         let found = trail.propagate();
@@ -31,7 +42,7 @@ pub fn search(trail: &mut Trail, vars: u32, stats: &mut SearchStats) -> Option<u
             stats.conflicts = stats.conflicts.saturating_add(1);
             return found;
         }
-        let lit = choose(trail, vars, &mut mark)?;
+        let lit = choose(trail, vars, rule, &mut marks)?;
         trail.decide(lit);
         stats.decisions = stats.decisions.saturating_add(1);
     }

@@ -3,6 +3,7 @@ ghost use Rattle.sat_solver.specs.Outcome.{IsOutcome};
 
 use super::analysis::{Derivation, refute};
 use super::conflict::learn_from;
+use super::decision_rule::DecisionRule;
 use super::false_lits::FalseLits;
 use super::model::model;
 use super::outcome::Outcome;
@@ -42,12 +43,13 @@ pub fn solve_counted(
     }
     let mut trail = Trail::new(alloc, f)?;
     let mut lits = FalseLits::new(alloc, f.vars)?;
+    let mut rule = DecisionRule::new(alloc, f.vars)?;
     // law: a step at the end of a log derives its clause from all the clauses before it
     step_appends();
     // law: new clauses stay new if a new one comes after them
     new_clause_appends();
     for _ in 0..budget {
-        let Some(number) = search(&mut trail, f.vars, stats) else {
+        let Some(number) = search(&mut trail, f.vars, &mut rule, stats) else {
             return Ok(Outcome::Sat(model(alloc, &trail, f.vars)?));
         };
         if trail.level() == 0 {
@@ -55,7 +57,7 @@ pub fn solve_counted(
             steps.push(chain)?;
             return Ok(Outcome::Unsat(Log { steps }));
         }
-        steps.push(learn_from(alloc, &mut trail, number, &mut lits)?)?;
+        steps.push(learn_from(alloc, &mut trail, number, &mut lits, &mut rule)?)?;
     }
     Ok(Outcome::Budget(Log { steps }))
 }

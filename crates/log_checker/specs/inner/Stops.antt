@@ -1,4 +1,4 @@
--- What a link gives, and why a chain, a list of steps and a log stop, by the cause that is named.
+-- Why a link, a chain, a list of steps and a log stop, by the cause that is named.
 use Rattle.std.specs.Prelude.{◌≡◌, ℕ, List}
 use Rattle.clause_core.specs.declared.literal.Lit.{Lit}
 use Rattle.clause_core.specs.declared.formula.Formula.{Formula}
@@ -6,16 +6,11 @@ use Rattle.clause_core.specs.Numbering.{Numbering}
 use Rattle.refutation_log.specs.declared.refutation.Log.{Log}
 use Rattle.refutation_log.specs.declared.refutation.Link.{Link}
 use Rattle.refutation_log.specs.declared.refutation.Chain.{Chain}
-use Rattle.refutation_log.specs.Resolution.{Resolved}
 use Rattle.log_checker.specs.declared.refusal.ChainError.{ChainError}
 use Rattle.log_checker.specs.declared.refusal.ChainError.TheVariants.{NoClause, NoPivot, NoMemory}
 use Rattle.log_checker.specs.declared.refusal.Reject.{Reject}
 use Rattle.log_checker.specs.declared.refusal.Reject.TheVariants as rejects
 use Rattle.log_checker.specs.FirstFailure.{HasNoClause, CannotResolve, LacksClause, LacksPivot, FailsAt, LacksEmpty}
-
--- the clause and that of the link have this resolvent
-abbrev pub ResolvesTo : Numbering → List Lit → Link → List Lit → Type 0
-ResolvesTo numbering clause link resolvent = Resolved numbering clause link (λ r. r ≡ resolvent)
 
 -- why the clause has no resolvent with that of the link of this number
 abbrev pub LinkStops : Numbering → List Lit → Link → ℕ → ChainError → Type 0

@@ -12,9 +12,13 @@ pub record IsFree (t : State) (l : Lit) : Type 0 where
   pub exists : l.var ≤ t.vars
   pub no_value : values_of t.entries l.var ≡ None
 
+-- each variable up to this one has a value
+abbrev pub AreSetUpTo : State → ℕ → Type 0
+AreSetUpTo t last = (v : ℕ) → 0 < v → v ≤ last → IsSome (values_of t.entries v)
+
 -- each variable has a value
 abbrev pub AllSet : State → Type 0
-AllSet t = (v : ℕ) → 0 < v → v ≤ t.vars → IsSome (values_of t.entries v)
+AllSet t = AreSetUpTo t t.vars
 
 -- the valuation satisfies each clause that has a number
 abbrev pub SatisfiesNumbered : (ℕ → Bool) → Numbering → Type 0

@@ -12,6 +12,7 @@ loop-init c =
       rw c.new-steps.ensures (HasLearned-start c.args.f.now c.in_ok-trail.trail none c.in_ok-trail.ensures.start c.in_ok-trail.ensures.sound),
       ap length c.new-steps.ensures,
       ap (λ (s : LiteralSet). s.vars) c.in_ok-lits.ensures ∙ sym c.in_ok-trail.ensures.start.vars,
+      c.in_ok-rule.ensures ∙ sym c.in_ok-trail.ensures.start.vars,
     )
 
 pub returns-in_default : goal.returns-in_default
@@ -39,6 +40,7 @@ loop-preserved c =
           (HasLearned-search _ _ _ _ c.loop.invariant.0 c.search.ensures.keeps) above c.in_ok-learn_from.ensures.learns),
       rw c.in_ok-push-2.ensures.ok (length-append c.loop.steps _ ∙ ap (λ n. n + 1) c.loop.invariant.1),
       c.in_ok-learn_from.ensures.vars ∙ sym (ap (λ (s : State). s.vars) c.in_ok-learn_from.ensures.learns.adds.rest),
+      c.in_ok-learn_from.ensures.rule ∙ c.search.ensures.rule ∙ c.loop.invariant.3 ∙ sym c.search.ensures.keeps.vars ∙ sym (ap (λ (s : State). s.vars) c.in_ok-learn_from.ensures.learns.adds.rest),
     )
 
 pub returns : goal.returns

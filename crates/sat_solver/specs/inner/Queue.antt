@@ -1,0 +1,7 @@
+-- What the queue of variables keeps of its links.
+use Rattle.std.specs.Prelude.{◌≡◌, ℕ, ◌+◌, ◌≤◌, List, length, All}
+
+-- there is a cell for 0 and for each variable, and each cell has 0 or a variable
+pub record AreLinks (vars : ℕ) (links : List ℕ) : Type 0 where
+  pub cells : length links ≡ vars + 1
+  pub exist : All (λ v. v ≤ vars) links

@@ -1,0 +1,47 @@
+ghost use Rattle.clause_core.specs.Clause.{VariablesExist};
+ghost use Rattle.sat_trail.specs.Trail.{IsTrail};
+
+use clause_core::Lit;
+use sat_trail::Trail;
+
+/// The last unset literal of the newest clause that is not satisfied (BerkMin, Goldberg and
+/// Novikov 2002). The clauses after `mark` are satisfied until the next way back.
+pub fn newest_unsatisfied(trail: &Trail, mark: &mut u32) -> Option<Lit>
+    requires { IsTrail trail.now }
+{
+    while *mark > 0 {
+        if let Some(lit) = unset_in(trail, *mark) {
+            return Some(lit);
+        }
+        *mark -= 1;
+    }
+    None
+}
+
+/// The last unset literal in the clause of the number, if a clause has it and it is not satisfied.
+fn unset_in(trail: &Trail, number: u32) -> Option<Lit>
+    requires { IsTrail trail.now }
+{
+    if !trail.has_clause(number) {
+        return None;
+    }
+    last_unset(trail, trail.clause(number).lits())
+}
+
+/// The last literal that has no value, unless a literal is true.
+fn last_unset(trail: &Trail, clause: &[Lit]) -> Option<Lit>
+    requires { VariablesExist trail.now.vars clause.now }
+{
+    let mut unset = None;
+    for lit in clause {
+        match trail.value(lit.var) {
+            None => unset = Some(*lit),
+            Some(value) => {
+                if value == lit.positive {
+                    return None;
+                }
+            }
+        }
+    }
+    unset
+}
