@@ -14,7 +14,7 @@ use Rattle.bspl_types.specs.declared.value.Value.{Value}
 use Rattle.bspl_types.specs.Expansion.{Adorns, message_of, no_message}
 use Rattle.bspl_types.specs.History.{instance_of}
 use Rattle.enactment_model.specs.Safety.{Conflict, ProducesAt}
-use Rattle.enactment_model.specs.inner.Rivals.{HasNoProducer, HasNoRival, IsFirstProducer, IsFirstRival, IsProducer}
+use Rattle.enactment_model.specs.Rivals.{HasNoProducer, HasNoRival, IsFirstProducer, IsFirstRival, IsProducer}
 use Rattle.enactment_model.proofs.ProducerLemmas.{known_message}
 
 -- a producer among the events produces at its position

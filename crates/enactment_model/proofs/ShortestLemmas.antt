@@ -19,7 +19,7 @@ use Rattle.bspl_types.specs.Value.{EqualValuesAreOne, equal_values}
 use Rattle.enactment_model.specs.Legal.{IsLegalRun}
 use Rattle.enactment_model.specs.Safety.{Conflict}
 use Rattle.enactment_model.specs.ShortestConflict.{HasShortestConflict}
-use Rattle.enactment_model.specs.inner.Rivals.{IsProducer}
+use Rattle.enactment_model.specs.Rivals.{IsProducer}
 use Rattle.enactment_model.proofs.ConflictLemmas.{conflict_adorns, conflict_key, prefix_position, prefix_producer, producer_within, whole_producer}
 use Rattle.enactment_model.proofs.DecidedLemmas.{Decided, HasMember, Least, least_of, member_decided}
 use Rattle.enactment_model.proofs.LegalLemmas.{prefix_legal_run}

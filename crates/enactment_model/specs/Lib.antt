@@ -3,6 +3,7 @@ pub mod Legal
 pub mod Safety
 pub mod Liveness
 pub mod BadEvent
+pub mod Rivals
 pub mod LeastConflict
 pub mod FirstLoose
 pub mod FirstUnbound

@@ -1,4 +1,3 @@
 -- What only private functions cite.
 pub mod Carrying
-pub mod Rivals
 pub mod Rest

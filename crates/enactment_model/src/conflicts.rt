@@ -4,8 +4,8 @@ ghost use Rattle.bspl_types.specs.History.{instance_of, IsRun};
 ghost use Rattle.bspl_types.specs.Instance.{Fits};
 ghost use Rattle.enactment_model.specs.LeastConflict.{IsLeastConflict};
 ghost use Rattle.enactment_model.specs.Safety.{HasNoConflict};
-ghost use Rattle.enactment_model.specs.inner.Rivals.{HasNoRival, IsFirstProducer, IsFirstRival};
-ghost use Rattle.enactment_model.specs.inner.Rivals.{HasNoProducer, IsFirstParam, IsProducer};
+ghost use Rattle.enactment_model.specs.Rivals.{HasNoRival, IsFirstProducer, IsFirstRival};
+ghost use Rattle.enactment_model.specs.Rivals.{HasNoProducer, IsLeastRival, IsProducer};
 
 use super::producing_messages::produces;
 use bspl_types::{Event, Expanded, Key};
@@ -29,7 +29,7 @@ pub fn producers(x: &Expanded, run: &[Event]) -> Option<Conflict>
     ensures least { IfSome result (IsLeastConflict x.now run.now) }
 {
     for second in 0..run.len() {
-        if let Some((param, first)) = least_param(x, run, second) {
+        if let Some((param, first)) = least_rival(x, run, second) {
             return Some(Conflict {
                 first: first + 1,
                 second: second + 1,
@@ -41,12 +41,14 @@ pub fn producers(x: &Expanded, run: &[Event]) -> Option<Conflict>
 }
 
 /// The least parameter over which an earlier emission is in conflict with the event at the
-/// position, and the first such emission.
-fn least_param(x: &Expanded, run: &[Event], second: usize) -> Option<(u32, usize)>
+/// position, and the first such emission. Positions are counted from 0.
+///
+/// It takes no memory.
+pub fn least_rival(x: &Expanded, run: &[Event], second: usize) -> Option<(u32, usize)>
     requires run { IsRun x.now run.now }
     requires within { second < length run.now }
     ensures { MatchOption result ((p : ℕ) → HasNoRival x.now run.now second p)
-        (IsFirstParam x.now run.now second) }
+        (IsLeastRival x.now run.now second) }
 {
     for param in 0..x.params.len() as u32 {
         if let Some(first) = first_rival(x, run, second, param) {

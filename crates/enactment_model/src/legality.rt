@@ -26,7 +26,7 @@ pub fn legal(x: &Expanded, run: &[Event]) -> Result<(), BadEvent>
     ensures bad { IfErr result (IsFirstBadEvent x.now run.now) }
 {
     for (index, event) in run.iter().enumerate() {
-        if let Err(why) = check_event(x, &run[..index], event) {
+        if let Err(why) = may_follow(x, &run[..index], event) {
             return Err(BadEvent {
                 place: index + 1,
                 why,
@@ -36,8 +36,10 @@ pub fn legal(x: &Expanded, run: &[Event]) -> Result<(), BadEvent>
     Ok(())
 }
 
-/// Checks that the event may follow the events before it.
-fn check_event(x: &Expanded, before: &[Event], event: &Event) -> Result<(), Why>
+/// Checks that the event may follow the events before it. The answer says why it may not.
+///
+/// It takes no memory.
+pub fn may_follow(x: &Expanded, before: &[Event], event: &Event) -> Result<(), Why>
     requires run { IsRun x.now before.now }
     requires fits { Fits x.now (instance_of event.now) }
     ensures exact { IsOk result ↔ MayFollow x.now before.now event.now }

@@ -15,7 +15,7 @@ mod quietness;
 
 pub use bad_event::{BadEvent, Why};
 pub use boundness::unbound;
-pub use conflicts::{Conflict, producers};
+pub use conflicts::{Conflict, least_rival, producers};
 pub use examples::{
     nothing_is_not_live, ping_comes_to_rest, ping_is_safe_and_live, rivals_disagree,
     twin_is_not_safe,
@@ -25,6 +25,6 @@ pub use laws::{
     one_producer_is_safe, prefix_is_legal, projection_keeps, second_emission_is_not_enabled,
     shortest_conflict,
 };
-pub use legality::legal;
-pub use producing_messages::single_producer;
+pub use legality::{legal, may_follow};
+pub use producing_messages::{shares_out, single_producer};
 pub use quietness::{Loose, quiet};

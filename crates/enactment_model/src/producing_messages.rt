@@ -34,7 +34,7 @@ fn shares_with_any(message: &Message, others: &[Message]) -> bool
 }
 
 /// Whether both messages adorn some parameter `out`.
-fn shares_out(message: &Message, other: &Message) -> bool
+pub fn shares_out(message: &Message, other: &Message) -> bool
     ensures { IsTrue result ↔ SharesOut message.now other.now }
 {
     let carried = message.carried.as_slice();

@@ -1,6 +1,6 @@
 -- What the loop over the positions has found.
 use Rattle.std.proofs.Common.{ℕ, ◌<◌}
-use Rattle.enactment_model.specs.inner.Rivals.{HasNoRival}
+use Rattle.enactment_model.specs.Rivals.{HasNoRival}
 use Rattle.enactment_model.proofs.conflicts.producers.Given as goal
 
 -- no event so far is the second of a conflict

@@ -2,7 +2,7 @@
 use Rattle.std.proofs.Common.{below_more, arith}
 use Rattle.enactment_model.specs.Safety.{Conflict}
 use Rattle.enactment_model.proofs.ConflictLemmas.{at_least, known_param}
-use Rattle.enactment_model.proofs.conflicts.least_param.Goals as goal
+use Rattle.enactment_model.proofs.conflicts.least_rival.Goals as goal
 
 pub returns-in-Some : goal.returns-in-Some
 returns-in-Some c =

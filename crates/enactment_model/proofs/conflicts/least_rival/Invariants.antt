@@ -1,7 +1,7 @@
 -- What the loop over the parameters has found.
 use Rattle.std.proofs.Common.{ℕ, ◌<◌}
-use Rattle.enactment_model.specs.inner.Rivals.{HasNoRival}
-use Rattle.enactment_model.proofs.conflicts.least_param.Given as goal
+use Rattle.enactment_model.specs.Rivals.{HasNoRival}
+use Rattle.enactment_model.proofs.conflicts.least_rival.Given as goal
 
 -- over no parameter so far is there a conflict
 abbrev pub invariant-loop-param : goal.invariant-loop-param

@@ -37,7 +37,7 @@ pub record IsFirstRival (x : Expanded) (run : List Event) (second p first : ℕ)
   pub least : (any : List Value) (i : ℕ) → Conflict x run any p i second → first ≤ i
 
 -- the least parameter over which an event is in conflict with that one, and the first such event
-pub record IsFirstParam (x : Expanded) (run : List Event) (second : ℕ) (found : ℕ × ℕ)
+pub record IsLeastRival (x : Expanded) (run : List Event) (second : ℕ) (found : ℕ × ℕ)
     : Type 0 where
   pub rival : IsFirstRival x run second found.0 found.1
   pub least : (any : List Value) (p i : ℕ) → Conflict x run any p i second → found.0 ≤ p

@@ -1,0 +1,7 @@
+pub mod PartLemmas
+pub mod RestLemmas
+pub mod ChainLemmas
+pub mod WalkLemmas
+pub mod FailureLemmas
+pub mod LegalLemmas
+pub mod ConflictLemmas

@@ -1,0 +1,5 @@
+-- What only private functions cite.
+pub mod Chain
+pub mod Enactment
+pub mod Demands
+pub mod Failures

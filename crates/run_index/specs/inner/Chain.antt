@@ -1,0 +1,26 @@
+-- Where the next event under a key is.
+use Rattle.std.specs.Prelude.{◌≡◌, ◌≢◌, ℕ, ◌+◌, ◌-◌, ◌<◌, ◌≤◌, List, length, slice_get, slice_index_or}
+use Rattle.std.specs.Prelude.{Some, unwrap_or}
+use Rattle.std.specs.HashMap.{HashMap, get}
+use Rattle.bspl_types.specs.declared.event.Event.{Event}
+use Rattle.bspl_types.specs.declared.value.Value.{Value}
+use Rattle.bspl_types.specs.History.{instance_of}
+use Rattle.bspl_types.specs.Value.{equal_values}
+
+-- the first position from one on with an event under the key, or else the length of the run
+pub record IsNextUnder (run : List Event) (key : List Value) (from found : ℕ) : Type 0 where
+  pub after : from ≤ found
+  pub within : found ≤ length run
+  pub skipped : (k : ℕ) (e : Event) → from ≤ k → k < found → slice_get run k ≡ Some e →
+      (instance_of e).key ≢ key
+  pub under : (e : Event) → slice_get run found ≡ Some e → (instance_of e).key ≡ key
+
+-- of the events from a position on: the map has the first one of each key, and the list, backwards,
+-- the one that follows each
+pub record IsIndexFrom {S : Type 0} (run : List Event) (from : ℕ)
+    (firsts : HashMap (List Value) ℕ S) (following : List ℕ) : Type 0 where
+  pub count : length following + from ≡ length run
+  pub first : (key : List Value) →
+      IsNextUnder run key from (unwrap_or (get equal_values firsts key) (length run))
+  pub next : (k : ℕ) (e : Event) → from ≤ k → slice_get run k ≡ Some e →
+      IsNextUnder run (instance_of e).key (k + 1) (slice_index_or following (length run - 1 - k) 0)

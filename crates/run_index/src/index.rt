@@ -1,0 +1,110 @@
+ghost use Rattle.std.specs.Prelude.{◌≡◌, ◌+◌, ◌<◌, length, IfOk, MatchBool, slice_get, Some};
+ghost use Rattle.bspl_types.specs.declared.event.Event.{Event};
+ghost use Rattle.bspl_types.specs.History.{instance_of};
+ghost use Rattle.run_index.specs.FirstOfKey.{IsFirstOfKey, IsRepeatOfKey};
+ghost use Rattle.run_index.specs.inner.Chain.{IsNextUnder};
+ghost use Rattle.run_index.specs.inner.Enactment.{HasEventsUnder};
+
+use super::enactment::{add_event, key_of};
+use bspl_types::{Event, Key, Run, equal_values_are_one};
+use list_base::{NoMemory, NumberList, Seq};
+use std::alloc::Global;
+use std::collections::HashMap;
+use std::marker::Model;
+
+/// A run whose events are found by their keys. Contracts see the run.
+///
+/// The events of one key are a chain through the run: a map has the position of its first one, and
+/// a list the position after each. No event is copied, since events are large.
+#[derive(Drop)]
+pub struct RunIndex<'a> {
+    run: &'a [Event],
+    firsts: HashMap<Key, usize>,
+    /// Backwards: the last event's comes first.
+    following: Seq<usize>,
+}
+
+impl<'a> Model for RunIndex<'a> {
+    ghost use Rattle.std.specs.Prelude.{List};
+    ghost use Rattle.bspl_types.specs.declared.event.Event.{Event as SpecEvent};
+    ghost use Rattle.run_index.specs.inner.Chain.{IsIndexFrom};
+
+    ghost Value = { List SpecEvent };
+
+    ghost view = { λ i. i.run.now };
+
+    ghost invariant = { λ i. IsIndexFrom i.run.now 0 i.firsts i.following };
+}
+
+impl<'a> RunIndex<'a> {
+    /// The index of the run.
+    pub fn of(alloc: Global, run: &'a [Event]) -> Result<RunIndex<'a>, NoMemory>
+        ensures { IfOk result (λ index. index ≡ run.now) }
+    {
+        // law: keys that the test finds equal are one key
+        equal_values_are_one();
+        let mut firsts = HashMap::new(alloc);
+        let mut following = Seq::new(alloc);
+        let mut position = run.len();
+        while position > 0 {
+            position -= 1;
+            let next = firsts.insert(key_of(&run[position]), position)?;
+            following.push(next.unwrap_or(run.len()))?;
+        }
+        Ok(RunIndex {
+            run,
+            firsts,
+            following,
+        })
+    }
+
+    /// The run.
+    pub fn events(&self) -> &'a [Event]
+        ensures { result.now ≡ self.now }
+    {
+        self.run
+    }
+
+    /// Whether no earlier event has the key of the event at the position, from 0.
+    pub fn is_first(&self, position: usize) -> bool
+        requires { position < length self.now }
+        ensures { MatchBool result (IsFirstOfKey self.now position)
+            (IsRepeatOfKey self.now position) }
+    {
+        let run = self.events();
+        self.first(&key_of(&run[position])) == position
+    }
+
+    /// The position of the first event under the key, or the length of the run.
+    pub(crate) fn first(&self, key: &Key) -> usize
+        ensures { IsNextUnder self.now key.now 0 result }
+    {
+        match self.firsts.get(key) {
+            Some(position) => *position,
+            None => self.run.len(),
+        }
+    }
+
+    /// The position of the next event under the key of the one at the position, or the length.
+    pub(crate) fn next(&self, position: usize) -> usize
+        requires { position < length self.now }
+        ensures { (event : Event) → slice_get self.now position ≡ Some event →
+            IsNextUnder self.now (instance_of event).key (position + 1) result }
+    {
+        *self.following.at(self.run.len() - 1 - position)
+    }
+
+    /// The different events under the key.
+    pub(crate) fn enactment(&self, alloc: Global, key: &Key) -> Result<Run, NoMemory>
+        ensures { IfOk result (HasEventsUnder self.now key.now) }
+    {
+        let run = self.events();
+        let mut events = Seq::new(alloc);
+        let mut position = self.first(key);
+        while position < run.len() {
+            add_event(&mut events, &run[position])?;
+            position = self.next(position);
+        }
+        Ok(events)
+    }
+}
