@@ -1,6 +1,6 @@
 -- What is appended step by step.
 use Rattle.std.proofs.Common.{◌≡◌, ℕ, ◌+◌, ◌-◌, ◌<◌, ◌≤◌, List, [], ◌∷◌, ◌++◌, length, get_or, take, map, sym, ap, ◌∙◌, subst, arith, append-nil, append_assoc}
-use Rattle.std.specs.List.{flat_map, range_with_len}
+use Rattle.std.specs.List.{enumerate_from, flat_map, range_with_len}
 use Rattle.std.proofs.lemmas.List.{map_more, take_more}
 use Rattle.std.proofs.lemmas.List.Concat.{flat_map-append}
 use Rattle.std.proofs.lemmas.List.FromFn.{map-range_with_len_more}
@@ -9,7 +9,7 @@ use Rattle.clause_core.specs.Clause.{IsAscending, HasExactly}
 use Rattle.clause_encoding.specs.Families.{Written}
 use Rattle.clause_encoding.specs.Formula.{AreClausesOf}
 use Rattle.clause_encoding.specs.inner.Appends.{Appends}
-use Rattle.clause_encoding.proofs.RangeLemmas.{flat_map_next}
+use Rattle.clause_encoding.proofs.RangeLemmas.{flat_map_next, flat_map_numbered}
 
 -- clauses of one list and then of another
 joined : (written others : List Written) (clauses more : List (List Lit)) → AreClausesOf written clauses → AreClausesOf others more → AreClausesOf (written ++ others) (clauses ++ more)
@@ -67,3 +67,8 @@ appends_item f old mid new xs i d within =
 pub appends_item_clause : (f : ℕ → Written) (old mid new : List (List Lit)) (xs : List ℕ) (i d : ℕ) → i < length xs → Appends old mid (map f (take i xs)) → Appends mid new (f (get_or xs i d) ∷ []) → Appends old new (map f (take (i + 1) xs))
 appends_item_clause f old mid new xs i d within =
     appends_more old mid new (map f (take i xs)) (f (get_or xs i d) ∷ []) (map f (take (i + 1) xs)) (map_more f xs i d within)
+
+-- one numbered item more
+pub appends_numbered : {X : Type 0} (f : ℕ × X → List Written) (old mid new : List (List Lit)) (a : ℕ) (xs : List X) (n : ℕ) (d : X) → n < length xs → Appends old mid (flat_map f (enumerate_from a (take n xs))) → Appends mid new (f (a + n, get_or xs n d)) → Appends old new (flat_map f (enumerate_from a (take (n + 1) xs)))
+appends_numbered f old mid new a xs n d within =
+    appends_more old mid new (flat_map f (enumerate_from a (take n xs))) (f (a + n, get_or xs n d)) (flat_map f (enumerate_from a (take (n + 1) xs))) (flat_map_numbered f a xs n d within)

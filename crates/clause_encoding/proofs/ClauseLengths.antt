@@ -51,7 +51,7 @@ few_occurrence vars few =
     (few_kinds vars 0 few) (omega arith)
 
 -- there are few messages
-few_messages : (x : Expanded) → length (message_numbers x) ≤ 64
+pub few_messages : (x : Expanded) → length (message_numbers x) ≤ 64
 few_messages x = let few = x.shape.counts.few_messages in omega (arith, length-range_with_len 0 (length x.messages), few)
 
 -- a message carries few parameters
@@ -62,7 +62,7 @@ few_carried x m = elim (cases_lt m (length x.messages)) [
 ]
 
 -- it has few parameters that pass a test
-few_params : (x : Expanded) (m : ℕ) (p : Carried → Bool) → length (map (λ (c : Carried). c.param) (filter p (message_of x m).carried)) ≤ 16
+pub few_params : (x : Expanded) (m : ℕ) (p : Carried → Bool) → length (map (λ (c : Carried). c.param) (filter p (message_of x m).carried)) ≤ 16
 few_params x m p =
     let carried = (message_of x m).carried in
     omega (arith, length-map (filter p carried) (λ (c : Carried). c.param), length_filter p carried, few_carried x m)
@@ -76,7 +76,7 @@ few_kinds_at x role m =
     omega (arith, at_sender, at_receiver, length-append (cond ((message_of x m).sender == role) (sent m ∷ []) []) (cond ((message_of x m).receiver == role) (received m ∷ []) []))
 
 -- few kinds at the sender make a parameter known
-few_sender_carriers : (x : Expanded) (m p : ℕ) → length (sender_carriers x m p) ≤ 128
+pub few_sender_carriers : (x : Expanded) (m p : ℕ) → length (sender_carriers x m p) ≤ 128
 few_sender_carriers x m p =
     let role = (message_of x m).sender in
     let test = λ (n : ℕ). binds (message_of x n) p in

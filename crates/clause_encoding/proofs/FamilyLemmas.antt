@@ -31,6 +31,10 @@ received_is_kind x vars m over known = let every = over.every_kind in record { f
 pub sent_exists : (x : Expanded) (vars : Variables) (m : ℕ) → AreOver x vars → Known x m → LitExists vars (occurs (sent m))
 sent_exists x vars m over known = occurs_exists vars (sent m) over.small (sent_is_kind x vars m over known)
 
+-- and that of a reception
+pub received_exists : (x : Expanded) (vars : Variables) (m : ℕ) → AreOver x vars → Known x m → LitExists vars (occurs (received m))
+received_exists x vars m over known = occurs_exists vars (received m) over.small (received_is_kind x vars m over known)
+
 -- the literal that another kind comes before an emission
 other_exists : (x : Expanded) (vars : Variables) (m kind : ℕ) → AreOver x vars → Known x m → IsOtherKind x m kind → LitExists vars (stands_before vars kind (sent m))
 other_exists x vars m kind over known other =

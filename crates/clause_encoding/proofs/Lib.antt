@@ -1,5 +1,5 @@
 -- Ranges and filtered lists; how long lists are; kinds; what is appended; which variables exist; and
--- what follows for the safety formula.
+-- what follows for the formulas.
 mod RangeLemmas
 mod FilterLemmas
 mod LengthLemmas
@@ -7,8 +7,11 @@ mod ClauseLengths
 mod KindLemmas
 mod AppendsLemmas
 mod OccurrenceLemmas
-mod SelectionLemmas
 mod VariableLemmas
 mod ExistenceLemmas
 mod FamilyLemmas
+mod FormulaLemmas
 mod SafetyLemmas
+mod LackingLemmas
+mod RestLemmas
+mod LivenessLemmas

@@ -1,17 +1,15 @@
 -- The safety formula: its variables are small and exist, and its clauses are few.
-use Rattle.std.proofs.Common.{◌≡◌, ℕ, ◌+◌, ◌<◌, ◌≤◌, List, [], ◌∷◌, length, map, suc, Contains, refl, ap, sym, subst, arith, length-append}
-use Rattle.std.specs.List.{All, enumerate_from, flat_map}
-use Rattle.std.proofs.lemmas.List.Elements.{All-append, All-cons, All-contains, All-head, All-nil, All-tail, All-weaker}
-use Rattle.std.proofs.lemmas.List.Elements.{All-contains_itself}
+use Rattle.std.proofs.Common.{ℕ, ◌+◌, ◌<◌, ◌≤◌, List, [], ◌∷◌, length, map, refl, arith, length-append}
+use Rattle.std.specs.List.{All, flat_map}
+use Rattle.std.proofs.lemmas.List.Elements.{All-append, All-weaker}
 use Rattle.std.proofs.lemmas.List.FromFn.{length-enumerate_from}
 use Rattle.bspl_types.specs.declared.expanded.Expanded.{Expanded}
 use Rattle.clause_core.specs.declared.literal.Lit.{Lit}
-use Rattle.clause_core.specs.Clause.{IsClauseOf, VariablesExist}
+use Rattle.clause_core.specs.Clause.{VariablesExist}
 use Rattle.clause_core.specs.Literal.{negated}
 use Rattle.clause_encoding.specs.declared.rivals.Rivals.{Rivals}
-use Rattle.clause_encoding.specs.declared.variables.Variables.{Variables}
-use Rattle.clause_encoding.specs.Families.{Written, shared_clauses}
-use Rattle.clause_encoding.specs.Formula.{AreClausesOf, safety_clauses, safety_variables}
+use Rattle.clause_encoding.specs.Families.{shared_clauses}
+use Rattle.clause_encoding.specs.Formula.{safety_clauses, safety_variables}
 use Rattle.clause_encoding.specs.Rivals.{rival_clauses, rivals_of, selected_is_sent, selectors}
 use Rattle.clause_encoding.specs.Variables.{kind_count, occurs, positive, sent, variable_count}
 use Rattle.clause_encoding.specs.inner.Appends.{Appends}
@@ -20,35 +18,11 @@ use Rattle.clause_encoding.proofs.ClauseLengths.{few_added, few_shared}
 use Rattle.clause_encoding.proofs.ExistenceLemmas.{ClauseExists, all_added, all_images, both_exist, two_exist}
 use Rattle.clause_encoding.proofs.FamilyLemmas.{sent_exists, shared_exist}
 use Rattle.clause_encoding.proofs.FilterLemmas.{all_one}
+use Rattle.clause_encoding.proofs.FormulaLemmas.{appended_count, appended_exist}
 use Rattle.clause_encoding.proofs.KindLemmas.{rivals_within}
 use Rattle.clause_encoding.proofs.LengthLemmas.{few_rivals}
+use Rattle.clause_encoding.proofs.RangeLemmas.{IsNumbered, numbered}
 use Rattle.clause_encoding.proofs.VariableLemmas.{LitExists}
-
--- what is appended to nothing is all
-pub all_appended : (clauses : List (List Lit)) (written : List Written) → Appends [] clauses written → AreClausesOf written clauses
-all_appended clauses written appends = subst (AreClausesOf written) (sym appends.follows) appends.are
-
--- there is a clause for each that is written
-as_many : (written : List Written) (clauses : List (List Lit)) → AreClausesOf written clauses → length clauses ≡ length written
-as_many [] [] are = refl
-as_many [] (clause ∷ clauses) are = absurd are
-as_many (lits ∷ written) [] are = absurd are
-as_many (lits ∷ written) (clause ∷ clauses) are = ap suc (as_many written clauses are.1)
-
--- a clause has the variables that are written
-clause_exists : (vars : Variables) (lits clause : List Lit) → IsClauseOf lits clause → ClauseExists vars lits → ClauseExists vars clause
-clause_exists vars lits clause is exist =
-    All-weaker (Contains clause) (LitExists vars) (λ l among. All-contains (LitExists vars) lits l exist ((is.exactly l).0 among)) clause (All-contains_itself clause)
-
--- so have all clauses
-clauses_exist : (vars : Variables) (written : List Written) (clauses : List (List Lit)) → AreClausesOf written clauses → All (ClauseExists vars) written → All (ClauseExists vars) clauses
-clauses_exist vars [] [] are exist = All-nil (ClauseExists vars)
-clauses_exist vars [] (clause ∷ clauses) are exist = absurd are
-clauses_exist vars (lits ∷ written) [] are exist = absurd are
-clauses_exist vars (lits ∷ written) (clause ∷ clauses) are exist =
-    All-cons (ClauseExists vars) clause clauses
-    (clause_exists vars lits clause are.0 (All-head (ClauseExists vars) lits written exist))
-    (clauses_exist vars written clauses are.1 (All-tail (ClauseExists vars) lits written exist))
 
 -- the variables of the safety formula are over the protocol's kinds, and small
 pub safety_over : (x : Expanded) → AreOver x (safety_variables x)
@@ -60,16 +34,6 @@ safety_over x =
       small = record { few_kinds = omega (arith, messages); occurrences_first = omega arith; few_others = omega (arith, messages, rivals) };
     }
 
--- the numbers of items, and what holds of them
-numbered : (P : Rivals → Type 0) (a : ℕ) (xs : List Rivals) → All P xs → All (λ pair. (a ≤ pair.0) × (pair.0 < a + length xs) × P pair.1) (enumerate_from a xs)
-numbered P a [] all = All-nil (λ pair. (a ≤ pair.0) × (pair.0 < a + 0) × P pair.1)
-numbered P a (x ∷ xs) all =
-    let Number = λ (low high : ℕ) (pair : ℕ × Rivals). (low ≤ pair.0) × (pair.0 < high) × P pair.1 in
-    let later = numbered P (a + 1) xs (All-tail P x xs all) in
-    All-cons (Number a (a + length (x ∷ xs))) (a, x) (enumerate_from (a + 1) xs) (omega arith, omega arith, All-head P x xs all)
-    (All-weaker (Number (a + 1) (a + 1 + length xs)) (Number a (a + length (x ∷ xs)))
-    (λ pair within. let from = within.0 in let to = within.1 in (omega (arith, from), omega (arith, to), within.2)) (enumerate_from (a + 1) xs) later)
-
 -- the variable selects two messages
 abbrev IsSelector : Expanded → ℕ × Rivals → Type 0
 IsSelector x pair = (0 < pair.0) × (pair.0 ≤ (safety_variables x).order_base) × AreWithin (length x.messages) pair.1
@@ -78,7 +42,7 @@ IsSelector x pair = (0 < pair.0) × (pair.0 ≤ (safety_variables x).order_base)
 selectors_select : (x : Expanded) → All (IsSelector x) (selectors x)
 selectors_select x =
     let first = kind_count x + 1 in
-    All-weaker (λ pair. (first ≤ pair.0) × (pair.0 < first + length (rivals_of x)) × AreWithin (length x.messages) pair.1) (IsSelector x)
+    All-weaker (IsNumbered (AreWithin (length x.messages)) first (first + length (rivals_of x))) (IsSelector x)
     (λ pair within. let from = within.0 in let to = within.1 in (omega (arith, from), omega (arith, to), within.2))
     (selectors x) (numbered (AreWithin (length x.messages)) first (rivals_of x) (rivals_within x))
 
@@ -111,7 +75,7 @@ rivals_exist x =
 pub formula_exists : (x : Expanded) (clauses : List (List Lit)) → Appends [] clauses (safety_clauses x) → All (VariablesExist (variable_count (safety_variables x))) clauses
 formula_exists x clauses appends =
     let vars = safety_variables x in
-    clauses_exist vars (safety_clauses x) clauses (all_appended clauses (safety_clauses x) appends)
+    appended_exist vars (safety_clauses x) clauses appends
     (All-append (ClauseExists vars) (shared_clauses x vars) (rival_clauses x) (shared_exist x vars (safety_over x)) (rivals_exist x))
 
 -- the clauses on rivals are few
@@ -132,4 +96,4 @@ clauses_few x =
 -- and those of the formula are as many
 pub formula_few : (x : Expanded) (clauses : List (List Lit)) → Appends [] clauses (safety_clauses x) → length clauses ≤ 8000000
 formula_few x clauses appends =
-    omega (arith, as_many (safety_clauses x) clauses (all_appended clauses (safety_clauses x) appends), clauses_few x)
+    omega (arith, appended_count (safety_clauses x) clauses appends, clauses_few x)

@@ -4,5 +4,6 @@ pub mod Variables
 pub mod Carriers
 pub mod Families
 pub mod Rivals
+pub mod Rest
 pub mod Formula
 pub mod inner

@@ -6,3 +6,4 @@ pub mod Order
 pub mod Occurrence
 pub mod Implications
 pub mod Selection
+pub mod Lacking

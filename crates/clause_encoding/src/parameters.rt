@@ -1,11 +1,13 @@
-ghost use Rattle.std.specs.Prelude.{◌≡◌, ◌<◌, ◌==◌, ◌&&◌, length, IfOk};
+ghost use Rattle.std.specs.Prelude.{◌≡◌, ◌<◌, ◌≤◌, ◌==◌, ◌&&◌, length, IfOk};
 ghost use Rattle.std.specs.List.{list_any};
 ghost use Rattle.bspl_types.specs.Adornment.{has_value};
 ghost use Rattle.bspl_types.specs.Expansion.{message_of};
+ghost use Rattle.bspl_types.specs.Shape.{is_public_value};
 ghost use Rattle.clause_encoding.specs.Carriers.{binds, fresh_parameters, in_parameters, is_in};
+ghost use Rattle.clause_encoding.specs.Rest.{public_values};
 ghost use Rattle.clause_encoding.specs.Rivals.{is_out, produces};
 
-use bspl_types::{Adornment, Carried, Expanded, Message};
+use bspl_types::{Adornment, Carried, Expanded, Message, ParamInfo};
 use list_base::{NoMemory, NumberList, Seq};
 use std::alloc::Global;
 
@@ -15,6 +17,30 @@ pub(crate) fn message_at(x: &Expanded, m: u32) -> &Message
     ensures { result.now ≡ message_of x.now m }
 {
     x.messages.at(m as usize)
+}
+
+/// The public parameters adorned `in` or `out`, in order.
+pub fn public_values(alloc: Global, x: &Expanded) -> Result<NumberList, NoMemory>
+    ensures exact { IfOk result (λ params. params ≡ public_values x.now) }
+    ensures few { IfOk result (λ params. length params ≤ 64) }
+{
+    let mut params = Seq::new(alloc);
+    for param in 0..x.public {
+        if is_public_value(x.params.at(param as usize)) {
+            params.push(param)?;
+        }
+    }
+    Ok(params)
+}
+
+/// Whether the protocol adorns the parameter `in` or `out`.
+fn is_public_value(info: &ParamInfo) -> bool
+    ensures { result ≡ is_public_value info.now.adornment }
+{
+    match info.adornment {
+        Some(adornment) => adornment.has_value(),
+        None => false,
+    }
 }
 
 /// The parameters that the message adorns `in`, in its order.

@@ -1,16 +1,16 @@
-ghost use Rattle.std.specs.Prelude.{◌≡◌, ◌≤◌, ◌<◌, ◌++◌, [], ◌∷◌, length, IfOk, OnOk};
+ghost use Rattle.std.specs.Prelude.{◌≡◌, ◌≤◌, ◌<◌, ◌++◌, [], ◌∷◌, length, OnOk};
 ghost use Rattle.std.specs.List.{All};
 ghost use Rattle.clause_encoding.specs.Rivals.{selected_is_sent};
 ghost use Rattle.clause_encoding.specs.inner.Appends.{Appends};
 ghost use Rattle.clause_encoding.specs.inner.Kinds.{AreWithin};
 ghost use Rattle.clause_encoding.specs.inner.Selection.{selections, selector_lits};
 
-use super::clauses::push_clause;
+use super::clauses::{positive_lits, push_clause};
 use super::kinds::sent;
 use super::rivals::Rivals;
 use super::variables::positive;
-use clause_core::{ClauseList, Lit};
-use list_base::{NoMemory, Seq};
+use clause_core::ClauseList;
+use list_base::NoMemory;
 use std::alloc::Global;
 
 /// Appends the clauses that select two rivals which are both sent. The variables that select
@@ -28,7 +28,7 @@ pub(crate) fn push_rivals(
         (Appends clauses.old clauses.new (selections kinds rivals.now ++ some)) }
 {
     push_selections(clauses, alloc, kinds, rivals)?;
-    let lits = selector_lits(alloc, kinds, rivals)?;
+    let lits = positive_lits(alloc, kinds + 1, rivals.len() as u32)?;
     push_clause(clauses, alloc, lits.as_slice())
 }
 
@@ -64,17 +64,4 @@ fn push_selection(
     let unselected = positive(selector).negation();
     push_clause(clauses, alloc, &[unselected, positive(sent(rivals.first))])?;
     push_clause(clauses, alloc, &[unselected, positive(sent(rivals.second))])
-}
-
-/// The literals of the variables that select rivals.
-fn selector_lits(alloc: Global, kinds: u32, rivals: &[Rivals]) -> Result<Seq<Lit>, NoMemory>
-    requires few_kinds { kinds ≤ 128 }
-    requires few_rivals { length rivals.now ≤ 262144 }
-    ensures { IfOk result (λ lits. lits ≡ selector_lits kinds rivals.now) }
-{
-    let mut lits = Seq::new(alloc);
-    for n in 0..rivals.len() as u32 {
-        lits.push(positive(kinds + 1 + n))?;
-    }
-    Ok(lits)
 }

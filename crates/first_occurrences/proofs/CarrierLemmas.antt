@@ -21,14 +21,14 @@ use Rattle.first_occurrences.specs.Report.{AreVariablesOf}
 use Rattle.first_occurrences.proofs.ListedLemmas.{joined_from, joined_member, range_bound, range_member, some_member}
 
 -- a message that binds the parameter passes the test
-binds_from : (m : Message) (p : ℕ) → Binds m.carried p → binds m p ≡ true
+pub binds_from : (m : Message) (p : ℕ) → Binds m.carried p → binds m p ≡ true
 binds_from m p binding =
     let (k, c, within, is, (param_is, has)) = binding.among in
     list_any-from_Any (λ d. d.param == p) (valued m.carried)
     (some_member (λ d. (d.param == p) ≡ true) (valued m.carried) c (kept_member (λ d. has_value d.adornment) m.carried c has (k, within, is)) (eq-eqb c.param p param_is))
 
 -- and only such a message
-binding_from : (m : Message) (p : ℕ) → binds m p ≡ true → Binds m.carried p
+pub binding_from : (m : Message) (p : ℕ) → binds m p ≡ true → Binds m.carried p
 binding_from m p passes =
     let (k, c, within, is, same) = Any-from_list_any (λ d. d.param == p) (valued m.carried) passes in
     let (among, has) = filtered_member (λ d. has_value d.adornment) m.carried c (k, within, is) in
@@ -56,7 +56,7 @@ carrier_member x role p e known at binding =
     (own_kind x role e at)
 
 -- the kind is that of a message at the role
-abbrev IsKindAt : Expanded → ℕ → ℕ → ℕ → Type 0
+abbrev pub IsKindAt : Expanded → ℕ → ℕ → ℕ → Type 0
 IsKindAt x role n kind = (((message_of x n).sender == role ≡ true) × (sent n ≡ kind)) ⊎ (((message_of x n).receiver == role ≡ true) × (received n ≡ kind))
 
 -- a kind that makes the parameter known at the role

@@ -18,13 +18,13 @@ use Rattle.first_occurrences.proofs.OccurringLemmas.{key_of_kind, own_kind_of}
 use Rattle.first_occurrences.proofs.PositionLemmas.{first_event}
 
 -- an event that emits an instance of the message
-record IsEmission (m : ℕ) (e : Event) : Type 0 where
+pub record IsEmission (m : ℕ) (e : Event) : Type 0 where
   pub instance : Instance
   pub is : e ≡ Emit instance
   pub message_is : instance.message ≡ m
 
 -- an event of the kind is one
-emission_from : (m : ℕ) (e : Event) → kind_of e ≡ sent m → IsEmission m e
+pub emission_from : (m : ℕ) (e : Event) → kind_of e ≡ sent m → IsEmission m e
 emission_from m (Emit i) same = record { instance = i; is = refl; message_is = omega arith }
 emission_from m (Receive i) same = absurd (omega arith)
 

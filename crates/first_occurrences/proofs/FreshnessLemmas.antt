@@ -4,13 +4,13 @@ use Rattle.std.specs.Prelude.{◌==◌, slice_get}
 use Rattle.std.specs.List.{flat_map}
 use Rattle.std.proofs.lemmas.Bool.{both_ways, cases_Bool, eq-eqb, not-true}
 use Rattle.std.proofs.lemmas.Option.{same_Some}
-use Rattle.list_base.proofs.Filtered.{filtered_member, kept_member}
+use Rattle.list_base.proofs.Filtered.{filtered_member}
 use Rattle.list_base.proofs.Membership.{early_member}
 use Rattle.bspl_types.specs.declared.event.Event.{Event}
 use Rattle.bspl_types.specs.declared.expanded.Expanded.{Expanded}
 use Rattle.bspl_types.specs.declared.value.Value.{Value}
 use Rattle.bspl_types.specs.Expansion.{message_of}
-use Rattle.bspl_types.specs.History.{history_of, role_of}
+use Rattle.bspl_types.specs.History.{history_of}
 use Rattle.bspl_types.specs.Knowledge.{IsKnown}
 use Rattle.bspl_types.specs.Value.{EqualValuesAreOne}
 use Rattle.clause_core.specs.Clause.{Satisfies}
@@ -25,9 +25,10 @@ use Rattle.first_occurrences.specs.Laws.{FreshnessHolds}
 use Rattle.first_occurrences.specs.Occurrence.{comes_first, first_position, is_occurring, is_of_kind}
 use Rattle.first_occurrences.specs.Report.{AreVariablesOf, Reports}
 use Rattle.first_occurrences.proofs.BeforeLemmas.{before_is_false, opposite_first, order_from_first}
-use Rattle.first_occurrences.proofs.CarrierLemmas.{IsCarrier, carrier_event, carrier_from, carrier_kind}
+use Rattle.first_occurrences.proofs.CarrierLemmas.{IsCarrier, carrier_from, carrier_kind}
 use Rattle.first_occurrences.proofs.EmissionLemmas.{can_emit_first, run_before}
 use Rattle.first_occurrences.proofs.KindLemmas.{sent_is_kind}
+use Rattle.first_occurrences.proofs.KnowledgeLemmas.{known_from_event}
 use Rattle.first_occurrences.proofs.ListedLemmas.{each_joined, each_mapped}
 use Rattle.first_occurrences.proofs.OccurringLemmas.{key_of_kind, own_kind_of}
 use Rattle.first_occurrences.proofs.ParameterLemmas.{adorned_fresh}
@@ -58,15 +59,10 @@ known_from_carrier : EqualValuesAreOne → KnownExactlyIfSomeEventBinds → Hist
 known_from_carrier exact known histories x run key m p kind is_legal carrier occurs before =
     let sender = (message_of x m).sender in
     let found = first_event run key kind occurs in
-    let (at, binds) = carrier_event x sender p found.event (subst (IsCarrier x sender p) (sym (own_kind_of key kind found.event found.of_kind)) carrier) in
     let early = early_member run (first_position run key kind) (first_position run key (sent m)) found.event found.at before in
-    (known x (history_of x sender (run_before run key m)) key p (sender_run histories x run key m is_legal)).1
-    (record {
-      event = found.event;
-      among = kept_member (λ e. role_of x e == sender) (run_before run key m) found.event at early;
-      under = key_of_kind exact key kind found.event found.of_kind;
-      binds = binds;
-    })
+    known_from_event known x (run_before run key m) key sender p found.event (sender_run histories x run key m is_legal) early
+    (key_of_kind exact key kind found.event found.of_kind)
+    (subst (IsCarrier x sender p) (sym (own_kind_of key kind found.event found.of_kind)) carrier)
 
 -- but it does not know what is fresh, so no such kind comes before
 none_before : EqualValuesAreOne → LegalByPositions → KnownExactlyIfSomeEventBinds → HistoryIsRun → (x : Expanded) (run : List Event) (key : List Value) (m p kind : ℕ) → IsLegalRun x run → is_occurring run key (sent m) ≡ true → Contains (fresh_parameters (message_of x m)) p → kind ≢ sent m → IsCarrier x (message_of x m).sender p kind → comes_first run key kind (sent m) ≡ true → ⊥

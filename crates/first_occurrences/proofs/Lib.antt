@@ -8,6 +8,7 @@ pub mod OrderLemmas
 pub mod DeliveryLemmas
 pub mod CarrierLemmas
 pub mod ParameterLemmas
+pub mod KnowledgeLemmas
 pub mod EmissionLemmas
 pub mod PremiseLemmas
 pub mod FreshnessLemmas
@@ -17,3 +18,8 @@ pub mod ValuationLemmas
 pub mod RivalLemmas
 pub mod SelectionLemmas
 pub mod SafetyLemmas
+pub mod BoundLemmas
+pub mod ExhaustionLemmas
+pub mod AbsenceLemmas
+pub mod RestLemmas
+pub mod LivenessLemmas

@@ -1,8 +1,10 @@
 -- Lists made of other lists, by a map, by parts or by numbers: their members, and what each one has.
-use Rattle.std.proofs.Common.{◌≡◌, ℕ, ◌+◌, ◌-◌, ◌<◌, ◌≤◌, List, [], ◌∷◌, inl, inr, length, map, get_or, sym, ap, ◌∙◌, subst, arith, zero-add, All, Contains}
-use Rattle.std.specs.List.{Any, enumerate_from, flat_map, range_with_len}
+use Rattle.std.proofs.Common.{◌≡◌, ℕ, ◌+◌, ◌-◌, ◌<◌, ◌≤◌, Bool, true, false, List, [], ◌∷◌, inl, inr, length, map, get_or, sym, ap, ◌∙◌, subst, arith, zero-add, All, Contains}
+use Rattle.std.specs.List.{Any, enumerate_from, flat_map, list_any, range_with_len}
+use Rattle.std.proofs.lemmas.Bool.{both_ways, cases_Bool}
 use Rattle.std.proofs.lemmas.List.{get_or_default}
 use Rattle.std.proofs.lemmas.List.Elements.{All-append, All-contains_itself, All-map, All-nil, All-weaker, Contains-append_cases, Contains-append_left, Contains-append_right}
+use Rattle.std.proofs.lemmas.List.Folds.{Any-from_list_any, list_any-from_Any}
 use Rattle.std.proofs.lemmas.List.FromFn.{get_or-enumerate_from, get_or-range_with_len, length-enumerate_from, length-range_with_len}
 use Rattle.list_base.proofs.Members.{cons_cases, here, here_same, nowhere, there}
 
@@ -22,6 +24,29 @@ each_joined P f (x ∷ xs) each = All-append P (f x) (flat_map f xs) (each x (he
 -- a member that has it is one of some
 pub some_member : {X : Type 0} (P : X → Type 0) (xs : List X) (x : X) → Contains xs x → P x → Any P xs
 some_member P xs x (k, within, is) holds = (k, x, within, is, holds)
+
+-- some item of a list passes if a member does
+pub passes_by : {X : Type 0} (test : X → Bool) (xs : List X) (x : X) → Contains xs x → test x ≡ true → list_any test xs ≡ true
+passes_by test xs x among passes = list_any-from_Any test xs (some_member (λ y. test y ≡ true) xs x among passes)
+
+-- an item of a list that passes
+pub record IsPassed {X : Type 0} (test : X → Bool) (xs : List X) : Type 0 where
+  pub item : X
+  pub among : Contains xs item
+  pub passes : test item ≡ true
+
+-- there is one if some item passes
+pub passed : {X : Type 0} (test : X → Bool) (xs : List X) → list_any test xs ≡ true → IsPassed test xs
+passed test xs some =
+    let (k, x, within, is, passes) = Any-from_list_any test xs some in
+    record { item = x; among = (k, within, is); passes = passes }
+
+-- if none passes, no member does
+pub fails_by : {X : Type 0} (test : X → Bool) (xs : List X) (x : X) → list_any test xs ≡ false → Contains xs x → test x ≡ false
+fails_by test xs x none among = elim (cases_Bool (test x)) [
+  | inl passes ↦ absurd (both_ways (list_any test xs) none (passes_by test xs x among passes))
+  | inr fails ↦ fails
+]
 
 -- the image of a member is in the map
 pub mapped_member : {X A : Type 0} (f : X → A) (xs : List X) (x : X) → Contains xs x → Contains (map f xs) (f x)

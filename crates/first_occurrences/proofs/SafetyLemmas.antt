@@ -28,7 +28,7 @@ clause_satisfied : (v : ℕ → Bool) (written clause : List Lit) → IsClauseOf
 clause_satisfied v written clause is_clause (k, l, within, is, holds) = some_member (MakesTrue v) clause l ((is_clause.exactly l).1 (k, within, is)) holds
 
 -- and what satisfies each of a list as written satisfies each of their clauses
-clauses_satisfied : (v : ℕ → Bool) (written : List Written) (clauses : List (List Lit)) → AreClausesOf written clauses → SatisfiesAll v written → SatisfiesAll v clauses
+pub clauses_satisfied : (v : ℕ → Bool) (written : List Written) (clauses : List (List Lit)) → AreClausesOf written clauses → SatisfiesAll v written → SatisfiesAll v clauses
 clauses_satisfied v [] [] are all = All-nil (Satisfies v)
 clauses_satisfied v [] (clause ∷ clauses) are all = absurd are
 clauses_satisfied v (one ∷ others) [] are all = absurd are

@@ -1,12 +1,14 @@
--- What satisfies a clause: its first literal, a later one, or the rest where the first one is a premise.
-use Rattle.std.proofs.Common.{◌≡◌, ℕ, Bool, true, List, ◌∷◌, ⊎_elim}
+-- What satisfies a clause: its first literal, a later one, the rest where the first one is a premise,
+-- or some variable where not all are false.
+use Rattle.std.proofs.Common.{◌≡◌, ℕ, Bool, true, false, List, ◌∷◌, inl, inr, map, ⊎_elim, Contains}
+use Rattle.std.specs.List.{list_any}
 use Rattle.std.proofs.lemmas.Bool.{cases_Bool}
 use Rattle.list_base.proofs.Members.{here, there}
 use Rattle.clause_core.specs.declared.literal.Lit.{Lit}
 use Rattle.clause_core.specs.Clause.{Satisfies}
 use Rattle.clause_core.specs.Literal.{MakesTrue, negated}
 use Rattle.clause_encoding.specs.Variables.{positive}
-use Rattle.first_occurrences.proofs.ListedLemmas.{some_member}
+use Rattle.first_occurrences.proofs.ListedLemmas.{fails_by, mapped_member, passed, some_member}
 
 -- its first literal is true
 pub satisfied_first : (v : ℕ → Bool) (l : Lit) (rest : List Lit) → MakesTrue v l → Satisfies v (l ∷ rest)
@@ -23,3 +25,13 @@ satisfied_if v variable rest then_rest =
     (λ yes. satisfied_later v (negated (positive variable)) rest (then_rest yes))
     (λ none. satisfied_first v (negated (positive variable)) rest none)
     (cases_Bool (v variable))
+
+-- some of the variables is true, unless all are false
+pub satisfied_unless : (v : ℕ → Bool) (variables : List ℕ) → (((variable : ℕ) → Contains variables variable → v variable ≡ false) → ⊥) → Satisfies v (map positive variables)
+satisfied_unless v variables not_all =
+    elim (cases_Bool (list_any v variables)) [
+      | inl some ↦
+          let found = passed v variables some in
+          some_member (MakesTrue v) (map positive variables) (positive found.item) (mapped_member positive variables found.item found.among) found.passes
+      | inr none ↦ absurd (not_all (λ variable among. fails_by v variables variable none among))
+    ]

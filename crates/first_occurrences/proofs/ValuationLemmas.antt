@@ -1,9 +1,8 @@
 -- The assignment that reports a run, with given values at the variables between.
-use Rattle.std.proofs.Common.{◌≡◌, ℕ, ◌<◌, ◌≤◌, Bool, true, cond, ◌&&◌, eqb, leb, List, refl, ◌∙◌, subst, arith, Contains}
+use Rattle.std.proofs.Common.{◌≡◌, ℕ, ◌<◌, ◌≤◌, Bool, true, cond, ◌&&◌, eqb, leb, List, refl, ◌∙◌, subst, arith}
 use Rattle.std.specs.List.{list_any}
 use Rattle.std.proofs.lemmas.Bool.{and_from, and_parts, cond-false, cond-true, eq-eqb, eqb-true, le-leb, lt-leb}
 use Rattle.std.proofs.lemmas.Bool.Decides.{same_from_decides}
-use Rattle.std.proofs.lemmas.List.Folds.{Any-from_list_any, list_any-from_Any}
 use Rattle.bspl_types.specs.declared.event.Event.{Event}
 use Rattle.bspl_types.specs.declared.value.Value.{Value}
 use Rattle.clause_encoding.specs.declared.variables.Variables.{Variables}
@@ -11,24 +10,8 @@ use Rattle.clause_encoding.specs.Variables.{IsKind, kinds_after, order_variable}
 use Rattle.first_occurrences.specs.Occurrence.{comes_first, is_occurring}
 use Rattle.first_occurrences.specs.Report.{HasBetween, Reports}
 use Rattle.first_occurrences.proofs.KindLemmas.{among_after, kind_after}
-use Rattle.first_occurrences.proofs.ListedLemmas.{some_member}
+use Rattle.first_occurrences.proofs.ListedLemmas.{passed, passes_by}
 use Rattle.first_occurrences.proofs.NumberingLemmas.{one_pair, order_after_base}
-
--- some item of a list passes if a member does
-passes_by : {X : Type 0} (test : X → Bool) (xs : List X) (x : X) → Contains xs x → test x ≡ true → list_any test xs ≡ true
-passes_by test xs x among passes = list_any-from_Any test xs (some_member (λ y. test y ≡ true) xs x among passes)
-
--- an item of a list that passes
-record IsPassed {X : Type 0} (test : X → Bool) (xs : List X) : Type 0 where
-  item : X
-  among : Contains xs item
-  passes : test item ≡ true
-
--- there is one if some item passes
-passed : {X : Type 0} (test : X → Bool) (xs : List X) → list_any test xs ≡ true → IsPassed test xs
-passed test xs some =
-    let (k, x, within, is, passes) = Any-from_list_any test xs some in
-    record { item = x; among = (k, within, is); passes = passes }
 
 -- the variable is that of the two kinds, and the first of them comes first
 abbrev reports_pair : Variables → List Event → List Value → ℕ → ℕ → ℕ → Bool

@@ -1,5 +1,5 @@
 -- What the first occurrences of a legal run satisfy. Each statement is the contract of a function.
-use Rattle.std.specs.Prelude.{◌≡◌, ℕ, ◌≤◌, ◌&&◌, Bool, List}
+use Rattle.std.specs.Prelude.{◌≡◌, ◌↔◌, ℕ, ◌≤◌, ◌&&◌, Bool, true, List}
 use Rattle.std.specs.List.{Contains}
 use Rattle.bspl_types.specs.declared.event.Event.{Event}
 use Rattle.bspl_types.specs.declared.expanded.Expanded.{Expanded}
@@ -8,11 +8,14 @@ use Rattle.clause_core.specs.Clause.{SatisfiesAll}
 use Rattle.clause_encoding.specs.declared.rivals.Rivals.{Rivals}
 use Rattle.clause_encoding.specs.declared.variables.Variables.{Variables}
 use Rattle.clause_encoding.specs.Families.{delivery_clauses, freshness_clauses, occurrence_clauses, order_clauses, premise_clauses, shared_clauses}
-use Rattle.clause_encoding.specs.Formula.{safety_variables}
+use Rattle.clause_encoding.specs.Formula.{liveness_variables, safety_variables}
+use Rattle.clause_encoding.specs.Rest.{rest_clauses}
 use Rattle.clause_encoding.specs.Rivals.{rival_clauses, selectors}
 use Rattle.clause_encoding.specs.Variables.{sent}
 use Rattle.enactment_model.specs.Legal.{IsLegalRun}
+use Rattle.enactment_model.specs.Liveness.{Bound, HasPublicValue, Quiet}
 use Rattle.enactment_model.specs.Safety.{Conflict}
+use Rattle.first_occurrences.specs.Lacking.{SaysWhatIsLacking, is_bound}
 use Rattle.first_occurrences.specs.Occurrence.{is_occurring}
 use Rattle.first_occurrences.specs.Report.{AreVariablesOf, HasBetween, Reports}
 
@@ -77,3 +80,18 @@ RivalsHold =
     IsLegalRun x run → Conflict x run key p first second →
     Reports (safety_variables x) run key v → SelectsWhatIsSent x run key v →
     SatisfiesAll v (rival_clauses x)
+
+-- in a legal run a parameter is bound exactly if some message that adorns it `in` or `out` is sent
+abbrev pub BoundExactlyIfSent : Type 0
+BoundExactlyIfSent =
+    (x : Expanded) (run : List Event) (key : List Value) (p : ℕ) → IsLegalRun x run →
+    ((Bound x run key p) ↔ (is_bound x run key p ≡ true))
+
+-- if a legal run is quiet at the key and a public parameter is not bound there, then the clauses
+-- that liveness adds
+abbrev pub RestHolds : Type 0
+RestHolds =
+    (x : Expanded) (run : List Event) (key : List Value) (p : ℕ) (v : ℕ → Bool) →
+    IsLegalRun x run → Quiet x run key → HasPublicValue x p → ¬ Bound x run key p →
+    Reports (liveness_variables x) run key v → SaysWhatIsLacking x run key v →
+    SatisfiesAll v (rest_clauses x)

@@ -1,6 +1,7 @@
--- First occurrences in a run, the assignments that report them, what holds of these in a legal run,
--- and what follows for safety.
+-- First occurrences in a run, what an enactment lacks, the assignments that report both, what holds
+-- of these in a legal run, and what follows for safety and liveness.
 pub mod Occurrence
 pub mod Report
+pub mod Lacking
 pub mod Laws
 pub mod Headline

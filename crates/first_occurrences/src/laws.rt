@@ -1,7 +1,8 @@
-ghost use Rattle.first_occurrences.specs.Laws.{AssignmentExists, DeliveryHolds, FreshnessHolds};
-ghost use Rattle.first_occurrences.specs.Laws.{OccurrenceHolds, OrderHolds, PremisesHold};
-ghost use Rattle.first_occurrences.specs.Laws.{RivalsHold, SharedClausesHold};
-ghost use Rattle.first_occurrences.specs.Headline.{UnsatisfiableIsSafe};
+ghost use Rattle.first_occurrences.specs.Laws.{AssignmentExists, BoundExactlyIfSent, DeliveryHolds};
+ghost use Rattle.first_occurrences.specs.Laws.{FreshnessHolds, OccurrenceHolds, OrderHolds};
+ghost use Rattle.first_occurrences.specs.Laws.{PremisesHold, RestHolds, RivalsHold};
+ghost use Rattle.first_occurrences.specs.Laws.{SharedClausesHold};
+ghost use Rattle.first_occurrences.specs.Headline.{UnsatisfiableIsLive, UnsatisfiableIsSafe};
 
 use bspl_types::equal_values_are_one;
 use enactment_model::{
@@ -92,4 +93,43 @@ pub fn unsatisfiable_is_safe()
     rivals_hold();
     // law: without a conflict all roles agree
     no_conflict_agrees();
+}
+
+/// In a legal run a parameter is bound exactly if some message that adorns it `in` or `out` is sent:
+/// what is received was sent.
+pub fn bound_exactly_if_sent()
+    ensures { BoundExactlyIfSent }
+{
+    // law: lists of values that the test finds equal are one list
+    equal_values_are_one();
+    // law: each event of a legal run may follow those before it
+    legal_by_positions();
+    // law: what is known was bound by an event before
+    known_exactly_if_some_event_binds();
+}
+
+/// A legal run that is quiet at a key and leaves a public parameter unbound there satisfies the
+/// clauses that liveness adds.
+pub fn rest_holds()
+    ensures { RestHolds }
+{
+    // law: lists of values that the test finds equal are one list
+    equal_values_are_one();
+    // law: a parameter is known exactly if some event binds it
+    known_exactly_if_some_event_binds();
+    // law: a parameter is bound exactly if some message with it is sent
+    bound_exactly_if_sent();
+}
+
+/// A protocol is live if no assignment satisfies its liveness formula: a public parameter that is
+/// unbound in any legal run, at a key at which it is quiet, would give one (after Singh 2012).
+pub fn unsatisfiable_is_live()
+    ensures { UnsatisfiableIsLive }
+{
+    // laws: an unbound parameter gives an assignment that satisfies each family
+    assignment_exists();
+    shared_clauses_hold();
+    rest_holds();
+    // law: whether a parameter is bound is decided by what is sent
+    bound_exactly_if_sent();
 }

@@ -4,6 +4,7 @@
 mod laws;
 
 pub use laws::{
-    assignment_exists, delivery_holds, freshness_holds, occurrence_holds, order_holds,
-    premises_hold, rivals_hold, shared_clauses_hold, unsatisfiable_is_safe,
+    assignment_exists, bound_exactly_if_sent, delivery_holds, freshness_holds, occurrence_holds,
+    order_holds, premises_hold, rest_holds, rivals_hold, shared_clauses_hold,
+    unsatisfiable_is_live, unsatisfiable_is_safe,
 };

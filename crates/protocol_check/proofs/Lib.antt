@@ -1,2 +1,3 @@
 pub mod OneFormula
 pub mod Checks
+pub mod LivenessChecks

@@ -1,2 +1,3 @@
 -- When a log is accepted for a protocol's formula, and its first failure otherwise.
 pub mod Safety
+pub mod Liveness

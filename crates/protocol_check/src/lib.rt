@@ -2,7 +2,9 @@
 #![tactic(auto)]
 
 mod laws;
+mod liveness;
 mod safety;
 
-pub use laws::safety_fails_once;
+pub use laws::{liveness_fails_once, safety_fails_once};
+pub use liveness::check_liveness;
 pub use safety::check_safety;

@@ -1,4 +1,4 @@
--- Clauses of two literals: an emission or a reception, and what stands before it.
+-- Clauses of two literals on an emission, a reception, and what stands before them.
 use Rattle.std.specs.Prelude.{ℕ, [], ◌∷◌}
 use Rattle.clause_core.specs.Literal.{negated}
 use Rattle.clause_encoding.specs.declared.variables.Variables.{Variables}
@@ -14,3 +14,7 @@ delivery_clause vars m =
 abbrev pub fresh_clause : Variables → ℕ → ℕ → Written
 fresh_clause vars m kind =
     negated (occurs (sent m)) ∷ negated (stands_before vars kind (sent m)) ∷ []
+
+-- the message is received if it is sent
+abbrev pub arrival_clause : ℕ → Written
+arrival_clause m = negated (occurs (sent m)) ∷ occurs (received m) ∷ []

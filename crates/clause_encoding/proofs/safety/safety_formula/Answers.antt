@@ -5,7 +5,8 @@ use Rattle.clause_core.specs.Clause.{VariablesExist}
 use Rattle.clause_encoding.specs.Formula.{safety_clauses, safety_variables}
 use Rattle.clause_encoding.specs.Variables.{variable_count}
 use Rattle.clause_encoding.specs.inner.Appends.{Appends}
-use Rattle.clause_encoding.proofs.SafetyLemmas.{all_appended, formula_exists, formula_few}
+use Rattle.clause_encoding.proofs.FormulaLemmas.{all_appended}
+use Rattle.clause_encoding.proofs.SafetyLemmas.{formula_exists, formula_few}
 use Rattle.clause_encoding.proofs.safety.safety_formula.Goals as goal
 
 pub invariant_of-result : goal.invariant_of-result

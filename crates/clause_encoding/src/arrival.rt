@@ -1,0 +1,26 @@
+ghost use Rattle.std.specs.Prelude.{OnOk};
+ghost use Rattle.clause_encoding.specs.Rest.{arrival_clauses};
+ghost use Rattle.clause_encoding.specs.inner.Appends.{Appends};
+
+use super::clauses::push_clause;
+use super::kinds::{received, sent};
+use super::variables::positive;
+use bspl_types::Expanded;
+use clause_core::ClauseList;
+use list_base::NoMemory;
+use std::alloc::Global;
+
+/// Appends the clauses that make what is sent received.
+pub(crate) fn push_arrival(
+    clauses: &mut ClauseList,
+    alloc: Global,
+    x: &Expanded,
+) -> Result<(), NoMemory>
+    ensures { OnOk result (Appends clauses.old clauses.new (arrival_clauses x.now)) }
+{
+    for m in 0..x.messages.len() as u32 {
+        let lits = [positive(sent(m)).negation(), positive(received(m))];
+        push_clause(clauses, alloc, &lits)?;
+    }
+    Ok(())
+}
