@@ -1,9 +1,12 @@
 -- The keys of a run with one event more, and how long they are.
-use Rattle.std.proofs.Common.{◌≡◌, ℕ, ◌+◌, ◌<◌, get_or, take, Bool, true, false, not, cond, List, [], ◌∷◌, ◌++◌, length, refl, sym, ap, ◌∙◌, ⊎_elim}
-use Rattle.std.specs.Prelude.{◌↔◌, ◌||◌, IsTrue}
+use Rattle.std.proofs.Common.{◌≡◌, ℕ, ◌+◌, ◌<◌, subst, get_or, take, Bool, true, false, not, cond, List, [], ◌∷◌, ◌++◌, length, Some, refl, sym, ap, ◌∙◌, ⊎_elim}
+use Rattle.std.specs.Prelude.{◌↔◌, ◌||◌, IsTrue, slice_get}
 use Rattle.std.specs.List.{All, filter, list_any}
 use Rattle.std.proofs.lemmas.Bool.{cases_Bool, true≢false}
 use Rattle.std.proofs.lemmas.List.{append-nil, take_more}
+use Rattle.std.proofs.lemmas.List.Folds.{list_any-from_Any, list_any_none}
+use Rattle.std.proofs.lemmas.Option.{get_or_from_slice_get, slice_get-get_or, slice_get_within}
+use Rattle.list_base.proofs.Membership.{early_index, early_member, member_at}
 use Rattle.std.proofs.lemmas.List.Elements.{All-cons, All-filter, All-head, All-nil, All-tail, filter-append}
 use Rattle.bspl_types.specs.declared.event.Event.{Event}
 use Rattle.bspl_types.specs.declared.expanded.Expanded.{Expanded}
@@ -11,6 +14,7 @@ use Rattle.bspl_types.specs.declared.value.Value.{Value}
 use Rattle.bspl_types.specs.History.{IsRun, instance_of}
 use Rattle.bspl_types.specs.Instance.{Fits}
 use Rattle.bspl_types.specs.Value.{EqualValuesAreOne, equal_values}
+use Rattle.run_index.specs.FirstOfKey.{IsFirstOfKey, IsRepeatOfKey}
 use Rattle.report.specs.Keys.{keys_of}
 
 -- a filter that keeps what is looked for does not change whether it is found
@@ -63,11 +67,49 @@ keys_push same (e ∷ run) event =
     ap (λ keys. (instance_of e).key ∷ filter (λ key. not (equal_values (instance_of e).key key)) keys) (keys_push same run event)
     ∙ distinct_push equal_values same (instance_of e).key (instance_of event).key (keys_of run)
 
--- the keys found so far, with that of the next event unless it is among them
-pub keys_more : EqualValuesAreOne → (run : List Event) (i : ℕ) (event : Event) (key : List Value) (keys : List (List Value)) (b : Bool) → i < length run → event ≡ get_or run i event → key ≡ (instance_of event).key → keys ≡ keys_of (take i run) → b ≡ list_any (λ other. equal_values other key) keys → cond b keys (keys ++ key ∷ []) ≡ keys_of (take (i + 1) run)
-keys_more same run i event key keys b within is is_key are found =
-    let next = ap keys_of (take_more run i event within ∙ ap (λ e. take i run ++ e ∷ []) (sym is)) ∙ keys_push same (take i run) event in
-    rw (found, is_key, are) (sym next)
+-- a key is found exactly if some event has it
+found_event : EqualValuesAreOne → (key : List Value) (run : List Event) → list_any (λ other. equal_values other key) (keys_of run) ≡ list_any (λ e. equal_values (instance_of e).key key) run
+found_event same key [] = refl
+found_event same key (e ∷ run) =
+    let first = (instance_of e).key in
+    let p : List Value → Bool = λ other. not (equal_values first other) in
+    let t : List Value → Bool = λ other. equal_values other key in
+    ⊎_elim
+    (λ is_yes. rw is_yes refl)
+    (λ is_no. rw is_no (kept_found p t (λ other is_key. differs equal_values same first key other is_no is_key) (keys_of run) ∙ found_event same key run))
+    (cases_Bool (equal_values first key))
+
+-- the keys with that of the next event, unless it is found
+keys_next : EqualValuesAreOne → (run : List Event) (i : ℕ) (event : Event) (b : Bool) → slice_get run i ≡ Some event → list_any (λ e. equal_values (instance_of e).key (instance_of event).key) (take i run) ≡ b → cond b (keys_of (take i run)) (keys_of (take i run) ++ (instance_of event).key ∷ []) ≡ keys_of (take (i + 1) run)
+keys_next same run i event b at found =
+    let key = (instance_of event).key in
+    let more : take (i + 1) run ≡ take i run ++ event ∷ [] =
+    take_more run i event (slice_get_within run i event at) ∙ ap (λ e. take i run ++ e ∷ []) (get_or_from_slice_get run i event event at) in
+    sym (ap keys_of more ∙ keys_push same (take i run) event ∙ ap (λ c. cond c (keys_of (take i run)) (keys_of (take i run) ++ key ∷ [])) (found_event same key (take i run) ∙ found))
+
+-- the first event of its key adds the key
+pub key_is_new : EqualValuesAreOne → (run : List Event) (i : ℕ) (event : Event) → slice_get run i ≡ Some event → IsFirstOfKey run i → keys_of (take i run) ++ (instance_of event).key ∷ [] ≡ keys_of (take (i + 1) run)
+key_is_new same run i event at first =
+    let test : Event → Bool = λ e. equal_values (instance_of e).key (instance_of event).key in
+    keys_next same run i event false at (list_any_none test (take i run) (λ k d within.
+    let e = get_or (take i run) k d in
+    let (j, before, is) = early_index run i e (member_at (take i run) k e (slice_get-get_or (take i run) k d within)) in
+    ⊎_elim
+    (λ is_yes. absurd (first event at j e before is ((same (instance_of e).key (instance_of event).key).0 is_yes)))
+    (λ is_no. is_no)
+    (cases_Bool (test e))))
+
+-- and any other event adds none
+pub key_is_old : EqualValuesAreOne → (run : List Event) (i : ℕ) (event : Event) → slice_get run i ≡ Some event → IsRepeatOfKey run i → keys_of (take i run) ≡ keys_of (take (i + 1) run)
+key_is_old same run i event at repeat =
+    let test : Event → Bool = λ e. equal_values (instance_of e).key (instance_of event).key in
+    let old = repeat event at in
+    let (k, within, is) = early_member run old.earlier i old.other old.at old.before in
+    keys_next same run i event true at (list_any-from_Any test (take i run) (k, old.other, within, is, (same (instance_of old.other).key (instance_of event).key).1 old.same))
+
+-- the event that is read at a position of the run
+pub event_at : (run shown : List Event) (i : ℕ) (e : Event) → shown ≡ run → i < length shown → e ≡ get_or shown i e → slice_get run i ≡ Some e
+event_at run shown i e same within is = subst (λ es. slice_get es i ≡ Some e) same (slice_get-get_or shown i e within ∙ ap Some (sym is))
 
 -- each key of a run has a value for each key parameter
 pub key_lengths : (x : Expanded) (run : List Event) → IsRun x run → All (λ key. length key ≡ length x.keys) (keys_of run)

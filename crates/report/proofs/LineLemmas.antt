@@ -33,6 +33,10 @@ spaced_append one other = flat_map-append (λ (field : List ℕ). 32 ∷ field) 
 pub three_fields : (before one two three : List ℕ) → ((before ++ 32 ∷ one) ++ 32 ∷ two) ++ 32 ∷ three ≡ before ++ spaced_fields (one ∷ two ∷ three ∷ [])
 three_fields before one two three = simp (append_assoc, append-nil)
 
+-- the line that is written of a protocol that is not live
+pub not_live_written : (before name : List ℕ) → ((before ++ codes "liveness not-live") ++ 32 ∷ name) ++ 10 ∷ [] ≡ before ++ line_of (codes "liveness" ∷ codes "not-live" ∷ name ∷ [])
+not_live_written before name = simp append_assoc
+
 -- the line that is written of a key
 pub key_written : (x : Expanded) (before : List ℕ) (key : List Value) (status : KeyStatus) → (((before ++ codes "key") ++ flat_map (λ value. 32 ∷ value_spelling value) key) ++ spaced_fields (status_fields x status)) ++ 10 ∷ [] ≡ before ++ key_line x key status
 key_written x before key status =

@@ -5,6 +5,7 @@ ghost use Rattle.report.specs.Keys.{keys_of, reported_keys};
 
 use bspl_types::{Event, Expanded, Key, equal_values_are_one};
 use list_base::{NoMemory, Seq};
+use run_index::RunIndex;
 use std::alloc::Global;
 use witness_replay::key_of_ones;
 
@@ -12,31 +13,30 @@ use witness_replay::key_of_ones;
 pub(crate) fn reported_keys(
     alloc: Global,
     x: &Expanded,
-    run: &[Event],
+    index: &RunIndex,
 ) -> Result<Seq<Key>, NoMemory>
     requires some { 0 < length x.now.keys }
-    requires fits { IsRun x.now run.now }
-    ensures keys { IfOk result (λ keys. keys ≡ reported_keys x.now run.now) }
+    requires fits { IsRun x.now index.now }
+    ensures keys { IfOk result (λ keys. keys ≡ reported_keys x.now index.now) }
     ensures lengths { IfOk result (λ keys. All (λ key. length key ≡ length x.now.keys) keys) }
 {
-    let mut keys = keys_of(alloc, run)?;
-    if run.is_empty() {
+    let mut keys = keys_of(alloc, index)?;
+    if index.events().is_empty() {
         keys.push(key_of_ones(x))?;
     }
     Ok(keys)
 }
 
 /// The keys of the events, each once, in order of first event.
-fn keys_of(alloc: Global, run: &[Event]) -> Result<Seq<Key>, NoMemory>
-    ensures { IfOk result (λ keys. keys ≡ keys_of run.now) }
+fn keys_of(alloc: Global, index: &RunIndex) -> Result<Seq<Key>, NoMemory>
+    ensures { IfOk result (λ keys. keys ≡ keys_of index.now) }
 {
     // law: keys that the test finds equal are one key
     equal_values_are_one();
     let mut keys = Seq::new(alloc);
-    for event in run {
-        let key = key_of(event);
-        if !keys.as_slice().contains(&key) {
-            keys.push(key)?;
+    for (position, event) in index.events().iter().enumerate() {
+        if index.is_first(position) {
+            keys.push(key_of(event))?;
         }
     }
     Ok(keys)

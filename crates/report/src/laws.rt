@@ -1,5 +1,5 @@
 ghost use Rattle.report.specs.Laws.{ReplayIsOnce};
-ghost use Rattle.report.specs.VerdictText.{RightRunFits};
+ghost use Rattle.report.specs.VerdictText.{RightRunsFit};
 
 use role_knowledge::answers_once;
 
@@ -11,7 +11,7 @@ pub fn replay_is_once()
     answers_once();
 }
 
-/// A law: the run of a right answer fits, so its text can be written.
-pub fn right_run_fits()
-    ensures { RightRunFits }
+/// A law: the runs of right answers fit, so their texts can be written.
+pub fn right_runs_fit()
+    ensures { RightRunsFit }
 {}

@@ -9,7 +9,7 @@ mod replay_lines;
 mod status;
 mod verdict_lines;
 
-pub use laws::{replay_is_once, right_run_fits};
+pub use laws::{replay_is_once, right_runs_fit};
 pub use replay::{Replay, replay_text};
 pub use status::Status;
 pub use verdict_lines::verdict_text;

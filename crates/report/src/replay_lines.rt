@@ -10,16 +10,24 @@ ghost use Rattle.report.specs.inner.KeyLines.{AppendsConflict};
 use super::fields::{message_name, param_name, push_count, push_field, push_value};
 use super::status::Status;
 use bspl_types::{Event, Expanded, Key, Value};
-use enactment_model::{BadEvent, Conflict, Why, producers};
+use enactment_model::{Conflict, Why};
 use list_base::{Bytes, NoMemory};
+use run_index::{RunIndex, producers};
+use std::alloc::Global;
 
 /// Appends the line of an illegal run.
-pub(crate) fn push_illegal(text: &mut Bytes, x: &Expanded, bad: &BadEvent) -> Result<(), NoMemory>
-    ensures { OnOk result (text.new ≡ text.old ++ illegal_line x.now bad.now) }
+pub(crate) fn push_illegal(
+    text: &mut Bytes,
+    x: &Expanded,
+    place: usize,
+    why: Why,
+) -> Result<(), NoMemory>
+    ensures { OnOk result (text.new ≡
+        text.old ++ illegal_line x.now (record { place = place; why = why })) }
 {
     text.append(b"illegal")?;
-    push_count(text, bad.place)?;
-    push_reason(text, x, bad.why)?;
+    push_count(text, place)?;
+    push_reason(text, x, why)?;
     text.push(b'\n')
 }
 
@@ -56,11 +64,17 @@ pub(crate) fn push_legal(text: &mut Bytes, run: &[Event]) -> Result<(), NoMemory
 }
 
 /// Appends the line of the run's conflict, or that it has none.
-pub(crate) fn push_conflict(text: &mut Bytes, x: &Expanded, run: &[Event]) -> Result<(), NoMemory>
-    requires { IsRun x.now run.now }
-    ensures { OnOk result (AppendsConflict x.now run.now text.old text.new) }
+pub(crate) fn push_conflict(
+    alloc: Global,
+    text: &mut Bytes,
+    x: &Expanded,
+    index: &RunIndex,
+) -> Result<(), NoMemory>
+    requires { IsRun x.now index.now }
+    ensures { OnOk result (AppendsConflict x.now index.now text.old text.new) }
 {
-    match producers(x, run) {
+    let found = producers(alloc, x, index)?;
+    match found {
         Some(found) => push_found(text, x, &found),
         None => text.append(b"no conflict\n"),
     }

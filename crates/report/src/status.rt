@@ -1,9 +1,11 @@
-ghost use Rattle.std.specs.Prelude.{◌≡◌, length};
+ghost use Rattle.std.specs.Prelude.{◌≡◌, length, IfOk};
 ghost use Rattle.bspl_types.specs.History.{IsRun};
 ghost use Rattle.report.specs.Status.{HasStatus};
 
-use bspl_types::{Event, Expanded, Key};
-use enactment_model::{quiet, unbound};
+use bspl_types::{Expanded, Key};
+use list_base::NoMemory;
+use run_index::{RunIndex, quiet, unbound};
+use std::alloc::Global;
 
 /// How a run leaves the enactment of a key.
 #[derive(Clone, Copy, Debug)]
@@ -17,18 +19,23 @@ pub enum Status {
 }
 
 /// How the run leaves the enactment of the key.
-pub(crate) fn status_of(x: &Expanded, run: &[Event], key: &Key) -> Status
-    requires fits { IsRun x.now run.now }
+pub(crate) fn status_of(
+    alloc: Global,
+    x: &Expanded,
+    index: &RunIndex,
+    key: &Key,
+) -> Result<Status, NoMemory>
+    requires fits { IsRun x.now index.now }
     requires key { length key.now ≡ length x.now.keys }
-    ensures { HasStatus x.now run.now key.now result }
+    ensures { IfOk result (HasStatus x.now index.now key.now) }
 {
-    match quiet(x, run, key) {
+    Ok(match quiet(alloc, x, index, key)? {
         Err(loose) => Status::Loose {
             message: loose.message,
         },
-        Ok(()) => match unbound(x, run, key) {
+        Ok(()) => match unbound(alloc, x, index, key)? {
             Some(param) => Status::Incomplete { param },
             None => Status::Complete,
         },
-    }
+    })
 }

@@ -1,8 +1,10 @@
 ghost use Rattle.std.specs.Prelude.{◌≡◌, ◌++◌, IfOk, OnOk};
 ghost use Rattle.refutation_log.specs.LogText.{LogInRange};
-ghost use Rattle.report.specs.VerdictText.{HasFittingRun, log_part, safety_text, undecided_line};
-ghost use Rattle.report.specs.VerdictText.{unsafe_line, verdict_text};
+ghost use Rattle.report.specs.VerdictText.{HasFittingRest, HasFittingRun, HaveFittingRuns};
+ghost use Rattle.report.specs.VerdictText.{liveness_text, log_part, not_live_line, safety_text};
+ghost use Rattle.report.specs.VerdictText.{undecided_line, unsafe_line, verdict_text};
 ghost use Rattle.verdict.specs.Numbers.{HasNumbersInRange};
+ghost use Rattle.verdict.specs.Verdicts.{AreInRange, HasLivenessInRange};
 
 use super::fields::{param_name, push_count, push_field};
 use bspl_types::{Admitted, Expanded};
@@ -10,23 +12,24 @@ use list_base::{Bytes, NoMemory};
 use refutation_log::{Kind, Log, write_log};
 use run_text::write_run;
 use std::alloc::Global;
-use verdict::{Safety, Verdicts};
+use verdict::{Liveness, Safety, Verdicts};
 
-/// The text of the verdicts. A brief one has no log; the run of an unsafe protocol is always there.
+/// The text of the verdicts. A brief one has no log; a run that refutes is always there.
 pub fn verdict_text(
     alloc: Global,
     a: &Admitted,
     v: &Verdicts,
     brief: bool,
 ) -> Result<Bytes, NoMemory>
-    requires fits { HasFittingRun a.now v.now.safety }
-    requires numbers { HasNumbersInRange v.now.safety }
+    requires fits { HaveFittingRuns a.now v.now }
+    requires numbers { AreInRange v.now }
     ensures { IfOk result (λ text. text ≡ verdict_text a.now v.now brief) }
 {
     let mut text = Bytes::from_slice(alloc, b"protocol")?;
     push_field(&mut text, a.expanded().name.as_slice())?;
     text.push(b'\n')?;
     push_safety(alloc, &mut text, a, &v.safety, brief)?;
+    push_liveness(alloc, &mut text, a, &v.liveness, brief)?;
     Ok(text)
 }
 
@@ -45,7 +48,7 @@ fn push_safety(
     match safety {
         Safety::Safe(log) => {
             text.append(b"safety safe\n")?;
-            push_log(alloc, text, log, brief)
+            push_log(alloc, text, Kind::Safety, log, brief)
         }
         Safety::Unsafe {
             run,
@@ -58,8 +61,37 @@ fn push_safety(
             text.append(events.as_slice())
         }
         Safety::Undecided(log) => {
-            push_undecided(text, log)?;
-            push_log(alloc, text, log, brief)
+            push_undecided(text, b"safety", log)?;
+            push_log(alloc, text, Kind::Safety, log, brief)
+        }
+    }
+}
+
+/// Appends the answer on liveness.
+fn push_liveness(
+    alloc: Global,
+    text: &mut Bytes,
+    a: &Admitted,
+    liveness: &Liveness,
+    brief: bool,
+) -> Result<(), NoMemory>
+    requires fits { HasFittingRest a.now liveness.now }
+    requires numbers { HasLivenessInRange liveness.now }
+    ensures { OnOk result (text.new ≡ text.old ++ liveness_text a.now brief liveness.now) }
+{
+    match liveness {
+        Liveness::Live(log) => {
+            text.append(b"liveness live\n")?;
+            push_log(alloc, text, Kind::Liveness, log, brief)
+        }
+        Liveness::NotLive { run, param } => {
+            push_not_live(text, a.expanded(), *param)?;
+            let events = write_run(alloc, a, run.as_slice())?;
+            text.append(events.as_slice())
+        }
+        Liveness::Undecided(log) => {
+            push_undecided(text, b"liveness", log)?;
+            push_log(alloc, text, Kind::Liveness, log, brief)
         }
     }
 }
@@ -81,23 +113,39 @@ fn push_unsafe(
     text.push(b'\n')
 }
 
-/// Appends the line of a search that came to its budget.
-fn push_undecided(text: &mut Bytes, log: &Log) -> Result<(), NoMemory>
-    ensures { OnOk result (text.new ≡ text.old ++ undecided_line log.now) }
+/// Appends the line of a protocol that is not live.
+fn push_not_live(text: &mut Bytes, x: &Expanded, param: u32) -> Result<(), NoMemory>
+    ensures { OnOk result (text.new ≡ text.old ++ not_live_line x.now param) }
 {
-    text.append(b"safety undecided")?;
+    text.append(b"liveness not-live")?;
+    push_field(text, param_name(x, param))?;
+    text.push(b'\n')
+}
+
+/// Appends the line of a search that came to its budget.
+fn push_undecided(text: &mut Bytes, property: &[u8], log: &Log) -> Result<(), NoMemory>
+    ensures { OnOk result (text.new ≡ text.old ++ undecided_line property.now log.now) }
+{
+    text.append(property)?;
+    push_field(text, b"undecided")?;
     push_count(text, log.steps.len())?;
     text.push(b'\n')
 }
 
 /// Appends the text of the log, unless the text is brief.
-fn push_log(alloc: Global, text: &mut Bytes, log: &Log, brief: bool) -> Result<(), NoMemory>
+fn push_log(
+    alloc: Global,
+    text: &mut Bytes,
+    kind: Kind,
+    log: &Log,
+    brief: bool,
+) -> Result<(), NoMemory>
     requires { LogInRange log.now }
-    ensures { OnOk result (text.new ≡ text.old ++ log_part brief log.now) }
+    ensures { OnOk result (text.new ≡ text.old ++ log_part kind brief log.now) }
 {
     if brief {
         return Ok(());
     }
-    let steps = write_log(alloc, Kind::Safety, log)?;
+    let steps = write_log(alloc, kind, log)?;
     text.append(steps.as_slice())
 }

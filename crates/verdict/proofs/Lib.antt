@@ -4,3 +4,4 @@ pub mod RivalLemmas
 pub mod OutcomeLemmas
 pub mod RunLemmas
 pub mod VariableLemmas
+pub mod LivenessLemmas

@@ -22,12 +22,12 @@ use Rattle.verdict.specs.declared.outcome.Safety.{Safety}
 use Rattle.verdict.specs.declared.outcome.Safety.TheVariants.{Safe}
 use Rattle.verdict.specs.Numbers.{HasNumbersInRange, NumbersInRange}
 use Rattle.verdict.specs.Right.{IsRight}
-use Rattle.verdict.specs.inner.Answer.{IsAnswerTo, IsDecided}
+use Rattle.verdict.specs.inner.Answer.{IsAnswered, IsSafetyAnswer}
 use Rattle.verdict.proofs.RivalLemmas.{one_producer_empty}
 use Rattle.verdict.proofs.VariableLemmas.{few_variables}
 
 -- the answer to each outcome is right
-answers_right : (x : Expanded) (f : Formula) (budget : ℕ) (outcome : Outcome) (safety : Safety) → IsSafetyFormula x f → IsOutcome f budget outcome → IsAnswerTo x outcome safety → IsRight x budget safety
+answers_right : (x : Expanded) (f : Formula) (budget : ℕ) (outcome : Outcome) (safety : Safety) → IsSafetyFormula x f → IsOutcome f budget outcome → IsSafetyAnswer x outcome safety → IsRight x budget safety
 answers_right x f budget (Sat assignment) safety is_formula found answers =
     subst (IsRight x budget) (sym answers.is_unsafe) answers.right
 answers_right x f budget (Unsat log) safety is_formula found answers =
@@ -38,7 +38,7 @@ answers_right x f budget (Budget log) safety is_formula found answers =
     (record { formula = f; is_formula = is_formula; new = found.new; exact = found.spent; derived = found.derived; derives = found.derives; none = found.no_empty })
 
 -- so what is decided is right
-pub decided_right : (x : Expanded) (f : Formula) (budget : ℕ) (safety : Safety) → IsSafetyFormula x f → IsDecided x f budget safety → IsRight x budget safety
+pub decided_right : (x : Expanded) (f : Formula) (budget : ℕ) (safety : Safety) → IsSafetyFormula x f → IsAnswered f budget (IsSafetyAnswer x) safety → IsRight x budget safety
 decided_right x f budget safety is_formula decided =
     answers_right x f budget decided.outcome safety is_formula decided.is_outcome decided.answers
 
@@ -68,7 +68,7 @@ nothing_new clauses ((l ∷ clause) ∷ derived) (chain ∷ steps) empty some de
     nothing_lacked clauses (l ∷ clause) empty (new.0.lacked (λ same. cc))
 
 -- the answer over a formula with an empty clause is a log of no steps
-answers_none : (x : Expanded) (f : Formula) (budget : ℕ) (outcome : Outcome) (safety : Safety) → 1 ≤ budget → Contains f.clauses [] → IsOutcome f budget outcome → IsAnswerTo x outcome safety → safety ≡ Safe (record { steps = [] })
+answers_none : (x : Expanded) (f : Formula) (budget : ℕ) (outcome : Outcome) (safety : Safety) → 1 ≤ budget → Contains f.clauses [] → IsOutcome f budget outcome → IsSafetyAnswer x outcome safety → safety ≡ Safe (record { steps = [] })
 answers_none x f budget (Sat assignment) safety some empty found answers =
     let (k, l, within, at, holds) = All-contains (Satisfies (valuation assignment)) f.clauses [] found.satisfies empty in
     absurd (omega (arith, within))
@@ -80,12 +80,12 @@ answers_none x f budget (Budget log) safety some empty found answers =
     absurd (nothing_new f.clauses found.new.derived log.steps empty (omega (arith, some, spent)) found.new.derives found.new.new)
 
 -- so is what is decided with one producer of each parameter
-pub decided_none : (x : Expanded) (f : Formula) (budget : ℕ) (safety : Safety) → 1 ≤ budget → HasOneProducer x → IsSafetyFormula x f → IsDecided x f budget safety → safety ≡ Safe (record { steps = [] })
+pub decided_none : (x : Expanded) (f : Formula) (budget : ℕ) (safety : Safety) → 1 ≤ budget → HasOneProducer x → IsSafetyFormula x f → IsAnswered f budget (IsSafetyAnswer x) safety → safety ≡ Safe (record { steps = [] })
 decided_none x f budget safety some one is_formula decided =
     answers_none x f budget decided.outcome safety some (one_producer_empty x f is_formula one) decided.is_outcome decided.answers
 
 -- the log of each answer has numbers in range
-answers_in_range : NumbersInRange → (x : Expanded) (f : Formula) (budget : ℕ) (outcome : Outcome) (safety : Safety) → length f.clauses + budget ≤ 2147483647 → f.vars ≤ 2147483647 → IsOutcome f budget outcome → IsAnswerTo x outcome safety → HasNumbersInRange safety
+answers_in_range : NumbersInRange → (x : Expanded) (f : Formula) (budget : ℕ) (outcome : Outcome) (safety : Safety) → length f.clauses + budget ≤ 2147483647 → f.vars ≤ 2147483647 → IsOutcome f budget outcome → IsSafetyAnswer x outcome safety → HasNumbersInRange safety
 answers_in_range law x f budget (Sat assignment) safety few few_vars found answers =
     subst HasNumbersInRange (sym answers.is_unsafe) tt
 answers_in_range law x f budget (Unsat log) safety few few_vars found answers =
@@ -96,7 +96,7 @@ answers_in_range law x f budget (Budget log) safety few few_vars found answers =
     subst HasNumbersInRange (sym answers) (law f log found.derived found.derives (omega (arith, few, spent)) few_vars)
 
 -- so has that of what is decided within a small budget
-pub decided_in_range : NumbersInRange → (x : Expanded) (f : Formula) (budget : ℕ) (safety : Safety) → length f.clauses ≤ 8000000 → budget ≤ 1000000 → IsSafetyFormula x f → IsDecided x f budget safety → HasNumbersInRange safety
+pub decided_in_range : NumbersInRange → (x : Expanded) (f : Formula) (budget : ℕ) (safety : Safety) → length f.clauses ≤ 8000000 → budget ≤ 1000000 → IsSafetyFormula x f → IsAnswered f budget (IsSafetyAnswer x) safety → HasNumbersInRange safety
 decided_in_range law x f budget safety few small is_formula decided =
     let vars = is_formula.vars in
     answers_in_range law x f budget decided.outcome safety (omega (arith, few, small)) (omega (arith, vars, few_variables x)) decided.is_outcome decided.answers

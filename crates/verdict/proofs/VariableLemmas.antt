@@ -1,13 +1,22 @@
--- A safety formula has few variables.
-use Rattle.std.proofs.Common.{ℕ, ◌+◌, ◌-◌, ◌*◌, ◌/◌, ◌≤◌, Bool, true, false, cond, List, [], ◌∷◌, length, map, arith, length-append}
-use Rattle.std.proofs.lemmas.List.{length-map}
-use Rattle.std.proofs.lemmas.List.FromFn.{length-range_with_len}
+-- A safety formula and a liveness formula have few variables.
+use Rattle.std.proofs.Common.{inl, inr, ℕ, ◌+◌, ◌-◌, ◌*◌, ◌/◌, ◌≤◌, Bool, true, false, cond, List, [], ◌∷◌, length, map, take, sym, subst, arith, length-append, length-take}
+use Rattle.std.proofs.lemmas.Bool.{cases_lt}
+use Rattle.std.proofs.lemmas.List.{get_or_past, length-map}
+use Rattle.std.proofs.lemmas.List.Elements.{All-get_or}
+use Rattle.std.proofs.lemmas.List.FromFn.{length-enumerate_from, length-range_with_len}
 use Rattle.std.proofs.Math.Nat.{mul-le-mul}
-use Rattle.std.specs.List.{filter, flat_map, range_with_len}
+use Rattle.std.specs.List.{enumerate_from, filter, flat_map, range_with_len}
 use Rattle.bspl_types.specs.declared.expanded.Expanded.{Expanded}
-use Rattle.bspl_types.specs.Expansion.{message_of}
+use Rattle.bspl_types.specs.declared.protocol.Carried.{Carried}
+use Rattle.bspl_types.specs.declared.protocol.Message.{Message}
+use Rattle.bspl_types.specs.declared.protocol.ParamInfo.{ParamInfo}
+use Rattle.bspl_types.specs.Expansion.{message_of, no_message}
+use Rattle.bspl_types.specs.Shape.{is_public_value, IsMessageOf}
 use Rattle.clause_encoding.specs.declared.rivals.Rivals.{Rivals}
-use Rattle.clause_encoding.specs.Formula.{safety_variables}
+use Rattle.clause_encoding.specs.declared.wants.Want.{Want}
+use Rattle.clause_encoding.specs.Carriers.{in_parameters, is_in}
+use Rattle.clause_encoding.specs.Formula.{liveness_variables, safety_variables}
+use Rattle.clause_encoding.specs.Rest.{public_values, wants_by, wants_of}
 use Rattle.clause_encoding.specs.Rivals.{producers_of, produces, rivals_among, rivals_of}
 use Rattle.clause_encoding.specs.Variables.{kind_count, message_numbers, variable_count}
 
@@ -64,3 +73,40 @@ few_variables x =
     let messages = x.shape.counts.few_messages in
     let pairs = few_pairs (kind_count x) (omega (arith, messages)) in
     omega (arith, messages, few_rivals x, pairs)
+
+-- public parameters with a value are few
+few_public_values : (x : Expanded) → length (public_values x) ≤ 64
+few_public_values x =
+    let few = x.shape.counts.few_params in
+    let has_value = λ (q : ℕ × ParamInfo). is_public_value q.1.adornment in
+    let numbered = enumerate_from 0 (take x.public x.params) in
+    omega (arith, few, length-take x.public x.params, length-enumerate_from 0 (take x.public x.params), kept_at_most has_value numbered, length-map (filter has_value numbered) (λ (q : ℕ × ParamInfo). q.0))
+
+-- a message carries few parameters
+few_carried : (x : Expanded) (m : ℕ) → length (message_of x m).carried ≤ 16
+few_carried x m = elim (cases_lt m (length x.messages)) [
+  | inl known ↦ (All-get_or (IsMessageOf (length x.roles) (length x.params)) x.messages m no_message known x.shape.each_message).few
+  | inr past ↦ subst (λ (message : Message). length message.carried ≤ 16) (sym (get_or_past x.messages m no_message past)) (omega arith)
+]
+
+-- so it wants few
+few_wants_by : (x : Expanded) (m : ℕ) → length (wants_by x m) ≤ 16
+few_wants_by x m =
+    let carried = (message_of x m).carried in
+    let listed = filter (λ (c : Carried). is_in c.adornment) carried in
+    let want = λ (p : ℕ). (let one : Want = record { message = m; param = p } in one) in
+    omega (arith, few_carried x m, kept_at_most (λ (c : Carried). is_in c.adornment) carried, length-map listed (λ (c : Carried). c.param), length-map (in_parameters (message_of x m)) want)
+
+-- and so does a protocol
+few_wants : (x : Expanded) → length (wants_of x) ≤ 1024
+few_wants x =
+    let few = x.shape.counts.few_messages in
+    let all = added_at_most (wants_by x) 16 (message_numbers x) (few_wants_by x) in
+    omega (arith, length-range_with_len 0 (length x.messages), few, all)
+
+-- so the variables of liveness are few too
+pub few_liveness_variables : (x : Expanded) → variable_count (liveness_variables x) ≤ 2000000
+few_liveness_variables x =
+    let messages = x.shape.counts.few_messages in
+    let pairs = few_pairs (kind_count x) (omega (arith, messages)) in
+    omega (arith, messages, few_public_values x, few_wants x, pairs)

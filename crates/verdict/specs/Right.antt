@@ -35,11 +35,12 @@ pub record IsUnsafeVerdict (x : Expanded) (run : List Event) (param first second
   pub last : second ≡ length run
   pub unsafe : ¬ SafeProtocol x
 
--- the log is new over the safety formula, has exactly as many steps as the budget allows, and
--- derives no empty clause
-pub record IsUndecidedVerdict (x : Expanded) (budget : ℕ) (log : Log) : Type 0 where
+-- the log is new over such a formula, has exactly as many steps as the budget allows, and derives no
+-- empty clause
+pub record IsUndecidedVerdict (IsFormulaOf : Formula → Type 0) (budget : ℕ) (log : Log)
+    : Type 0 where
   pub formula : Formula
-  pub is_formula : IsSafetyFormula x formula
+  pub is_formula : IsFormulaOf formula
   pub new : IsNew formula log
   pub exact : length log.steps ≡ budget
   pub derived : List (List Lit)
@@ -50,4 +51,4 @@ pub record IsUndecidedVerdict (x : Expanded) (budget : ℕ) (log : Log) : Type 0
 abbrev pub IsRight : Expanded → ℕ → Safety → Type 0
 IsRight x budget (Safe log) = IsSafeVerdict x budget log
 IsRight x budget (Unsafe run param first second) = IsUnsafeVerdict x run param first second
-IsRight x budget (Undecided log) = IsUndecidedVerdict x budget log
+IsRight x budget (Undecided log) = IsUndecidedVerdict (IsSafetyFormula x) budget log

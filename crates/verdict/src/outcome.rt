@@ -18,8 +18,21 @@ pub enum Safety {
     Undecided(Log),
 }
 
+/// Whether a protocol is live, and why.
+#[derive(Drop)]
+pub enum Liveness {
+    /// The protocol is live; the log, which was checked, refutes its liveness formula.
+    Live(Log),
+    /// The protocol is not live; the run is legal and has come to rest, and the parameter is the
+    /// first public one that it leaves unbound.
+    NotLive { run: Run, param: u32 },
+    /// The search came to its budget; the log has the new clauses that it learned.
+    Undecided(Log),
+}
+
 /// The verdicts on a protocol.
 #[derive(Drop)]
 pub struct Verdicts {
     pub safety: Safety,
+    pub liveness: Liveness,
 }

@@ -34,7 +34,7 @@ emission_from m before (Emit i) among same = (i, record { message = omega arith;
 emission_from m before (Receive i) among same = absurd (omega arith)
 
 -- a kind other than the emission passes the test
-other_kind : (kind m : ℕ) → kind ≢ sent m → not (kind == sent m) ≡ true
+pub other_kind : (kind m : ℕ) → kind ≢ sent m → not (kind == sent m) ≡ true
 other_kind kind m other = elim (cases_Bool (kind == sent m)) [ inl same ↦ absurd (other (eqb-true kind (sent m) same)) | inr none ↦ ap not none ]
 
 module _ (x : Expanded) (vars : Variables) (v : ℕ → Bool) (kinds : List ℕ) (are : AreVariablesOf x vars) (satisfied : SatisfiesFamilies x vars v) (ordered : AreOrdered vars v kinds) where

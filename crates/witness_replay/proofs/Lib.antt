@@ -14,3 +14,6 @@ pub mod RivalLemmas
 pub mod ConflictLemmas
 pub mod ExistenceLemmas
 pub mod ModelLemmas
+pub mod RestFamilyLemmas
+pub mod RestLemmas
+pub mod LackingLemmas

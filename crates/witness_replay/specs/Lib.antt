@@ -1,5 +1,6 @@
--- The run of an assignment, the refuting run that it gives for safety, and the laws.
+-- The run of an assignment, the runs that it gives to refute safety and liveness, and the laws.
 pub mod Witness
 pub mod Refuting
+pub mod Resting
 pub mod Laws
 pub mod inner

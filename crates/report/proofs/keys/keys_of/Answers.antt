@@ -1,14 +1,17 @@
--- The key of one event more, if it is new.
+-- The key of one event more, if it is the first of its key.
 use Rattle.std.proofs.Common.{◌∙◌}
-use Rattle.report.proofs.KeyLemmas.{keys_more}
+use Rattle.report.proofs.KeyLemmas.{event_at, key_is_new, key_is_old}
 use Rattle.report.proofs.keys.keys_of.Goals as goal
-use Rattle.report.proofs.keys.keys_of.Goals.{then-not-contains+in_ok-push, else-not-contains}
+use Rattle.report.proofs.keys.keys_of.Goals.{then-is_first+in_ok-push, else-is_first}
 
-pub loop-event-preserved : goal.loop-event-preserved
-loop-event-preserved c =
-    let found = rw c.as_slice.ensures at c.contains.ensures.value in
-    let more = keys_more c.equal_values_are_one.ensures.lists c.args.run.now c.loop-event.event-index c.event-item.result c.key_of-key.result c.loop-event.keys c.contains.result c.loop-event-test.true c.event-item.is c.key_of-key.ensures c.loop-event.invariant found in
-    elim c.if-not-contains.branch [
-      | then-not-contains+in_ok-push w ↦ w.keys-is ∙ w.in_ok-push.ensures.ok ∙ rw w.if-not-contains.true at more
-      | else-not-contains w ↦ w.keys-is ∙ rw w.if-not-contains.false at more
+pub loop-position-preserved : goal.loop-position-preserved
+loop-position-preserved c =
+    let same = c.equal_values_are_one.ensures.lists in
+    let run = c.args.index.now in
+    let i = c.loop-position.position in
+    let e = c.event-item.result in
+    let at = event_at run c.events-event-items.result.now i e c.events-event-items.ensures c.loop-position-test.true c.event-item.is in
+    elim c.if-is_first.branch [
+      | then-is_first+in_ok-push w ↦ w.keys-is ∙ w.in_ok-push.ensures.ok ∙ rw (c.loop-position.invariant, w.key_of.ensures) (key_is_new same run i e at (rw w.if-is_first.true at c.is_first.ensures))
+      | else-is_first w ↦ w.keys-is ∙ c.loop-position.invariant ∙ key_is_old same run i e at (rw w.if-is_first.false at c.is_first.ensures)
     ]

@@ -4,5 +4,5 @@ use Rattle.report.specs.Keys.{keys_of}
 use Rattle.report.proofs.keys.keys_of.Given as goal
 
 -- the keys of the events so far are found
-abbrev pub invariant-loop-event : goal.invariant-loop-event
-invariant-loop-event l = l.keys ≡ keys_of (take l.event-index l.run)
+abbrev pub invariant-loop-position : goal.invariant-loop-position
+invariant-loop-position l = l.keys ≡ keys_of (take l.position l.index)

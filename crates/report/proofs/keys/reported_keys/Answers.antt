@@ -13,7 +13,7 @@ pub returns-clause-lengths : goal.returns-clause-lengths
 returns-clause-lengths c =
     let x = c.args.x.now in
     let P : List Value → Type 0 = λ key. length key ≡ length x.keys in
-    let all = subst (All P) (sym c.in_ok-keys.ensures) (key_lengths x c.args.run.now c.requires.fits) in
+    let all = subst (All P) (sym c.in_ok-keys.ensures) (key_lengths x c.args.index.now c.requires.fits) in
     elim c.if-is_empty.branch [
       | then-is_empty+in_ok-push w ↦
           let ones = ap length w.key_of_ones.ensures ∙ length-replicate (length x.keys) (Number 1) in

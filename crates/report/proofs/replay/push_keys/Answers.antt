@@ -9,12 +9,12 @@ use Rattle.report.proofs.replay.push_keys.Goals as goal
 pub loop-key-preserved : goal.loop-key-preserved
 loop-key-preserved c =
     let x = c.args.x.now in
-    let run = c.args.run.now in
+    let run = c.args.index.now in
     let key = c.key-item.result in
-    let status = c.status_of.result in
+    let status = c.in_ok-status_of.field-0 in
     let before = c.loop-key.invariant in
     let line = key_line x key status in
-    let is_line : IsKeyLine x run key line = record { status = status; is_status = c.status_of.ensures; line_is = refl } in
+    let is_line : IsKeyLine x run key line = record { status = status; is_status = c.in_ok-status_of.ensures; line_is = refl } in
     record {
       lines = before.lines ++ line ∷ [];
       each = paired_push (IsKeyLine x run) c.args.keys.now before.lines c.loop-key.key-index key line c.loop-key-test.true c.key-item.is before.each is_line;

@@ -6,7 +6,7 @@ use Rattle.clause_core.specs.Assignment.{valuation}
 use Rattle.enactment_model.specs.LeastConflict.{IsLeastConflict}
 use Rattle.enactment_model.specs.Safety.{HasNoConflict}
 use Rattle.verdict.proofs.RunLemmas.{found_least, some_conflict, unsafe_right}
-use Rattle.verdict.proofs.answers.refuted.Goals as goal
+use Rattle.verdict.proofs.safety.refuted.Goals as goal
 
 pub unwrap-conflict-requires : goal.unwrap-conflict-requires
 unwrap-conflict-requires c =

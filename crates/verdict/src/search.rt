@@ -1,0 +1,37 @@
+ghost use Rattle.std.specs.Prelude.{◌+◌, ◌^◌, ◌<◌, ◌≤◌, length, IfOk};
+ghost use Rattle.refutation_log.specs.Resolution.{Accepts};
+ghost use Rattle.verdict.specs.inner.Answer.{IsChecked, IsFound};
+
+use clause_core::Formula;
+use list_base::NoMemory;
+use log_checker::{Reject, check_log};
+use refutation_log::Log;
+use sat_solver::{Outcome, solve};
+use std::alloc::Global;
+
+/// Searches for an assignment that satisfies the formula: there is one, a refutation, which the
+/// separate checker accepts, or neither within the budget.
+pub(crate) fn decide(alloc: Global, formula: &Formula, budget: u32) -> Result<Outcome, NoMemory>
+    requires some { 1 ≤ budget }
+    requires few { length formula.now.clauses + budget < 2 ^ 32 }
+    ensures { IfOk result (IsFound formula.now budget) }
+{
+    match solve(alloc, formula, budget)? {
+        Outcome::Sat(assignment) => Ok(Outcome::Sat(assignment)),
+        Outcome::Unsat(log) => checked(alloc, formula, log),
+        Outcome::Budget(log) => Ok(Outcome::Budget(log)),
+    }
+}
+
+/// The log, which the checker accepts unless memory runs out.
+fn checked(alloc: Global, formula: &Formula, log: Log) -> Result<Outcome, NoMemory>
+    requires few { length formula.now.clauses + length log.steps < 2 ^ 32 }
+    requires accepted { Accepts formula.now log }
+    ensures { IfOk result (IsChecked formula.now log) }
+{
+    match check_log(alloc, formula, &log) {
+        Ok(()) => Ok(Outcome::Unsat(log)),
+        Err(Reject::NoMemory) => Err(NoMemory),
+        Err(_) => unreachable!(),
+    }
+}
