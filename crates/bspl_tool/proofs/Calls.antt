@@ -6,7 +6,7 @@ use Rattle.bspl_tool.specs.declared.answer_error.Aborted.{Aborted}
 use Rattle.bspl_tool.specs.declared.answer_error.Aborted.TheVariants as aborted
 use Rattle.bspl_tool.specs.declared.reply.Reply.{Reply}
 use Rattle.bspl_tool.specs.declared.status.Status.{Status}
-use Rattle.bspl_tool.specs.declared.status.Status.TheVariants.{Done, Refuted, Usage, Refused, ReadFault, WriteFault, NoMemory}
+use Rattle.bspl_tool.specs.declared.status.Status.TheVariants.{Done, Refuted, Undecided, Usage, Refused, ReadFault, WriteFault, NoMemory}
 use Rattle.bspl_tool.specs.Call.{AreCounted, AreRemaining, IsCall, TakesInput, Writes, WritesOutput}
 use Rattle.bspl_tool.specs.Output.{Output, usage, refused, done}
 use Rattle.bspl_tool.specs.Status.{is_answered}
@@ -36,6 +36,7 @@ output_ends args bytes (done out s made) =
 end_is_answered : (s : Status) → IsEnd s → is_answered s ≡ true
 end_is_answered Done ends = refl
 end_is_answered Refuted ends = refl
+end_is_answered Undecided ends = refl
 end_is_answered Usage ends = refl
 end_is_answered Refused ends = refl
 end_is_answered s ends = absurd ends
@@ -44,6 +45,7 @@ end_is_answered s ends = absurd ends
 writes_whole : (args : List (List ℕ)) (bytes : List ℕ) (old new : Option (List ℕ)) (s : Status) → IsEnd s → WritesOutput args bytes old new s → Writes args bytes old new s
 writes_whole args bytes old new Done ends whole = whole
 writes_whole args bytes old new Refuted ends whole = whole
+writes_whole args bytes old new Undecided ends whole = whole
 writes_whole args bytes old new Usage ends whole = whole
 writes_whole args bytes old new Refused ends whole = whole
 writes_whole args bytes old new s ends whole = absurd ends

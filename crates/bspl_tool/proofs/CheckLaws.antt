@@ -5,9 +5,11 @@ use Rattle.std.specs.Prelude.{IfSome}
 use Rattle.bspl_types.specs.declared.expanded.Expanded.{Expanded}
 use Rattle.log_checker.specs.declared.refusal.Reject.{Reject}
 use Rattle.log_checker.specs.declared.refusal.Reject.TheVariants.{NoClause, NoMemory, NoPivot, NotEmpty}
+use Rattle.protocol_check.specs.Liveness.{AcceptedLivenessDoesNotFail, LivenessFailsOnce}
 use Rattle.protocol_check.specs.Safety.{AcceptedSafetyDoesNotFail, SafetyFailsOnce}
 use Rattle.refutation_log.specs.declared.refusal.LogRefusal.{LogRefusal}
 use Rattle.refutation_log.specs.declared.refusal.LogRefusal.TheVariants as log
+use Rattle.refutation_log.specs.declared.refutation.Kind.{Kind}
 use Rattle.refutation_log.specs.declared.refutation.Kind.TheVariants.{Liveness, Safety}
 use Rattle.refutation_log.specs.declared.refutation.Log.{Log}
 use Rattle.refutation_log.specs.LogText.{IsTextOf}
@@ -16,12 +18,13 @@ use Rattle.bspl_tool.specs.declared.rejection.Rejection.{Rejection}
 use Rattle.bspl_tool.specs.declared.request.Task.TheVariants.{Check}
 use Rattle.bspl_tool.specs.declared.status.Status.{Status}
 use Rattle.bspl_tool.specs.Answer.{IsAnswer, IsPartRefused}
-use Rattle.bspl_tool.specs.CheckAnswer.{IsCheckAnswer, IsCheckRefused, SaysAccepted, SaysRejected}
+use Rattle.bspl_tool.specs.CheckAnswer.{Accepts, Fails, IsCheckAnswer, IsCheckRefused, SaysAccepted, SaysRejected, claim_of}
+use Rattle.bspl_tool.specs.Claims.{IsClaimTrue, claim_line}
 use Rattle.bspl_tool.specs.Laws.{IsOutput}
 use Rattle.bspl_tool.specs.Rejection.{log_rejection}
 use Rattle.bspl_tool.specs.Texts.{line, reject_text}
 use Rattle.bspl_tool.proofs.ClaimsNothing.{ClaimsNothing, line_claims_nothing, says_nothing}
-use Rattle.bspl_tool.proofs.CommandLaws.{CommandLaws, CommandTexts, IsEnd, IsHonest, safe_claims}
+use Rattle.bspl_tool.proofs.CommandLaws.{CommandLaws, CommandTexts, IsEnd, IsHonest, honest_if}
 use Rattle.bspl_tool.proofs.RejectedNames.{HasNames}
 use Rattle.bspl_tool.proofs.Unbroken.{decimal_has_no_lf, has_lf, joined_has_none}
 
@@ -30,27 +33,25 @@ pub record OneCheck : Type 0 where
   pub logs : TextHasOneLog
   pub refusals : TextHasOneRefusal
   pub exclusive : LogIsNotRefused
-  pub failure : SafetyFailsOnce
-  pub accepted : AcceptedSafetyDoesNotFail
+  pub safety : SafetyFailsOnce
+  pub safe : AcceptedSafetyDoesNotFail
+  pub liveness : LivenessFailsOnce
+  pub live : AcceptedLivenessDoesNotFail
 
 -- a refusal that is written is not that memory ran out
 not_memory : (refusal : LogRefusal) (r : Rejection) → log_rejection refusal ≡ Some r → refusal ≢ log.NoMemory
 not_memory refusal r is out_of_memory = let none : None ≡ Some r = ap log_rejection (sym out_of_memory) ∙ is in absurd (cc)
 
 -- the text of a log is not refused
-read_or_refused : OneCheck → (part : List ℕ) (of : Log) (r : Rejection) → IsTextOf part Safety of → IsCheckRefused part r → ⊥
-read_or_refused once part of r read (IsCheckRefused.misspelled refusal _ refused is) = once.exclusive part Safety of refusal (not_memory refusal r is) read refused
-read_or_refused once part of _ read (IsCheckRefused.liveness other again) = let same = (once.logs part Safety Liveness of other read again).0 in absurd (cc)
+read_or_refused : OneCheck → (part : List ℕ) (kind : Kind) (of : Log) (r : Rejection) → IsTextOf part kind of → IsCheckRefused part r → ⊥
+read_or_refused once part kind of r read refused = once.exclusive part kind of refused.refusal (not_memory refused.refusal r refused.rejection_is) read refused.refused
 
--- the part is refused for one thing
+-- the part is refused for one line
 refused_once : OneCheck → (part : List ℕ) (r s : Rejection) → IsCheckRefused part r → IsCheckRefused part s → r ≡ s
-refused_once once part r s (IsCheckRefused.misspelled refusal _ refused is) (IsCheckRefused.misspelled other _ again is_too) =
-    let same = once.refusals part refusal other (not_memory refusal r is) (not_memory other s is_too) refused again in
-    let rejections : Some r ≡ Some s = sym is ∙ ap log_rejection same ∙ is_too in
+refused_once once part r s one other =
+    let same = once.refusals part one.refusal other.refusal (not_memory one.refusal r one.rejection_is) (not_memory other.refusal s other.rejection_is) one.refused other.refused in
+    let rejections : Some r ≡ Some s = sym one.rejection_is ∙ ap log_rejection same ∙ other.rejection_is in
     cc
-refused_once once part r _ (IsCheckRefused.misspelled refusal _ refused is) (IsCheckRefused.liveness other again) = absurd (once.exclusive part Liveness other refusal (not_memory refusal r is) again refused)
-refused_once once part _ s (IsCheckRefused.liveness of read) (IsCheckRefused.misspelled refusal _ refused is) = absurd (once.exclusive part Liveness of refusal (not_memory refusal s is) read refused)
-refused_once once part _ _ (IsCheckRefused.liveness of read) (IsCheckRefused.liveness other again) = refl
 
 -- a first failure has no LF
 reject_has_no_lf : (reject : Reject) → has_lf (reject_text reject) ≡ false
@@ -71,11 +72,18 @@ reject_claims_nothing (NoPivot step link) = line_claims_nothing (reject_text (No
 reject_claims_nothing NotEmpty = line_claims_nothing (reject_text NotEmpty) refl refl
 reject_claims_nothing NoMemory = line_claims_nothing (reject_text NoMemory) refl refl
 
+-- the line of an accepted log claims one property, which is true
+accepted_is_honest : (x : Expanded) (kind : Kind) (n : ℕ) → IsClaimTrue (claim_of kind) x → IsHonest x (take n (line (claim_line (claim_of kind))))
+accepted_is_honest x Safety n holds = honest_if x (line (claim_line (claim_of Safety))) n (inl holds) (inr (record { first = refl; later = refl }))
+accepted_is_honest x Liveness n holds = honest_if x (line (claim_line (claim_of Liveness))) n (inr (record { first = refl; later = refl })) (inl holds)
+
 -- an answer claims only what is true
 check_is_honest : (x : Expanded) (part out : List ℕ) (status : Status) (n : ℕ) → IsCheckAnswer x part out status → IsHonest x (take n out)
 check_is_honest x part out status n answer =
     elim answer.answer [
-      | inl accepted ↦ record { claimed = λ claim says. safe_claims x claim accepted.safe }
+      | inl says ↦
+          let is : line (claim_line (claim_of answer.kind)) ≡ out = ap (λ claim. line (claim_line claim)) (sym says.accepted.claim_is) ∙ sym says.text in
+          subst (λ text. IsHonest x (take n text)) is (accepted_is_honest x answer.kind n (subst (λ claim. IsClaimTrue claim x) says.accepted.claim_is says.accepted.claimed))
       | inr rejected ↦ record { claimed = λ claim says. absurd (says_nothing claim out n (subst ClaimsNothing (sym rejected.text) (reject_claims_nothing rejected.reject)) says) }
     ]
 
@@ -95,8 +103,7 @@ line_names log.NoMemory = tt
 
 -- so its refusals have no names but such
 check_names : (part : List ℕ) (r : Rejection) → IsCheckRefused part r → HasNames r
-check_names part r (IsCheckRefused.misspelled refusal _ refused is) = subst (λ o. IfSome o HasNames) is (line_names refusal)
-check_names part _ (IsCheckRefused.liveness of read) = record { first = tt; second = tt }
+check_names part r refused = subst (λ o. IfSome o HasNames) refused.rejection_is (line_names refused.refusal)
 
 -- what is said
 pub check_texts : CommandTexts (IsAnswer Check) (IsPartRefused Check)
@@ -109,20 +116,32 @@ check_texts = record {
 -- and how it excludes the rest
 pub check_laws : OneCheck → CommandLaws (IsAnswer Check) (IsPartRefused Check)
 check_laws once = record {
-  distinct = λ x part out status r answer refused. read_or_refused once part answer.log r answer.read refused;
+  distinct = λ x part out status r answer refused. read_or_refused once part answer.kind answer.log r answer.read refused;
   one_refusal = λ x part r s one other. refused_once once part r s one other;
 }
 
+-- a log has one first failure
+fails_once : OneCheck → (x : Expanded) (kind : Kind) (of : Log) (first second : Reject) → Fails x kind of first → Fails x kind of second → first ≡ second
+fails_once once x Safety of first second one other = once.safety x of first second one other
+fails_once once x Liveness of first second one other = once.liveness x of first second one other
+
+-- and none if it is accepted
+accepted_or_fails : OneCheck → (x : Expanded) (kind : Kind) (of : Log) (reject : Reject) → Accepts x kind of → Fails x kind of reject → ⊥
+accepted_or_fails once x Safety of reject accepts fails = once.safe x of reject accepts fails
+accepted_or_fails once x Liveness of reject accepts fails = once.live x of reject accepts fails
+
 -- two answers on one log are one
-same_answer : OneCheck → (x : Expanded) (of : Log) (out out' : List ℕ) (status status' : Status) → SaysAccepted x of out status ⊎ SaysRejected x of out status → SaysAccepted x of out' status' ⊎ SaysRejected x of out' status' → IsOutput out status out' status'
-same_answer once x of out out' status status' (inl one) (inl other) = (one.text ∙ sym other.text, one.done ∙ sym other.done)
-same_answer once x of out out' status status' (inl one) (inr other) = absurd (once.accepted x of other.reject one.accepts other.fails)
-same_answer once x of out out' status status' (inr one) (inl other) = absurd (once.accepted x of one.reject other.accepts one.fails)
-same_answer once x of out out' status status' (inr one) (inr other) =
-    (one.text ∙ ap (λ reject. line (reject_text reject)) (once.failure x of one.reject other.reject one.fails other.fails) ∙ sym other.text, one.refuted ∙ sym other.refuted)
+same_answer : OneCheck → (x : Expanded) (kind : Kind) (of : Log) (out out' : List ℕ) (status status' : Status) → SaysAccepted x kind of out status ⊎ SaysRejected x kind of out status → SaysAccepted x kind of out' status' ⊎ SaysRejected x kind of out' status' → IsOutput out status out' status'
+same_answer once x kind of out out' status status' (inl one) (inl other) =
+    (one.text ∙ ap (λ claim. line (claim_line claim)) (one.accepted.claim_is ∙ sym other.accepted.claim_is) ∙ sym other.text, one.done ∙ sym other.done)
+same_answer once x kind of out out' status status' (inl one) (inr other) = absurd (accepted_or_fails once x kind of other.reject one.accepted.accepts other.fails)
+same_answer once x kind of out out' status status' (inr one) (inl other) = absurd (accepted_or_fails once x kind of one.reject other.accepted.accepts one.fails)
+same_answer once x kind of out out' status status' (inr one) (inr other) =
+    (one.text ∙ ap (λ reject. line (reject_text reject)) (fails_once once x kind of one.reject other.reject one.fails other.fails) ∙ sym other.text, one.refuted ∙ sym other.refuted)
 
 -- and so on one part
 pub checked_once : OneCheck → (x : Expanded) (part out out' : List ℕ) (status status' : Status) → IsCheckAnswer x part out status → IsCheckAnswer x part out' status' → IsOutput out status out' status'
 checked_once once x part out out' status status' one other =
-    let same = (once.logs part Safety Safety other.log one.log other.read one.read).1 in
-    same_answer once x one.log out out' status status' one.answer (subst (λ of. SaysAccepted x of out' status' ⊎ SaysRejected x of out' status') same other.answer)
+    let same = once.logs part other.kind one.kind other.log one.log other.read one.read in
+    let as_one = subst (λ kind. SaysAccepted x kind other.log out' status' ⊎ SaysRejected x kind other.log out' status') same.0 other.answer in
+    same_answer once x one.kind one.log out out' status status' one.answer (subst (λ of. SaysAccepted x one.kind of out' status' ⊎ SaysRejected x one.kind of out' status') same.1 as_one)

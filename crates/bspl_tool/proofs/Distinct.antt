@@ -16,18 +16,17 @@ use Rattle.bspl_tool.specs.Parts.{protocol_text}
 use Rattle.bspl_tool.specs.Refusals.{HasPart, IsRead, LacksPart, Refuses, RefusesInput, RefusesText}
 use Rattle.bspl_tool.specs.Rejection.{lacks_part, rejection_line, text_rejection}
 use Rattle.bspl_tool.specs.Request.{HasCommandLine, Requests}
-use Rattle.bspl_tool.specs.Task.{Judged, is_determined, part_of, reads_input}
+use Rattle.bspl_tool.specs.Task.{IsDetermined, Judged, part_of, reads_input}
 use Rattle.bspl_tool.specs.Texts.{usage_text}
-use Rattle.bspl_tool.proofs.CheckLaws.{OneCheck}
 use Rattle.bspl_tool.proofs.OneRefusal.{OneReading, declared_once, declared_or_refused, one_refusal}
 use Rattle.bspl_tool.proofs.OneRequest.{declared_if_judged, one_name, one_task, task_or_unsupported}
-use Rattle.bspl_tool.proofs.TaskLaws.{OnePrinting, answered_once, laws_of}
+use Rattle.bspl_tool.proofs.TaskLaws.{OneEvidence, OnePrinting, answered_once, laws_of}
 
--- the command line, the reading and the check have one answer each
+-- the command line, the reading, and what is read of a part have one answer each
 pub record OneEach : Type 0 where
   pub line : OneLine
   pub reading : OneReading
-  pub check : OneCheck
+  pub evidence : OneEvidence
 
 -- the bytes of a part that was found
 part_bytes : Option (Part × List ℕ) → List ℕ
@@ -66,7 +65,7 @@ same_part_refusal : OneEach → (task : Task) (name input : List ℕ) (part byte
 same_part_refusal law task name input part bytes x y r s has has_too judged judged_too one other =
     let same = judged_once law.reading task name input y x judged_too judged in
     let bytes_same = one_part (part_of task) input bytes part has_too has in
-    (laws_of law.check task).one_refusal x part r s one (subst (λ z. IsPartRefused task z part s) same (subst (λ b. IsPartRefused task y b s) bytes_same other))
+    (laws_of law.evidence task).one_refusal x part r s one (subst (λ z. IsPartRefused task z part s) same (subst (λ b. IsPartRefused task y b s) bytes_same other))
 
 -- an input has one rejection
 one_input_rejection : OneEach → (task : Task) (name input : List ℕ) {r s : Rejection} → RefusesInput task name input r → RefusesInput task name input s → r ≡ s
@@ -114,7 +113,7 @@ answered_or_refused law task name input out status answered (RefusesInput.text b
 answered_or_refused law task name input out status answered (RefusesInput.part bytes y s has judged reason) =
     let same = judged_once law.reading task name input y answered.protocol judged answered.judged in
     let bytes_same = one_part (part_of task) input bytes answered.part has answered.has_part in
-    (laws_of law.check task).distinct answered.protocol answered.part out status s answered.answer (subst (λ z. IsPartRefused task z answered.part s) same (subst (λ b. IsPartRefused task y b s) bytes_same reason))
+    (laws_of law.evidence task).distinct answered.protocol answered.part out status s answered.answer (subst (λ z. IsPartRefused task z answered.part s) same (subst (λ b. IsPartRefused task y b s) bytes_same reason))
 
 -- nor are the arguments
 done_or_refused : OneEach → (args : List (List ℕ)) (bytes out : List ℕ) (status : Status) {r : Rejection} → IsDone args bytes out status → Refuses args bytes r → ⊥
@@ -152,15 +151,15 @@ pub refusal_law : OneEach → RefusalIsAll
 refusal_law law args bytes out r status refuses output = refusal_is_all law args bytes out r status refuses output
 
 -- two answers to a determined task are one
-same_answer : OneEach → OnePrinting → (task : Task) (name input out out' : List ℕ) (status status' : Status) → is_determined task ≡ true → AnswersInput task name input out status → AnswersInput task name input out' status' → IsOutput out status out' status'
+same_answer : OneEach → OnePrinting → (task : Task) (name input out out' : List ℕ) (status status' : Status) → IsDetermined task → AnswersInput task name input out status → AnswersInput task name input out' status' → IsOutput out status out' status'
 same_answer law printed task name input out out' status status' determined one other =
     let same = judged_once law.reading task name input other.protocol one.protocol other.judged one.judged in
     let bytes_same = one_part (part_of task) input other.part one.part other.has_part one.has_part in
-    answered_once law.check printed task one.protocol one.part out out' status status' determined one.answer
+    answered_once law.evidence printed task one.protocol one.part out out' status status' (declared_if_judged task name input one.protocol one.judged).admitted determined one.answer
     (subst (λ z. IsAnswer task z one.part out' status') same (subst (λ b. IsAnswer task other.protocol b out' status') bytes_same other.answer))
 
 -- two outputs of arguments that request a determined task are one
-one_output : OneEach → OnePrinting → (args : List (List ℕ)) (bytes : List ℕ) (task : Task) (name out out' : List ℕ) (status status' : Status) → Requests args task name → is_determined task ≡ true → Output args bytes out status → Output args bytes out' status' → IsOutput out status out' status'
+one_output : OneEach → OnePrinting → (args : List (List ℕ)) (bytes : List ℕ) (task : Task) (name out out' : List ℕ) (status status' : Status) → Requests args task name → IsDetermined task → Output args bytes out status → Output args bytes out' status' → IsOutput out status out' status'
 one_output law printed args bytes task name _ out' _ status' requests determined (usage none) other = absurd (none (requests.line, requests.is_line))
 one_output law printed args bytes task name _ out' _ status' requests determined (refused r refuses) other =
     let is = refusal_is_all law args bytes out' r status' refuses other in

@@ -2,6 +2,8 @@ pub mod Unbroken
 pub mod ClaimsNothing
 pub mod NameBytes
 pub mod PrintedLines
+pub mod FieldBytes
+pub mod EvidenceLines
 pub mod RejectedNames
 pub mod RejectionLines
 pub mod CommandLaws
@@ -9,6 +11,7 @@ pub mod ExpandLaws
 pub mod VerifyLaws
 pub mod CheckLaws
 pub mod CheckAnswers
+pub mod ReplayLaws
 pub mod TaskLaws
 pub mod OneRequest
 pub mod OneRefusal

@@ -7,7 +7,7 @@ use Rattle.std.proofs.lemmas.Bool.{and_parts, cases_Bool, eqb-true, false_from_n
 use Rattle.std.proofs.lemmas.List.Splits.{join_with_byte-slice_split}
 use Rattle.bspl_types.specs.Name.{begins_name, goes_on, is_group, is_grouped, is_name, is_name_rest, is_plain_name, is_positive_number, is_reserved}
 use Rattle.bspl_tool.specs.declared.claim.Claim.{Claim}
-use Rattle.bspl_tool.specs.declared.claim.Claim.TheVariants.{AcceptedSafety, SafetySafe}
+use Rattle.bspl_tool.specs.declared.claim.Claim.TheVariants.{AcceptedLiveness, AcceptedSafety, LivenessLive, SafetySafe}
 use Rattle.bspl_tool.specs.Claims.{all_claims, claim_line}
 use Rattle.bspl_tool.proofs.ClaimsNothing.{claims, starts, starts_rest}
 use Rattle.bspl_tool.proofs.Unbroken.{has_byte, has_lf, joined_has_none}
@@ -21,7 +21,7 @@ record IsOutside (c : ℕ) : Type 0 where
   no_dot : eqb 46 c ≡ false
 
 -- a byte that passes is not one that fails
-passes : (test : ℕ → Bool) (b c : ℕ) → test b ≡ true → test c ≡ false → eqb b c ≡ false
+pub passes : (test : ℕ → Bool) (b c : ℕ) → test b ≡ true → test c ≡ false → eqb b c ≡ false
 passes test b c one other =
     elim (cases_Bool (eqb b c)) [
       | inl is ↦ absurd (let same : test b ≡ test c = ap test (eqb-true b c is) in cc)
@@ -140,6 +140,8 @@ name_begins_none name x word rest b named whole other same =
 name_begins_no_claim : (claim : Claim) (name x rest : List ℕ) → IsTrue (is_name name) → name ++ 32 ∷ 123 ∷ x ≢ claim_line claim ++ rest
 name_begins_no_claim SafetySafe name x rest named = name_begins_none name x (codes "safety") (codes "afe" ++ rest) 115 named refl refl
 name_begins_no_claim AcceptedSafety name x rest named = name_begins_none name x (codes "accepted") (codes "afety" ++ rest) 115 named refl refl
+name_begins_no_claim LivenessLive name x rest named = name_begins_none name x (codes "liveness") (codes "ive" ++ rest) 108 named refl refl
+name_begins_no_claim AcceptedLiveness name x rest named = name_begins_none name x (codes "accepted") (codes "iveness" ++ rest) 108 named refl refl
 
 -- none of some claims
 begins_none : (some : List Claim) (name x : List ℕ) → IsTrue (is_name name) → list_any (λ said. starts said (name ++ 32 ∷ 123 ∷ x)) (map claim_line some) ≡ false

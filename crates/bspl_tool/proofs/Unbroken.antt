@@ -18,7 +18,7 @@ pub joined_has_none : (c : ℕ) (one other : List ℕ) → has_byte c one ≡ fa
 joined_has_none c one other none_in_one none_in_other = list_any-append (λ b. eqb b c) one other ∙ or_from (has_byte c one) (has_byte c other) none_in_one none_in_other
 
 -- the digit of a number is no LF
-digit_is_no_lf : (d : ℕ) → digit_glyph false d ≡ 10 → ⊥
+pub digit_is_no_lf : (d : ℕ) → digit_glyph false d ≡ 10 → ⊥
 digit_is_no_lf d = cond_both (ltb d 10) (48 + d) (87 + d) (λ g. g ≡ 10 → ⊥) (λ _ is. omega arith) (λ _ is. omega arith)
 
 -- so are all of them

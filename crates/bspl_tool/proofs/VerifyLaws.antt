@@ -1,21 +1,134 @@
 -- The laws of `verify`.
-use Rattle.std.proofs.Common.{Bool, sym, ◌∙◌, subst}
-use Rattle.bspl_tool.specs.Answer.{IsAnswer, IsPartRefused}
+use Rattle.std.proofs.Common.{ℕ, ◌⊎◌, Bool, true, false, [], ◌∷◌, take, length, codes, inl, inr, refl, sym, subst}
+use Rattle.std.specs.Fmt.{decimal}
+use Rattle.std.proofs.lemmas.Bool.{or_from}
+use Rattle.bspl_types.specs.declared.expanded.Expanded.{Expanded}
+use Rattle.enactment_model.specs.Liveness.{LiveProtocol}
+use Rattle.enactment_model.specs.Safety.{SafeProtocol}
+use Rattle.refutation_log.specs.declared.refutation.Kind.{Kind}
+use Rattle.refutation_log.specs.declared.refutation.Kind.TheVariants as kinds
+use Rattle.refutation_log.specs.declared.refutation.Log.{Log}
+use Rattle.refutation_log.specs.LogText.{line_of}
+use Rattle.report.specs.ReplayLines.{param_name}
+use Rattle.report.specs.VerdictText.{liveness_text, log_part, not_live_line, protocol_line, safety_text, undecided_line, unsafe_line, verdict_text}
+use Rattle.verdict.specs.declared.outcome.Liveness.{Liveness as LivenessVerdict}
+use Rattle.verdict.specs.declared.outcome.Liveness.TheVariants as liveness
+use Rattle.verdict.specs.declared.outcome.Safety.{Safety as SafetyVerdict}
+use Rattle.verdict.specs.declared.outcome.Safety.TheVariants.{Safe, Undecided, Unsafe}
+use Rattle.verdict.specs.declared.outcome.Verdicts.{Verdicts}
+use Rattle.verdict.specs.Right.{IsRight}
+use Rattle.verdict.specs.RightLiveness.{IsRightLiveness}
+use Rattle.verdict.specs.Verdicts.{AreRight}
 use Rattle.bspl_tool.specs.declared.request.Task.TheVariants.{Verify}
-use Rattle.bspl_tool.proofs.CommandLaws.{CommandLaws, CommandTexts, IsEnd, safe_claims}
-use Rattle.bspl_tool.proofs.RejectedNames.{HasNames}
+use Rattle.bspl_tool.specs.Answer.{IsAnswer, IsPartRefused}
+use Rattle.bspl_tool.specs.VerifyAnswer.{verdict_status}
+use Rattle.bspl_tool.proofs.ClaimsNothing.{Avoids, IsBlock, IsBlockWithout, block_joined, closed, joined_without, liveness_lines, no_lines, no_liveness, no_safety, safety_lines}
+use Rattle.bspl_tool.proofs.CommandLaws.{CommandLaws, CommandTexts, IsEnd, IsHonest, honest_if}
+use Rattle.bspl_tool.proofs.EvidenceLines.{log_is_block, param_has_no_lf, run_is_block}
+use Rattle.bspl_tool.proofs.FieldBytes.{fields_are_block}
+use Rattle.bspl_tool.proofs.NameBytes.{name_has_no_lf}
+use Rattle.bspl_tool.proofs.Unbroken.{decimal_has_no_lf, has_lf}
 
--- a verdict is on a safe protocol
-pub verify_texts : (brief : Bool) → CommandTexts (IsAnswer (Verify brief)) (IsPartRefused (Verify brief))
-verify_texts brief = record {
-  ends = λ x part out status answer. subst IsEnd (sym answer.done) tt;
-  honest = λ x part out status n answer. record { claimed = λ claim says. safe_claims x claim answer.safe };
-  names = λ x part r refused. subst HasNames (sym refused.refused) (record { first = tt; second = tt });
+-- the line of the protocol
+protocol_is_block : (x : Expanded) → IsBlock (protocol_line x)
+protocol_is_block x = fields_are_block (codes "protocol" ∷ x.name ∷ []) (or_from (has_lf x.name) false (name_has_no_lf x.name x.shape.named) refl) refl
+
+-- the line of an unsafe protocol
+unsafe_is_block : (x : Expanded) (param first second : ℕ) → IsBlock (unsafe_line x param first second)
+unsafe_is_block x param first second =
+    fields_are_block (codes "safety" ∷ codes "unsafe" ∷ param_name x param ∷ decimal first ∷ decimal second ∷ [])
+    (or_from (has_lf (param_name x param)) _ (param_has_no_lf x param) (or_from (has_lf (decimal first)) _ (decimal_has_no_lf first) (or_from (has_lf (decimal second)) false (decimal_has_no_lf second) refl))) refl
+
+-- the line of a protocol that is not live
+not_live_is_block : (x : Expanded) (param : ℕ) → IsBlock (not_live_line x param)
+not_live_is_block x param =
+    fields_are_block (codes "liveness" ∷ codes "not-live" ∷ param_name x param ∷ []) (or_from (has_lf (param_name x param)) false (param_has_no_lf x param) refl) refl
+
+-- the line of a spent budget on safety
+safety_undecided_is_block : (log : Log) → IsBlock (undecided_line (codes "safety") log)
+safety_undecided_is_block log =
+    fields_are_block (codes "safety" ∷ codes "undecided" ∷ decimal (length log.steps) ∷ []) (or_from (has_lf (decimal (length log.steps))) false (decimal_has_no_lf (length log.steps)) refl) refl
+
+-- and on liveness
+liveness_undecided_is_block : (log : Log) → IsBlock (undecided_line (codes "liveness") log)
+liveness_undecided_is_block log =
+    fields_are_block (codes "liveness" ∷ codes "undecided" ∷ decimal (length log.steps) ∷ []) (or_from (has_lf (decimal (length log.steps))) false (decimal_has_no_lf (length log.steps)) refl) refl
+
+-- the log, or nothing
+log_part_is_block : (kind : Kind) (brief : Bool) (log : Log) → IsBlock (log_part kind brief log)
+log_part_is_block kind true log = no_lines
+log_part_is_block kind false log = log_is_block kind log
+
+-- an answer on safety claims nothing, or it claims safety, which is true
+safety_claim : (brief : Bool) (budget : ℕ) (x : Expanded) (s : SafetyVerdict) → IsRight x budget s → SafeProtocol x ⊎ IsBlock (safety_text x brief s)
+safety_claim brief budget x (Safe log) right = inl right.safe
+safety_claim brief budget x (Unsafe run param first second) right = inr (block_joined (unsafe_is_block x param first second) (run_is_block x run))
+safety_claim brief budget x (Undecided log) right = inr (block_joined (safety_undecided_is_block log) (log_part_is_block kinds.Safety brief log))
+
+-- it claims no liveness
+safety_alone : (brief : Bool) (x : Expanded) (s : SafetyVerdict) → IsBlockWithout liveness_lines (safety_text x brief s)
+safety_alone brief x (Safe log) =
+    let line : IsBlockWithout liveness_lines (line_of (codes "safety" ∷ codes "safe" ∷ [])) = record { nothing = record { first = refl; later = refl }; whole = closed (codes "safety safe") refl } in
+    joined_without liveness_lines refl line (no_liveness (log_part_is_block kinds.Safety brief log))
+safety_alone brief x (Unsafe run param first second) = no_liveness (block_joined (unsafe_is_block x param first second) (run_is_block x run))
+safety_alone brief x (Undecided log) = no_liveness (block_joined (safety_undecided_is_block log) (log_part_is_block kinds.Safety brief log))
+
+-- so it is with an answer on liveness
+liveness_claim : (brief : Bool) (budget : ℕ) (x : Expanded) (l : LivenessVerdict) → IsRightLiveness x budget l → LiveProtocol x ⊎ IsBlock (liveness_text x brief l)
+liveness_claim brief budget x (liveness.Live log) right = inl right.live
+liveness_claim brief budget x (liveness.NotLive run param) right = inr (block_joined (not_live_is_block x param) (run_is_block x run))
+liveness_claim brief budget x (liveness.Undecided log) right = inr (block_joined (liveness_undecided_is_block log) (log_part_is_block kinds.Liveness brief log))
+
+-- it claims no safety
+liveness_alone : (brief : Bool) (x : Expanded) (l : LivenessVerdict) → IsBlockWithout safety_lines (liveness_text x brief l)
+liveness_alone brief x (liveness.Live log) =
+    let line : IsBlockWithout safety_lines (line_of (codes "liveness" ∷ codes "live" ∷ [])) = record { nothing = record { first = refl; later = refl }; whole = closed (codes "liveness live") refl } in
+    joined_without safety_lines refl line (no_safety (log_part_is_block kinds.Liveness brief log))
+liveness_alone brief x (liveness.NotLive run param) = no_safety (block_joined (not_live_is_block x param) (run_is_block x run))
+liveness_alone brief x (liveness.Undecided log) = no_safety (block_joined (liveness_undecided_is_block log) (log_part_is_block kinds.Liveness brief log))
+
+-- what the text claims of safety
+safety_part : (brief : Bool) (budget : ℕ) (x : Expanded) (v : Verdicts) → IsRight x budget v.safety → SafeProtocol x ⊎ Avoids safety_lines (verdict_text x v brief)
+safety_part brief budget x v right =
+    elim (safety_claim brief budget x v.safety right) [
+      | inl safe ↦ inl safe
+      | inr block ↦ inr (joined_without safety_lines refl (joined_without safety_lines refl (no_safety (protocol_is_block x)) (no_safety block)) (liveness_alone brief x v.liveness)).nothing
+    ]
+
+-- and of liveness
+liveness_part : (brief : Bool) (budget : ℕ) (x : Expanded) (v : Verdicts) → IsRightLiveness x budget v.liveness → LiveProtocol x ⊎ Avoids liveness_lines (verdict_text x v brief)
+liveness_part brief budget x v right =
+    elim (liveness_claim brief budget x v.liveness right) [
+      | inl live ↦ inl live
+      | inr block ↦ inr (joined_without liveness_lines refl (joined_without liveness_lines refl (no_liveness (protocol_is_block x)) (safety_alone brief x v.safety)) (no_liveness block)).nothing
+    ]
+
+-- each prefix of the text of right verdicts claims only what is true
+verdict_is_honest : (brief : Bool) (budget : ℕ) (x : Expanded) (v : Verdicts) (n : ℕ) → AreRight x budget v → IsHonest x (take n (verdict_text x v brief))
+verdict_is_honest brief budget x v n right =
+    honest_if x (verdict_text x v brief) n (safety_part brief budget x v right.safety) (liveness_part brief budget x v right.liveness)
+
+-- verdicts end in a status of their own
+verdict_ends : (s : SafetyVerdict) (l : LivenessVerdict) → IsEnd (verdict_status s l)
+verdict_ends (Unsafe run param first second) l = tt
+verdict_ends (Safe log) (liveness.NotLive run param) = tt
+verdict_ends (Safe log) (liveness.Undecided log') = tt
+verdict_ends (Safe log) (liveness.Live log') = tt
+verdict_ends (Undecided log) (liveness.NotLive run param) = tt
+verdict_ends (Undecided log) (liveness.Undecided log') = tt
+verdict_ends (Undecided log) (liveness.Live log') = tt
+
+-- what is said
+pub verify_texts : (brief : Bool) (budget : ℕ) → CommandTexts (IsAnswer (Verify brief budget)) (IsPartRefused (Verify brief budget))
+verify_texts brief budget = record {
+  ends = λ x part out status answer. subst IsEnd (sym answer.ends) (verdict_ends answer.verdicts.safety answer.verdicts.liveness);
+  honest = λ x part out status n answer. subst (λ text. IsHonest x (take n text)) (sym answer.text) (verdict_is_honest brief budget x answer.verdicts n answer.right);
+  names = λ x part r refused. absurd refused;
 }
 
--- and one with rival producers is refused
-pub verify_laws : (brief : Bool) → CommandLaws (IsAnswer (Verify brief)) (IsPartRefused (Verify brief))
-verify_laws brief = record {
-  distinct = λ x part out status r answer refused. refused.rivals answer.produced_once;
-  one_refusal = λ x part r s one other. one.refused ∙ sym other.refused;
+-- and no protocol is refused
+pub verify_laws : (brief : Bool) (budget : ℕ) → CommandLaws (IsAnswer (Verify brief budget)) (IsPartRefused (Verify brief budget))
+verify_laws brief budget = record {
+  distinct = λ x part out status r answer refused. refused;
+  one_refusal = λ x part r s one other. absurd one;
 }

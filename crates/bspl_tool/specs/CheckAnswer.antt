@@ -1,46 +1,70 @@
 -- What `check` answers on an admitted protocol and the text of a log.
 use Rattle.std.specs.Prelude.{◌≡◌, ◌⊎◌, ℕ, List, Some}
 use Rattle.bspl_types.specs.declared.expanded.Expanded.{Expanded}
-use Rattle.enactment_model.specs.Safety.{SafeProtocol}
 use Rattle.log_checker.specs.declared.refusal.Reject.{Reject}
+use Rattle.protocol_check.specs.Liveness.{AcceptsLiveness, FailsLiveness}
 use Rattle.protocol_check.specs.Safety.{AcceptsSafety, FailsSafety}
 use Rattle.refutation_log.specs.declared.refusal.LogRefusal.{LogRefusal}
+use Rattle.refutation_log.specs.declared.refutation.Kind.{Kind}
 use Rattle.refutation_log.specs.declared.refutation.Kind.TheVariants.{Liveness, Safety}
 use Rattle.refutation_log.specs.declared.refutation.Log.{Log}
 use Rattle.refutation_log.specs.LogText.{IsTextOf}
 use Rattle.refutation_log.specs.Refusal.{IsRefusedLog}
+use Rattle.bspl_tool.specs.declared.claim.Claim.{Claim}
+use Rattle.bspl_tool.specs.declared.claim.Claim.TheVariants.{AcceptedLiveness, AcceptedSafety}
 use Rattle.bspl_tool.specs.declared.rejection.Rejection.{Rejection}
 use Rattle.bspl_tool.specs.declared.status.Status.{Status}
 use Rattle.bspl_tool.specs.declared.status.Status.TheVariants.{Done, Refuted}
-use Rattle.bspl_tool.specs.Claims.{claim_line}
-use Rattle.bspl_tool.specs.declared.claim.Claim.TheVariants.{AcceptedSafety}
-use Rattle.bspl_tool.specs.Rejection.{log_rejection, not_built}
+use Rattle.bspl_tool.specs.Claims.{IsClaimTrue, claim_line}
+use Rattle.bspl_tool.specs.Rejection.{log_rejection}
 use Rattle.bspl_tool.specs.Texts.{line, reject_text}
 
--- the log is accepted, so that the protocol is safe, and the text says that
-pub record SaysAccepted (x : Expanded) (log : Log) (out : List ℕ) (status : Status) : Type 0 where
-  pub accepts : AcceptsSafety x log
-  pub safe : SafeProtocol x
-  pub text : out ≡ line (claim_line AcceptedSafety)
+-- the log derives the empty clause from the protocol's formula of its kind
+abbrev pub Accepts : Expanded → Kind → Log → Type 0
+Accepts x Safety log = AcceptsSafety x log
+Accepts x Liveness log = AcceptsLiveness x log
+
+-- it does not, and this is its first failure
+abbrev pub Fails : Expanded → Kind → Log → Reject → Type 0
+Fails x Safety log reject = FailsSafety x log reject
+Fails x Liveness log reject = FailsLiveness x log reject
+
+-- what an accepted log of the kind proves
+abbrev pub claim_of : Kind → Claim
+claim_of Safety = AcceptedSafety
+claim_of Liveness = AcceptedLiveness
+
+-- the log is accepted, so that the protocol has the property, and this claim says so
+pub record IsAccepted (x : Expanded) (kind : Kind) (log : Log) (claim : Claim) : Type 0 where
+  pub accepts : Accepts x kind log
+  pub claim_is : claim ≡ claim_of kind
+  pub claimed : IsClaimTrue claim x
+
+-- the text says that it is accepted
+pub record SaysAccepted (x : Expanded) (kind : Kind) (log : Log) (out : List ℕ) (status : Status)
+    : Type 0 where
+  pub claim : Claim
+  pub accepted : IsAccepted x kind log claim
+  pub text : out ≡ line (claim_line claim)
   pub done : status ≡ Done
 
 -- the log is not accepted, and the text names its first failure
-pub record SaysRejected (x : Expanded) (log : Log) (out : List ℕ) (status : Status) : Type 0 where
+pub record SaysRejected (x : Expanded) (kind : Kind) (log : Log) (out : List ℕ) (status : Status)
+    : Type 0 where
   pub reject : Reject
-  pub fails : FailsSafety x log reject
+  pub fails : Fails x kind log reject
   pub text : out ≡ line (reject_text reject)
   pub refuted : status ≡ Refuted
 
--- the part is the text of a log of safety, and the answer says whether it is accepted
+-- the part is the text of a log of a kind, and the answer says whether it is accepted
 pub record IsCheckAnswer (x : Expanded) (part out : List ℕ) (status : Status) : Type 0 where
+  pub kind : Kind
   pub log : Log
-  pub read : IsTextOf part Safety log
-  pub answer : SaysAccepted x log out status ⊎ SaysRejected x log out status
+  pub read : IsTextOf part kind log
+  pub answer : SaysAccepted x kind log out status ⊎ SaysRejected x kind log out status
 
--- why the part is not checked
-pub data IsCheckRefused (part : List ℕ) : Rejection → Type 0 where
-  -- it is the text of no log, and has a first bad line
-  misspelled : (refusal : LogRefusal) (r : Rejection) → IsRefusedLog part refusal
-      → log_rejection refusal ≡ Some r → IsCheckRefused part r
-  -- it is the text of a log of liveness, which is not supported
-  liveness : (log : Log) → IsTextOf part Liveness log → IsCheckRefused part not_built
+-- the part is the text of no log, and has a first bad line
+pub record IsCheckRefused (part : List ℕ) (rejection : Rejection) : Type 0 where
+  pub refusal : LogRefusal
+  pub refused : IsRefusedLog part refusal
+  pub rejection_is : log_rejection refusal ≡ Some rejection

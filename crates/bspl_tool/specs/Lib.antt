@@ -9,6 +9,7 @@ pub mod Answer
 pub mod ExpandAnswer
 pub mod CheckAnswer
 pub mod VerifyAnswer
+pub mod ReplayAnswer
 pub mod Input
 pub mod Parts
 pub mod Refusals

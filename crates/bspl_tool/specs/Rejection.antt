@@ -7,9 +7,11 @@ use Rattle.bspl_types.specs.declared.refusals.What.{What}
 use Rattle.bspl_types.specs.declared.refusals.What.TheVariants as what
 use Rattle.refutation_log.specs.declared.refusal.LogRefusal.{LogRefusal}
 use Rattle.refutation_log.specs.declared.refusal.LogRefusal.TheVariants as log
+use Rattle.run_text.specs.declared.refusal.RunRefusal.{RunRefusal}
+use Rattle.run_text.specs.declared.refusal.RunRefusal.TheVariants as run
 use Rattle.bspl_tool.specs.declared.parts.Part.{Part}
 use Rattle.bspl_tool.specs.declared.rejection.Code.{Code}
-use Rattle.bspl_tool.specs.declared.rejection.Code.TheVariants.{E, L, N, P}
+use Rattle.bspl_tool.specs.declared.rejection.Code.TheVariants.{E, L, N, P, W}
 use Rattle.bspl_tool.specs.declared.rejection.Field.{Field}
 use Rattle.bspl_tool.specs.declared.rejection.Field.TheVariants as field
 use Rattle.bspl_tool.specs.declared.rejection.Rejection.{Rejection}
@@ -23,6 +25,7 @@ abbrev pub code_text : Code → List ℕ
 code_text (P n) = codes "P" ++ decimal n
 code_text (E n) = codes "E" ++ decimal n
 code_text (L n) = codes "L" ++ decimal n
+code_text (W n) = codes "W" ++ decimal n
 code_text (N n) = codes "N" ++ decimal n
 
 -- the word for what is counted against a limit
@@ -106,3 +109,8 @@ abbrev pub log_rejection : LogRefusal → Option Rejection
 log_rejection (log.Form number) = Some (with_one (L 1) (field.Number number))
 log_rejection (log.Number number) = Some (with_one (L 2) (field.Number number))
 log_rejection log.NoMemory = None
+
+-- a refusal of a run's text, by its code: its first bad line
+abbrev pub run_rejection : RunRefusal → Option Rejection
+run_rejection (run.Form number) = Some (with_one (W 1) (field.Number number))
+run_rejection run.NoMemory = None

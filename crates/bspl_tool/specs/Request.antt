@@ -9,20 +9,20 @@ use Rattle.command_line.specs.Line.{IsCommandLine}
 use Rattle.bspl_tool.specs.declared.request.Request.{Request}
 use Rattle.bspl_tool.specs.declared.request.Request.TheVariants as request
 use Rattle.bspl_tool.specs.declared.request.Task.{Task}
-use Rattle.bspl_tool.specs.declared.request.Task.TheVariants.{Check, Expand, Verify}
+use Rattle.bspl_tool.specs.declared.request.Task.TheVariants.{Check, Expand, Replay, Verify}
 
 -- the arguments are some command line
 abbrev pub HasCommandLine : List (List ℕ) → Type 0
 HasCommandLine args = (line : CommandLine) × IsCommandLine args line
 
--- the task of a command, brief or not; none if the command is not supported
-abbrev pub task_of : Command → Bool → Option Task
-task_of command.Verify brief = Some (Verify brief)
-task_of command.Check brief = Some Check
-task_of command.Replay brief = None
-task_of command.Expand brief = Some Expand
-task_of command.Run brief = None
-task_of command.Generate brief = None
+-- the task of a command with its options, if the command is supported
+abbrev pub task_of : Command → Bool → ℕ → Option Task
+task_of command.Verify brief conflicts = Some (Verify brief conflicts)
+task_of command.Check brief conflicts = Some Check
+task_of command.Replay brief conflicts = Some Replay
+task_of command.Expand brief conflicts = Some Expand
+task_of command.Run brief conflicts = None
+task_of command.Generate brief conflicts = None
 
 -- the subject is the protocol of that name
 abbrev pub IsAbout : Subject → List ℕ → Type 0
@@ -33,14 +33,14 @@ IsAbout (Size n) name = ⊥
 pub record Requests (args : List (List ℕ)) (task : Task) (name : List ℕ) : Type 0 where
   pub line : CommandLine
   pub is_line : IsCommandLine args line
-  pub is_task : task_of line.command line.brief ≡ Some task
+  pub is_task : task_of line.command line.brief line.conflicts ≡ Some task
   pub about : IsAbout line.subject name
 
 -- the arguments are a command line of a command that is not supported
 pub record RequestsUnsupported (args : List (List ℕ)) : Type 0 where
   pub line : CommandLine
   pub is_line : IsCommandLine args line
-  pub unsupported : task_of line.command line.brief ≡ None
+  pub unsupported : task_of line.command line.brief line.conflicts ≡ None
 
 -- what the arguments request; if they are no command line, the usage line
 abbrev pub IsRequest : List (List ℕ) → Request → Type 0

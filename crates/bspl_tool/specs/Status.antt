@@ -1,12 +1,13 @@
 -- The statuses in which a call ends.
 use Rattle.std.specs.Prelude.{ℕ, Bool, true, false}
 use Rattle.bspl_tool.specs.declared.status.Status.{Status}
-use Rattle.bspl_tool.specs.declared.status.Status.TheVariants.{Done, Refuted, Usage, Refused, ReadFault, WriteFault, NoMemory}
+use Rattle.bspl_tool.specs.declared.status.Status.TheVariants.{Done, Refuted, Undecided, Usage, Refused, ReadFault, WriteFault, NoMemory}
 
--- the exit status of the program; 2 is for verdicts that are undecided
+-- the exit status of the program
 abbrev pub exit_status : Status → ℕ
 exit_status Done = 0
 exit_status Refuted = 1
+exit_status Undecided = 2
 exit_status Usage = 3
 exit_status Refused = 4
 exit_status ReadFault = 5

@@ -1,33 +1,49 @@
 -- What each command takes, and which protocol it judges.
-use Rattle.std.specs.Prelude.{ℕ, Bool, true, List, Option, None, Some}
+use Rattle.std.specs.Prelude.{ℕ, ◌≤◌, Bool, true, List, Option, None, Some}
 use Rattle.bspl_types.specs.declared.expanded.Expanded.{Expanded}
 use Rattle.bspl_tool.specs.declared.parts.Part.{Part}
-use Rattle.bspl_tool.specs.declared.parts.Part.TheVariants.{Log}
+use Rattle.bspl_tool.specs.declared.parts.Part.TheVariants.{Log, Run}
 use Rattle.bspl_tool.specs.declared.request.Task.{Task}
-use Rattle.bspl_tool.specs.declared.request.Task.TheVariants.{Check, Expand, Verify}
+use Rattle.bspl_tool.specs.declared.request.Task.TheVariants.{Check, Expand, Replay, Verify}
 use Rattle.bspl_tool.specs.Input.{Declares}
 use Rattle.bspl_tool.specs.Parts.{protocol_text}
 
 -- the part of the input that the command needs beside the protocol text
 abbrev pub part_of : Task → Option Part
 part_of Expand = None
-part_of (Verify brief) = None
+part_of (Verify brief conflicts) = None
 part_of Check = Some Log
+part_of Replay = Some Run
 
 -- the command reads the input
 abbrev pub reads_input : Task → Bool
 reads_input Expand = true
-reads_input (Verify brief) = true
+reads_input (Verify brief conflicts) = true
 reads_input Check = true
+reads_input Replay = true
 
 -- the protocol that the command judges: that of the name, as the input's protocol text declares it
 abbrev pub Judged : Task → List ℕ → List ℕ → Expanded → Type 0
 Judged Expand name bytes x = Declares name (protocol_text bytes) x
-Judged (Verify brief) name bytes x = Declares name (protocol_text bytes) x
+Judged (Verify brief conflicts) name bytes x = Declares name (protocol_text bytes) x
 Judged Check name bytes x = Declares name (protocol_text bytes) x
+Judged Replay name bytes x = Declares name (protocol_text bytes) x
 
--- the command has one right output at most on a protocol and a part
-abbrev pub is_determined : Task → Bool
-is_determined Expand = true
-is_determined (Verify brief) = true
-is_determined Check = true
+-- a number of conflicts that a command line may allow
+pub record IsBudget (conflicts : ℕ) : Type 0 where
+  pub least : 1 ≤ conflicts
+  pub most : conflicts ≤ 20000
+
+-- the command's number of conflicts is such a number, if it has one
+abbrev pub HasBudget : Task → Type 0
+HasBudget Expand = Unit {0}
+HasBudget (Verify brief conflicts) = IsBudget conflicts
+HasBudget Check = Unit {0}
+HasBudget Replay = Unit {0}
+
+-- the command has one right output at most: all but `verify`, which may give one evidence or another
+abbrev pub IsDetermined : Task → Type 0
+IsDetermined Expand = Unit {0}
+IsDetermined (Verify brief conflicts) = ⊥
+IsDetermined Check = Unit {0}
+IsDetermined Replay = Unit {0}

@@ -4,6 +4,7 @@ ghost use Rattle.bspl_types.specs.Limits.{input_limit};
 ghost use Rattle.bspl_tool.specs.Answer.{IsAnswer, IsPartRefused};
 ghost use Rattle.bspl_tool.specs.Output.{AnswersInput};
 ghost use Rattle.bspl_tool.specs.Refusals.{RefusesInput};
+ghost use Rattle.bspl_tool.specs.Task.{HasBudget};
 ghost use Rattle.bspl_tool.specs.inner.Error.{HasFailed, RejectsFor};
 ghost use Rattle.bspl_tool.specs.inner.Reply.{IsAborted, IsCause, IsReply};
 
@@ -15,6 +16,7 @@ use super::input_protocol::protocol_of;
 use super::limits::INPUT_LIMIT;
 use super::refusal::InputRefusal;
 use super::rejection_text::rejection_line;
+use super::replay_command::replay;
 use super::reply::Reply;
 use super::request::{Request, Task, read_request};
 use super::status::Status;
@@ -32,21 +34,24 @@ fn answer_task(
     protocol: &Admitted,
     part: &[u8],
 ) -> Result<Reply, AnswerError>
-    requires { length part.now ≤ input_limit }
+    requires few { length part.now ≤ input_limit }
+    requires budget { HasBudget task }
     ensures ok { IfOk result (λ reply.
         IsAnswer task protocol.now part.now reply.text reply.status) }
     ensures refused { IfErr result (RejectsFor (IsPartRefused task protocol.now part.now)) }
 {
     match task {
         Task::Expand => Ok(expand(alloc, protocol)?),
-        Task::Verify { brief } => verify(alloc, brief, protocol),
+        Task::Verify { brief, conflicts } => Ok(verify(alloc, brief, conflicts, protocol)?),
         Task::Check => check(alloc, protocol, part),
+        Task::Replay => replay(alloc, protocol, part),
     }
 }
 
 /// Answers the task on an input that was read.
 fn answer_input(alloc: Global, task: Task, name: &[u8], input: &[u8]) -> Result<Reply, AnswerError>
-    requires { length input.now ≤ input_limit }
+    requires few { length input.now ≤ input_limit }
+    requires budget { HasBudget task }
     ensures ok { IfOk result (λ reply.
         AnswersInput task name.now input.now reply.text reply.status) }
     ensures refused { IfErr result (RejectsFor (RefusesInput task name.now input.now)) }

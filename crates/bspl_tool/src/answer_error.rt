@@ -4,10 +4,11 @@ ghost use Rattle.bspl_tool.specs.inner.Error.{error_for, read_error};
 
 use super::limits::INPUT_LIMIT;
 use super::refusal::InputRefusal;
-use super::rejection::{Rejection, input_rejection, log_rejection, text_rejection};
+use super::rejection::{Rejection, input_rejection, log_rejection, run_rejection, text_rejection};
 use bspl_io::ReadRefusal;
 use bspl_types::{NoMemory, Refusal};
 use refutation_log::LogRefusal;
+use run_text::RunRefusal;
 
 /// Why nothing is to be written.
 #[derive(Clone, Copy, Debug, PartialEq, Eq)]
@@ -107,5 +108,17 @@ impl From<LogRefusal> for AnswerError {
 
     fn from(refusal: LogRefusal) -> AnswerError {
         error_for(log_rejection(refusal))
+    }
+}
+
+impl From<RunRefusal> for AnswerError {
+    ghost use Rattle.std.specs.Prelude.{◌≡◌};
+    ghost use Rattle.bspl_tool.specs.Rejection.{run_rejection};
+    ghost use Rattle.bspl_tool.specs.inner.Error.{error_for};
+
+    ghost from_gives = { λ refusal error. error ≡ error_for (run_rejection refusal) };
+
+    fn from(refusal: RunRefusal) -> AnswerError {
+        error_for(run_rejection(refusal))
     }
 }

@@ -29,7 +29,8 @@ pub fn bspl<R: Source, W: Sink>(
       writes_after = W.faults output.new;
     }) result }
 
-    // The headline: `safety safe` is written only of a protocol that is safe in every legal run.
+    // The headline: `safety safe` is written only of a protocol that is safe in every legal run,
+    // `liveness live` only of one that binds what is public wherever a legal run is quiet.
     ensures headline { TrueWhereSaid (map string_bytes args.now) (record {
       remaining = R.remaining input.old;
       remaining_after = R.remaining input.new;

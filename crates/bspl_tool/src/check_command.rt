@@ -1,22 +1,21 @@
-ghost use Rattle.std.specs.Prelude.{◌≤◌, IfErr, IfOk, length};
+ghost use Rattle.std.specs.Prelude.{◌≡◌, ◌≢◌, ◌≤◌, IfErr, IfOk, length};
 ghost use Rattle.bspl_types.specs.Limits.{input_limit};
-ghost use Rattle.bspl_tool.specs.CheckAnswer.{IsCheckAnswer, IsCheckRefused};
+ghost use Rattle.bspl_tool.specs.CheckAnswer.{Fails, IsAccepted, IsCheckAnswer, IsCheckRefused};
 ghost use Rattle.bspl_tool.specs.inner.Error.{RejectsFor};
 
 use super::answer_error::{Aborted, AnswerError};
 use super::claim::Claim;
-use super::refusal::InputRefusal;
 use super::reply::Reply;
 use super::status::Status;
 use super::texts::{claim_text, reject_text};
 use bspl_types::Admitted;
-use clause_encoding::safety_clauses_are_few;
+use clause_encoding::{liveness_clauses_are_few, safety_clauses_are_few};
 use log_checker::Reject;
-use protocol_check::check_safety;
-use refutation_log::{Kind, read_log, steps_are_fewer_than_bytes};
+use protocol_check::{check_liveness, check_safety};
+use refutation_log::{Kind, Log, read_log, steps_are_fewer_than_bytes};
 use std::alloc::Global;
 
-/// Answers `check` on the text of a log. Logs of liveness are not supported.
+/// Answers `check` on the text of a log.
 pub fn check(alloc: Global, protocol: &Admitted, part: &[u8]) -> Result<Reply, AnswerError>
     requires { length part.now ≤ input_limit }
     ensures ok { IfOk result (λ reply.
@@ -25,21 +24,39 @@ pub fn check(alloc: Global, protocol: &Admitted, part: &[u8]) -> Result<Reply, A
 {
     // law: a log has no more steps than its text has bytes
     steps_are_fewer_than_bytes();
-    // law: a safety formula has few clauses
-    safety_clauses_are_few();
     let (kind, log) = read_log(alloc, part)?;
-    if kind == Kind::Liveness {
-        return Err(AnswerError::from(InputRefusal::NotBuilt));
-    }
-    match check_safety(alloc, protocol, &log) {
-        Ok(()) => Ok(Reply {
+    match claim_of(alloc, protocol, kind, &log) {
+        Ok(claim) => Ok(Reply {
             status: Status::Done,
-            text: claim_text(alloc, Claim::AcceptedSafety)?,
+            text: claim_text(alloc, claim)?,
         }),
         Err(Reject::NoMemory) => Err(AnswerError::Aborted(Aborted::NoMemory)),
         Err(reject) => Ok(Reply {
             status: Status::Refuted,
             text: reject_text(alloc, reject)?,
         }),
+    }
+}
+
+/// What the log proves, checked against the protocol's formula of its kind, or its first failure.
+fn claim_of(alloc: Global, protocol: &Admitted, kind: Kind, log: &Log) -> Result<Claim, Reject>
+    requires { length log.now.steps ≤ input_limit }
+    ensures accepted { IfOk result (IsAccepted protocol.now kind log.now) }
+    ensures rejected { result ≢ Err Reject.NoMemory →
+        IfErr result (Fails protocol.now kind log.now) }
+{
+    // law: a safety formula has few clauses
+    safety_clauses_are_few();
+    // law: so has a liveness formula
+    liveness_clauses_are_few();
+    match kind {
+        Kind::Safety => {
+            check_safety(alloc, protocol, log)?;
+            Ok(Claim::AcceptedSafety)
+        }
+        Kind::Liveness => {
+            check_liveness(alloc, protocol, log)?;
+            Ok(Claim::AcceptedLiveness)
+        }
     }
 }

@@ -8,6 +8,10 @@ pub enum Claim {
     SafetySafe,
     /// A log of safety was accepted, so the protocol is safe.
     AcceptedSafety,
+    /// A verdict: the protocol is live.
+    LivenessLive,
+    /// A log of liveness was accepted, so the protocol is live.
+    AcceptedLiveness,
 }
 
 impl Claim {
@@ -18,6 +22,8 @@ impl Claim {
         match self {
             Claim::SafetySafe => b"safety safe",
             Claim::AcceptedSafety => b"accepted safety",
+            Claim::LivenessLive => b"liveness live",
+            Claim::AcceptedLiveness => b"accepted liveness",
         }
     }
 }

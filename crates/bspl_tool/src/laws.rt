@@ -1,4 +1,5 @@
-ghost use Rattle.bspl_tool.specs.Laws.{OneAnswer, OneRejection, RefusalIsAll, UsageIsAll};
+ghost use Rattle.bspl_tool.specs.Laws.{DeclaredIsNotRefused, OneAnswer, OneDeclaration};
+ghost use Rattle.bspl_tool.specs.Laws.{OneRejection, OneTextRefusal, RefusalIsAll, UsageIsAll};
 
 /// A law: arguments that are no command line get the usage line alone, there is one reason at most
 /// to refuse arguments and an input, and what is refused is not answered.
@@ -19,9 +20,30 @@ pub fn answers_are_distinct()
     refutation_log::reads_once();
     // law: a log is accepted or has one first failure
     protocol_check::safety_fails_once();
+    protocol_check::liveness_fails_once();
+    // law: a text is that of one run at most, or has one first bad line
+    run_text::reads_once();
+    // law: a run has one report
+    report::replay_is_once();
 }
 
-/// A law: a task that is determined has one output and one status at most.
+/// A law: a protocol text declares one protocol at most for a name, or is refused for one reason.
+pub fn texts_are_judged_once()
+    ensures declaration { OneDeclaration }
+    ensures refusal { OneTextRefusal }
+    ensures exclusive { DeclaredIsNotRefused }
+{
+    // law: a text spells one document at most, or has one first error
+    bspl_parser::answers_once();
+    // law: a name has one expansion in a document at most, or is refused for one reason
+    protocol_expand::answers_once();
+    // law: an expansion is refused for one reason at most, and for none if it is admitted
+    adornment_check::refuses_once();
+}
+
+/// A law: `check`, `replay` and `expand` have one output and one status at most. `verify` may have
+/// several: the search may find another run, log or number of steps, and the answer with it is
+/// right too.
 pub fn one_answer()
     ensures { OneAnswer }
 {
@@ -31,6 +53,9 @@ pub fn one_answer()
     adornment_check::refuses_once();
     refutation_log::reads_once();
     protocol_check::safety_fails_once();
+    protocol_check::liveness_fails_once();
+    run_text::reads_once();
+    report::replay_is_once();
     // law: an expansion has one text
     protocol_expand::prints_once();
 }

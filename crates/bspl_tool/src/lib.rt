@@ -15,6 +15,7 @@ mod parts;
 mod refusal;
 mod rejection;
 mod rejection_text;
+mod replay_command;
 mod reply;
 mod request;
 mod status;
@@ -24,11 +25,13 @@ mod verify_command;
 pub use call::bspl;
 pub use claim::Claim;
 pub use input_protocol::protocol_of;
-pub use laws::{answers_are_distinct, one_answer};
+pub use laws::{answers_are_distinct, one_answer, texts_are_judged_once};
 pub use limits::{INPUT_LIMIT, TEXT_LIMIT};
 pub use parts::Part;
 pub use refusal::InputRefusal;
-pub use rejection::{Code, Field, Rejection, input_rejection, log_rejection, text_rejection};
+pub use rejection::{
+    Code, Field, Rejection, input_rejection, log_rejection, run_rejection, text_rejection,
+};
 pub use rejection_text::rejection_line;
 pub use request::Task;
 pub use status::Status;

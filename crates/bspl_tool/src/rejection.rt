@@ -1,13 +1,14 @@
 ghost use Rattle.std.specs.Prelude.{◌≡◌};
 ghost use Rattle.bspl_tool.specs.declared.rejection.Code.TheVariants.{E, L};
 ghost use Rattle.bspl_tool.specs.declared.rejection.Field.TheVariants as field;
-ghost use Rattle.bspl_tool.specs.Rejection.{bare, input_rejection, log_rejection, text_rejection};
-ghost use Rattle.bspl_tool.specs.Rejection.{with_one, with_two};
+ghost use Rattle.bspl_tool.specs.Rejection.{bare, input_rejection, log_rejection, run_rejection};
+ghost use Rattle.bspl_tool.specs.Rejection.{text_rejection, with_one, with_two};
 
 use super::parts::Part;
 use super::refusal::InputRefusal;
 use bspl_types::{Name, Refusal, What};
 use refutation_log::LogRefusal;
+use run_text::RunRefusal;
 
 /// The code of a rejection: a letter and a number.
 #[derive(Clone, Copy, Debug, PartialEq, Eq)]
@@ -18,6 +19,8 @@ pub enum Code {
     E(u8),
     /// The text of a log.
     L(u8),
+    /// The text of a run.
+    W(u8),
     /// What is not supported.
     N(u8),
 }
@@ -148,5 +151,15 @@ pub fn log_rejection(refusal: LogRefusal) -> Option<Rejection>
             Some(Rejection::with_one(Code::L(2), Field::Number(line)))
         }
         LogRefusal::NoMemory => None,
+    }
+}
+
+/// The rejection of a run's text, unless memory ran out.
+pub fn run_rejection(refusal: RunRefusal) -> Option<Rejection>
+    ensures { result ≡ run_rejection refusal }
+{
+    match refusal {
+        RunRefusal::Form { line } => Some(Rejection::with_one(Code::W(1), Field::Number(line))),
+        RunRefusal::NoMemory => None,
     }
 }

@@ -13,10 +13,12 @@ use std::alloc::Global;
 pub enum Task {
     /// Its expansion is printed.
     Expand,
-    /// It is verified. A brief verdict has no log.
-    Verify { brief: bool },
-    /// A log is checked against its safety formula.
+    /// It is verified, with at most these conflicts for each verdict. A brief verdict has no log.
+    Verify { brief: bool, conflicts: u32 },
+    /// A log is checked against its safety or its liveness formula.
     Check,
+    /// A run of it is replayed.
+    Replay,
 }
 
 /// What the arguments request.
@@ -38,6 +40,7 @@ impl Task {
         match self {
             Task::Expand | Task::Verify { .. } => None,
             Task::Check => Some(Part::Log),
+            Task::Replay => Some(Part::Run),
         }
     }
 }
@@ -61,8 +64,12 @@ fn request_of(line: CommandLine<'_>) -> Request<'_>
     };
     let task = match line.command {
         Command::Expand => Task::Expand,
-        Command::Verify => Task::Verify { brief: line.brief },
+        Command::Verify => Task::Verify {
+            brief: line.brief,
+            conflicts: line.conflicts,
+        },
         Command::Check => Task::Check,
+        Command::Replay => Task::Replay,
         _ => return Request::Unsupported,
     };
     Request::Do { task, name }

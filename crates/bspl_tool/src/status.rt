@@ -6,8 +6,10 @@ ghost use Rattle.bspl_tool.specs.Status.{exit_status};
 pub enum Status {
     /// The protocol has what was asked for.
     Done,
-    /// The protocol, or the log, does not have what was asked for.
+    /// The protocol, the log or the run does not have what was asked for.
     Refuted,
+    /// The search came to its budget before it found an answer.
+    Undecided,
     /// The arguments are no command line.
     Usage,
     /// The input was refused with a code.
@@ -28,6 +30,7 @@ impl Status {
         match self {
             Status::Done => 0,
             Status::Refuted => 1,
+            Status::Undecided => 2,
             Status::Usage => 3,
             Status::Refused => 4,
             Status::ReadFault => 5,

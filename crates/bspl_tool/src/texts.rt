@@ -1,6 +1,6 @@
 ghost use Rattle.std.specs.Prelude.{◌≡◌, ◌≢◌, IfOk};
 ghost use Rattle.bspl_tool.specs.Claims.{claim_line};
-ghost use Rattle.bspl_tool.specs.Texts.{line, reject_text, safe_text, usage_text};
+ghost use Rattle.bspl_tool.specs.Texts.{line, reject_text, usage_text};
 
 use super::claim::Claim;
 use bspl_types::{Bytes, NoMemory};
@@ -13,21 +13,6 @@ pub fn usage_text(alloc: Global) -> Result<Bytes, NoMemory>
 {
     let line = b"usage: bspl COMMAND NAME [--brief] [--conflicts N] [--threads N]\n";
     Bytes::from_slice(alloc, line)
-}
-
-/// The verdict on a protocol whose parameters have single producers.
-pub fn safe_text(alloc: Global, brief: bool, name: &[u8]) -> Result<Bytes, NoMemory>
-    ensures { IfOk result (λ text. text ≡ safe_text brief name.now) }
-{
-    let mut text = Bytes::from_slice(alloc, b"protocol ")?;
-    text.append(name)?;
-    text.push(b'\n')?;
-    text.append(Claim::SafetySafe.line())?;
-    text.push(b'\n')?;
-    if !brief {
-        text.append(b"log 1 safety\nend\n")?;
-    }
-    Ok(text)
 }
 
 /// The line of a claim.

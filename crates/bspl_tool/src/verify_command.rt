@@ -1,28 +1,42 @@
-ghost use Rattle.std.specs.Prelude.{IfErr, IfOk};
-ghost use Rattle.bspl_tool.specs.VerifyAnswer.{IsVerifyAnswer, IsVerifyRefused};
-ghost use Rattle.bspl_tool.specs.inner.Error.{RejectsFor};
+ghost use Rattle.std.specs.Prelude.{◌≡◌, IfOk};
+ghost use Rattle.bspl_tool.specs.Task.{IsBudget};
+ghost use Rattle.bspl_tool.specs.VerifyAnswer.{IsVerifyAnswer, verdict_status};
 
-use super::answer_error::AnswerError;
-use super::refusal::InputRefusal;
 use super::reply::Reply;
 use super::status::Status;
-use super::texts::safe_text;
-use bspl_types::Admitted;
-use enactment_model::single_producer;
+use bspl_types::{Admitted, NoMemory};
+use report::{right_runs_fit, verdict_text};
 use std::alloc::Global;
+use verdict::{Liveness, Safety, Verdicts};
 
-/// Answers `verify`. Rival producers are not supported.
-pub fn verify(alloc: Global, brief: bool, protocol: &Admitted) -> Result<Reply, AnswerError>
-    ensures ok { IfOk result (λ reply. IsVerifyAnswer brief protocol.now reply.text reply.status) }
-    ensures refused { IfErr result (RejectsFor (IsVerifyRefused protocol.now)) }
+/// Answers `verify`, with no more than `conflicts` conflicts in the search.
+pub fn verify(
+    alloc: Global,
+    brief: bool,
+    conflicts: u32,
+    protocol: &Admitted,
+) -> Result<Reply, NoMemory>
+    requires { IsBudget conflicts }
+    ensures { IfOk result (λ reply.
+        IsVerifyAnswer brief conflicts protocol.now reply.text reply.status) }
 {
-    let expanded = protocol.expanded();
-    let safe = single_producer(expanded);
-    if !safe {
-        return Err(AnswerError::from(InputRefusal::NotBuilt));
-    }
+    // law: the runs of right verdicts fit the protocol
+    right_runs_fit();
+    let verdicts = verdict::verify(alloc, protocol, conflicts)?;
+    let text = verdict_text(alloc, protocol, &verdicts, brief)?;
     Ok(Reply {
-        status: Status::Done,
-        text: safe_text(alloc, brief, expanded.name.as_slice())?,
+        status: verdict_status(&verdicts),
+        text,
     })
+}
+
+/// The status of both verdicts.
+fn verdict_status(verdicts: &Verdicts) -> Status
+    ensures { result ≡ verdict_status verdicts.now.safety verdicts.now.liveness }
+{
+    match (&verdicts.safety, &verdicts.liveness) {
+        (Safety::Unsafe { .. }, _) | (_, Liveness::NotLive { .. }) => Status::Refuted,
+        (Safety::Undecided(_), _) | (_, Liveness::Undecided(_)) => Status::Undecided,
+        (Safety::Safe(_), Liveness::Live(_)) => Status::Done,
+    }
 }

@@ -17,11 +17,21 @@ returns c =
         unadmitted = c.refuses_once.ensures.refusals;
         admitted = c.refuses_once.ensures.exclusive;
       };
-      check = record {
-        logs = c.reads_once.ensures.logs;
-        refusals = c.reads_once.ensures.refusals;
-        exclusive = c.reads_once.ensures.exclusive;
-        failure = c.safety_fails_once.ensures.failure;
-        accepted = c.safety_fails_once.ensures.accepted;
+      evidence = record {
+        check = record {
+          logs = c.reads_once.ensures.logs;
+          refusals = c.reads_once.ensures.refusals;
+          exclusive = c.reads_once.ensures.exclusive;
+          safety = c.safety_fails_once.ensures.failure;
+          safe = c.safety_fails_once.ensures.accepted;
+          liveness = c.liveness_fails_once.ensures.failure;
+          live = c.liveness_fails_once.ensures.accepted;
+        };
+        replay = record {
+          runs = c.reads_once-2.ensures.runs;
+          refusals = c.reads_once-2.ensures.refusals;
+          exclusive = c.reads_once-2.ensures.exclusive;
+          reports = c.replay_is_once.ensures;
+        };
       };
     } in record { usage = usage_law; rejection = rejection_law each; refused = refusal_law each }
