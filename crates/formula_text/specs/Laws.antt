@@ -1,0 +1,28 @@
+-- The text is read as the formula, its legend names each variable once, and it is the only one.
+use Rattle.std.specs.Prelude.{◌≡◌, ℕ, List, map}
+use Rattle.std.specs.List.{range_with_len}
+use Rattle.bspl_types.specs.declared.expanded.Expanded.{Expanded}
+use Rattle.clause_core.specs.declared.formula.Formula.{Formula}
+use Rattle.dimacs.specs.Dimacs.{IsDimacs}
+use Rattle.formula_text.specs.declared.property.Property.{Property}
+use Rattle.formula_text.specs.Property.{IsFormula}
+use Rattle.formula_text.specs.FormulaText.{IsFormulaText, text_of}
+use Rattle.formula_text.specs.Legend.{legend}
+
+-- the text is in DIMACS form: a header and exactly the clauses of the formula
+abbrev pub ReadsBack : Type 0
+ReadsBack =
+    (property : Property) (x : Expanded) (f : Formula) → IsFormula property x f →
+    IsDimacs (text_of property x f) f.vars f.clauses
+
+-- the variables of the legend are those from 1 to the formula's last, in order
+abbrev pub NamesEachVariable : Type 0
+NamesEachVariable =
+    (property : Property) (x : Expanded) (f : Formula) → IsFormula property x f →
+    map (λ (variable, words). variable) (legend property x) ≡ range_with_len 1 f.vars
+
+-- a protocol has one text
+abbrev pub OneText : Type 0
+OneText =
+    (property : Property) (x : Expanded) (a b : List ℕ) → IsFormulaText property x a →
+    IsFormulaText property x b → a ≡ b
