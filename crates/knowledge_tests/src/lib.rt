@@ -1,8 +1,10 @@
-//! Tests of what a role knows and may emit, and of what is decided over runs.
+//! Tests of what a role knows and may emit, and of what is decided over runs and by logs.
 #![tactic(auto)]
 
 #[cfg(test)]
 mod knowledge_tests;
+#[cfg(test)]
+mod liveness_tests;
 #[cfg(test)]
 mod rows;
 #[cfg(test)]

@@ -4,50 +4,6 @@ use bspl_types::{Bytes, NoMemory};
 use std::alloc::Global;
 use std::test::Fail;
 
-const TOP: &[u8] = b"Top { roles A, B parameters out ID key, out x, out y A -> B: start[out ID] \
-    P(A, B, in ID, out x) P(B, A, in ID, out y) } \
-    P { roles S, R parameters in ID key, out v private t S -> R: m[in ID, out v, out t] }";
-
-const TOP_EXPANDED: &[u8] = b"Top {
-  roles A, B
-  parameters out ID key, out x, out y
-  private P#2.t, P#3.t
-  A -> B: start[out ID]
-  A -> B: P#2.m[in ID, out x, out P#2.t]
-  B -> A: P#3.m[in ID, out y, out P#3.t]
-}
-";
-
-const NESTED: &[u8] = b"T { role A, B parameters out ID key private w Q(B, A, in ID, out w) \
-    A -> B: last[nil w, in ID] } \
-    Q { roles R, S parameters in K key, out v private u S -> R: m[in K key, out u] U(S, R, in K, out v) } \
-    U { roles X, Y parameters in k key, out z private t, u Y -> X: n[in k key, out z, out t, nil u] }";
-
-const NESTED_EXPANDED: &[u8] = b"T {
-  roles A, B
-  parameters out ID key
-  private w, Q#1.u, Q#1.U#2.t, Q#1.U#2.u
-  A -> B: Q#1.m[in ID, out Q#1.u]
-  B -> A: Q#1.U#2.n[in ID, out w, out Q#1.U#2.t, nil Q#1.U#2.u]
-  A -> B: last[nil w, in ID]
-}
-";
-
-#[test]
-fn prints_expansions(rt: HostRuntime) -> Result<(), Fail> {
-    let alloc = rt.alloc();
-    let rows = [
-        ("expand Top", TOP, TOP_EXPANDED),
-        ("expand Top", TOP_EXPANDED, TOP_EXPANDED),
-        ("expand T", NESTED, NESTED_EXPANDED),
-        ("expand -- T", NESTED_EXPANDED, NESTED_EXPANDED),
-    ];
-    for (args, text, wanted) in rows {
-        assert!(rt; answers(alloc, args, text, wanted, Status::Done)?, "{args}");
-    }
-    Ok(())
-}
-
 /// Appends both parts once for each number, which comes between them.
 fn repeated(
     alloc: Global,

@@ -6,18 +6,18 @@ mod argument_tests;
 #[cfg(test)]
 mod call_tests;
 #[cfg(test)]
-mod check_tests;
-#[cfg(test)]
 mod expansion_tests;
+#[cfg(test)]
+mod formula_tests;
 #[cfg(test)]
 mod option_tests;
 #[cfg(test)]
 mod program_args_tests;
 #[cfg(test)]
-mod refusal_tests;
-#[cfg(test)]
-mod refused_texts;
+mod protocol_texts;
 #[cfg(test)]
 mod rejection_tests;
 #[cfg(test)]
 mod text_tests;
+#[cfg(test)]
+mod verdict_tests;

@@ -1,0 +1,49 @@
+use super::knowledge_tests::assemble;
+use super::rows::{OUT, Protocol};
+use adornment_check::admit;
+use bspl_types::Admitted;
+use clause_encoding::liveness_clauses_are_few;
+use log_checker::Reject;
+use protocol_check::check_liveness;
+use refutation_log::read_log;
+use std::alloc::Global;
+use std::test::Fail;
+
+/// A (0) produces the key and sends it to B (1).
+const PING: Protocol = (1, 1, &[b"ID"], &[(b"ping", 0, 1, &[(0, OUT)])]);
+
+/// The answer for the text of a short log.
+fn answer(alloc: Global, protocol: &Admitted, text: &[u8]) -> Option<Result<(), Reject>> {
+    // law: a liveness formula has few clauses
+    liveness_clauses_are_few();
+    let (_, log) = read_log(alloc, text).ok()?;
+    if log.steps.len() < 100 {
+        Some(check_liveness(alloc, protocol, &log))
+    } else {
+        None
+    }
+}
+
+/// Clauses 5 to 7 of the formula of Ping say that it is sent, that a message that is sent binds the
+/// key, and that the key is unbound.
+#[test]
+fn logs_of_the_liveness_of_ping(rt: HostRuntime) -> Result<(), Fail> {
+    let alloc = rt.alloc();
+    let x = assemble(alloc, PING)?.ok_or("the protocol is not well formed")?;
+    let ping = admit(x).ok().ok_or("the protocol is not admitted")?;
+    for (text, wanted) in [
+        (b"log 1 liveness\nstep 5 1 6 -3 7\nend\n".as_slice(), Ok(())),
+        (
+            b"log 1 liveness\nstep 5 1 6 3 7\nend\n",
+            Err(Reject::NoPivot { step: 1, link: 2 }),
+        ),
+        (
+            b"log 1 liveness\nstep 9\nend\n",
+            Err(Reject::NoClause { step: 1 }),
+        ),
+        (b"log 1 liveness\nend\n", Err(Reject::NotEmpty)),
+    ] {
+        assert_eq!(rt; answer(alloc, &ping, text), Some(wanted));
+    }
+    Ok(())
+}
