@@ -41,7 +41,7 @@ HasBudget (Verify brief conflicts) = IsBudget conflicts
 HasBudget Check = Unit {0}
 HasBudget Replay = Unit {0}
 
--- the command has one right output at most: all but `verify`, which may give one evidence or another
+-- the command has one right output at most: all but `verify`, whose evidence may be another
 abbrev pub IsDetermined : Task → Type 0
 IsDetermined Expand = Unit {0}
 IsDetermined (Verify brief conflicts) = ⊥
