@@ -30,8 +30,8 @@ one_name args name other property another one too =
 -- two words are the same for one property alone
 one_word : (property another : Property) → property_word property ≡ property_word another → property ≡ another
 one_word Safety Safety same = refl
-one_word Safety Liveness same = let sizes : 6 ≡ 8 = ap length same in absurd (omega arith)
-one_word Liveness Safety same = let sizes : 8 ≡ 6 = ap length same in absurd (omega arith)
+one_word Safety Liveness same = let sizes : 6 ≡ 8 = ap length same in absurd (omega (arith, sizes))
+one_word Liveness Safety same = let sizes : 8 ≡ 6 = ap length same in absurd (omega (arith, sizes))
 one_word Liveness Liveness same = refl
 
 one_property : (args : List (List ℕ)) (name other : List ℕ) (property another : Property) → Requests args name property → Requests args other another → property ≡ another
