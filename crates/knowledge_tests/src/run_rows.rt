@@ -25,8 +25,6 @@ const N_12: Act = Act::Emits(1, &[1, 2], &[1, 2, 6, 7]);
 
 const N_21_GOT: Act = Act::Gets(1, &[2, 1], &[2, 1, 6, 7]);
 
-const M_21_AGAIN: Act = Act::Emits(0, &[2, 1], &[2, 1, 8]);
-
 const N_21_WITH_7: Act = Act::Emits(1, &[2, 1], &[2, 1, 7, 9]);
 
 /// Whether the seller (1) ships before the buyer (0) cancels.
@@ -110,30 +108,6 @@ pub(crate) const PAIR_RUNS: &[RunRow] = &[
         None,
         None,
         None,
-    ),
-    (
-        &[M_12, M_21, M_21_GOT, M_21_GOT, N_21, N_21_GOT, N_21_GOT],
-        &[2, 1],
-        Verdict::Legal,
-        None,
-        None,
-        None,
-    ),
-    (
-        &[M_12, N_21, M_12_AGAIN],
-        &[1, 2],
-        Verdict::Missing(2, 0),
-        Some((1, 3, 0)),
-        Some(0),
-        Some(3),
-    ),
-    (
-        &[M_12, M_21, M_21_AGAIN, M_12_AGAIN],
-        &[2, 1],
-        Verdict::Bound(3, 0, 2),
-        Some((2, 3, 0)),
-        Some(0),
-        Some(3),
     ),
 ];
 

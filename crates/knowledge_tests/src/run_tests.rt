@@ -3,7 +3,6 @@ use super::rows::{PAIR, Protocol};
 use super::run_rows::{PAIR_RUNS, RACE, RACE_RUNS, RunRow, Verdict};
 use bspl_types::{Event, Expanded, Key, NoMemory, Value};
 use enactment_model::{BadEvent, Conflict, Why, legal, producers, quiet, unbound};
-use run_index::RunIndex;
 use std::alloc::Global;
 use std::process::Abort;
 use std::test::Fail;
@@ -65,29 +64,7 @@ fn judge(alloc: Global, x: &Expanded, row: RunRow) -> Result<Option<Judgement>, 
     }))
 }
 
-/// What is answered along an index of the row; nothing if the row does not fit the protocol.
-fn judge_along(alloc: Global, x: &Expanded, row: RunRow) -> Result<Option<Judgement>, NoMemory> {
-    let Some(run) = run(alloc, row.0)? else {
-        return Ok(None);
-    };
-    let Some(key) = key(row.1) else {
-        return Ok(None);
-    };
-    let events = run.as_slice();
-    if key.len() != x.keys.len() || !are_fit(x, events) {
-        return Ok(None);
-    }
-    let index = RunIndex::of(alloc, events)?;
-    let loose = run_index::quiet(alloc, x, &index, &key)?;
-    Ok(Some(Judgement {
-        verdict: is_verdict(run_index::legal(alloc, x, &index)?, row.2),
-        conflict: run_index::producers(alloc, x, &index)?.map(parts),
-        loose: loose.err().map(|loose| loose.message),
-        unbound: run_index::unbound(alloc, x, &index, &key)?,
-    }))
-}
-
-/// Each row has the answers that are wanted, along an index too.
+/// Each row has the answers that are wanted.
 fn are_judged(
     rt: &impl Abort,
     alloc: Global,
@@ -96,18 +73,15 @@ fn are_judged(
 ) -> Result<(), Fail> {
     let x = assemble(alloc, protocol)?.ok_or("the protocol is not well formed")?;
     for (index, row) in rows.iter().enumerate() {
-        let plain = judge(alloc, &x, *row)?.ok_or("the row does not fit the protocol")?;
-        let along = judge_along(alloc, &x, *row)?.ok_or("the row does not fit the protocol")?;
-        for found in [plain, along] {
-            assert!(rt; found.verdict, "the verdict in row {index}");
-            assert_eq!(rt; found.conflict, row.3, "the conflict in row {index}");
-            assert_eq!(rt; found.loose, row.4, "the loose message in row {index}");
-            assert_eq!(rt;
-                found.unbound,
-                row.5,
-                "the unbound parameter in row {index}"
-            );
-        }
+        let found = judge(alloc, &x, *row)?.ok_or("the row does not fit the protocol")?;
+        assert!(rt; found.verdict, "the verdict in row {index}");
+        assert_eq!(rt; found.conflict, row.3, "the conflict in row {index}");
+        assert_eq!(rt; found.loose, row.4, "the loose message in row {index}");
+        assert_eq!(rt;
+            found.unbound,
+            row.5,
+            "the unbound parameter in row {index}"
+        );
     }
     Ok(())
 }
