@@ -10,7 +10,7 @@ use Rattle.clause_encoding.specs.declared.rivals.Rivals.{Rivals}
 use Rattle.clause_encoding.specs.Rivals.{producers_of, produces, rivals_among, rivals_of}
 use Rattle.clause_encoding.specs.Variables.{message_numbers}
 
--- items that add at most `most` each add that many times their number
+-- if each item adds at most `most`, all add at most `most` times their number
 pub length_flat_map : {X A : Type 0} (f : X → List A) (most : ℕ) (xs : List X) → ((x : X) → length (f x) ≤ most) → length (flat_map f xs) ≤ most * length xs
 length_flat_map f most [] each = omega arith
 length_flat_map f most (x ∷ xs) each =

@@ -20,7 +20,7 @@ use Rattle.clause_encoding.specs.Rest.{public_values, wants_by, wants_of}
 use Rattle.clause_encoding.specs.Rivals.{producers_of, produces, rivals_among, rivals_of}
 use Rattle.clause_encoding.specs.Variables.{kind_count, message_numbers, variable_count}
 
--- items that add at most `most` each add that many times their number
+-- if each item adds at most `most`, all add at most `most` times their number
 added_at_most : {X A : Type 0} (f : X → List A) (most : ℕ) (xs : List X) → ((x : X) → length (f x) ≤ most) → length (flat_map f xs) ≤ most * length xs
 added_at_most f most [] each = omega arith
 added_at_most f most (x ∷ xs) each =
