@@ -1,4 +1,4 @@
--- Which part a argument alone is, as a function: a argument is one part at most.
+-- Which part an argument alone is, as a function: an argument is one part at most.
 use Rattle.std.proofs.Common.{◌≡◌, ℕ, Bool, true, false, cond, eqb, List, [], ◌∷◌, ◌++◌, Option, Some, None, inl, inr, refl, sym, ◌∙◌, codes}
 use Rattle.std.specs.Str.{bytes_eq}
 use Rattle.std.proofs.lemmas.Bool.{cases_Bool}
@@ -22,7 +22,7 @@ alone_of word = cond (bytes_eq word (codes "--brief")) (Some Brief)
     (joined Threads (after (codes "--threads=") word)
     (cond (is_dashed word) None (Some (Positional word)))))
 
--- a argument that is no option is positional
+-- an argument that is no option is positional
 plain_alone : (word : List ℕ) → is_dashed word ≡ false → alone_of word ≡ Some (Positional word)
 plain_alone [] plain = refl
 plain_alone (b ∷ []) plain = elim (cases_Bool (eqb b 45)) [ inl dash ↦ rw dash refl | inr other ↦ rw other refl ]
@@ -35,13 +35,13 @@ alone_found (conflicts_joined value) = refl
 alone_found (threads_joined value) = refl
 alone_found (positional word plain) = plain_alone word plain
 
--- a argument that is no option is none of these
+-- an argument that is no option is none of these
 plain_other : (word : List ℕ) → is_dashed word ≡ false → (bytes_eq word (codes "--conflicts") ≡ false) × (bytes_eq word (codes "--threads") ≡ false)
 plain_other [] plain = (refl, refl)
 plain_other (b ∷ []) plain = elim (cases_Bool (eqb b 45)) [ inl dash ↦ (rw dash refl, rw dash refl) | inr other ↦ (rw other refl, rw other refl) ]
 plain_other (b ∷ c ∷ rest) plain = (rw plain refl, rw plain refl)
 
--- a argument that is a part is no option that wants a value
+-- an argument that is a part is no option that wants a value
 pub alone_wants_none : {word : List ℕ} {part : Argument} → IsAlone word part → (bytes_eq word (codes "--conflicts") ≡ false) × (bytes_eq word (codes "--threads") ≡ false)
 alone_wants_none brief = (refl, refl)
 alone_wants_none (conflicts_joined value) = (refl, refl)

@@ -153,7 +153,7 @@ behind_passes (word ∷ rest) rows pending s (x ∷ y ∷ xs) e none are lean = 
 
 -- ---- all arguments
 
--- a argument that may stand there and is no option does not begin with `-`
+-- an argument that may stand there and is no option does not begin with `-`
 no_dash : {word : Text} → IsKnown word → is_dashed word ≡ false → begins_with_dash word ≡ false
 no_dash (plain word is) other = is
 no_dash the_dashes other = absurd (let bad : true ≡ false = other in cc)

@@ -81,7 +81,7 @@ module _ (rows : List Row) (pending : Pending) (p : ℕ) where
 
 -- ---- arguments that do not begin with `-`
 
--- such a argument is no flag
+-- such an argument is no flag
 pub record IsPlain (word : Text) : Type 0 where
   pub no_end : bytes_eq word (45 ∷ 45 ∷ []) ≡ false
   pub no_long : long_of word ≡ None
@@ -116,7 +116,7 @@ never : (b : Bool) → (b && false) ≡ false
 never true = refl
 never false = refl
 
--- a walk before `--` at a argument that goes to a positional is as one after it
+-- a walk before `--` at an argument that goes to a positional is as one after it
 pub plain_walk : (rows : List Row) (pending : Pending) (p : ℕ) (word : Text) → IsPlain word → walked rules [] (walking rows pending idle p) word ≡ after_step rules word (walking rows pending idle p) (held rows pending) value
 unfolding walked
 plain_walk rows pending p word plain = ap (λ met. after_step rules word (walking rows pending idle p) met.0 met.1) (plain_met rows pending p word plain)

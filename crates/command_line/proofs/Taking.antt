@@ -152,7 +152,7 @@ name_holds rows s first word are one = record {
   at = sym (ap (λ ws. place (ws ++ word ∷ [])) one);
 }
 
--- ---- a argument that does not begin with `-`
+-- ---- an argument that does not begin with `-`
 
 plain_next : (word : Text) → begins_with_dash word ≡ false → (rest : List Text) → Taking rest → (rows : List Row) (pending : Pending) (s : ParsedArgs) (ws : List Text) → s.positional ≡ ws → (pending_fault rows pending ≡ [] → Rows (settled_by rows pending) s)
     → whole_fault (walking rows pending idle (place ws)) (word ∷ rest) ≡ [] → BeginsWith (word ∷ rest) (Positional word) rest → Taken (end_of (walking rows pending idle (place ws)) (word ∷ rest)) (word ∷ rest) s
@@ -259,7 +259,7 @@ threads_word (threads_with v) rest taking rows p s are at none = absurd (never_n
 
 -- ---- all arguments
 
--- a argument that does not begin with `-` is positional
+-- an argument that does not begin with `-` is positional
 pub plain_part : (word : Text) → begins_with_dash word ≡ false → (rest : List Text) → BeginsWith (word ∷ rest) (Positional word) rest
 plain_part [] is rest = alone [] (Positional []) rest (positional [] refl)
 plain_part (b ∷ []) is rest = alone (b ∷ []) (Positional (b ∷ [])) rest (positional (b ∷ []) refl)

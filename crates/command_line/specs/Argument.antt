@@ -31,7 +31,7 @@ pub data IsAlone : List ℕ → Argument → Type 0 where
 
 -- the arguments begin with the part, and the rest is left
 pub data BeginsWith : List (List ℕ) → Argument → List (List ℕ) → Type 0 where
-  -- a argument that is a part
+  -- an argument that is a part
   alone : (word : List ℕ) (part : Argument) (rest : List (List ℕ)) → IsAlone word part
       → BeginsWith (word ∷ rest) part rest
   -- an option whose value is the next argument, which must not begin with `-`

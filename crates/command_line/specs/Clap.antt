@@ -1,4 +1,4 @@
--- What `clap` is cli_app of the options and the positional arguments.
+-- The options and the positional arguments, as `clap` takes them.
 use Rattle.std.specs.Prelude.{true, Some, List, [], ◌∷◌, codes}
 use Rattle.clap.specs.Words.{App, Rule, new_rule, new_app, with_rule}
 use Rattle.clap.specs.Simple.{on_top}

@@ -8,7 +8,7 @@ use Rattle.command_line.specs.Argument.{begins_with_dash}
 abbrev pub options : List (List ℕ)
 options = codes "--" ∷ codes "--brief" ∷ codes "--conflicts" ∷ codes "--threads" ∷ []
 
--- a argument that does not begin with `-`, or one of the options, with its value or without
+-- an argument that does not begin with `-`, or one of the options, with its value or without
 abbrev pub is_known : List ℕ → Bool
 is_known word =
     not (begins_with_dash word) || list_any (bytes_eq word) options ||

@@ -5,8 +5,8 @@ ghost use Rattle.command_line.specs.Clap.{cli_app};
 use clap::{Arg, ArgAction, Command};
 use std::alloc::{AllocError, Global};
 
-/// The options and the positional arguments, as `clap` is cli_app of them. What their values may be is
-/// judged later.
+/// The options and the positional arguments, declared to `clap`. What their values may be is judged
+/// later.
 pub fn clap_command<'a>(alloc: Global) -> Result<Command<'a>, AllocError>
     ensures { IfOk result (λ command. app_of command ≡ cli_app) }
 {
