@@ -14,11 +14,7 @@ pub(crate) struct Answer {
 }
 
 /// What the program of the command gives for its arguments and the input.
-pub(crate) fn answer_to(
-    alloc: Global,
-    command: &[u8],
-    input: &[u8],
-) -> Result<Answer, NoMemory> {
+pub(crate) fn answer_to(alloc: Global, command: &[u8], input: &[u8]) -> Result<Answer, NoMemory> {
     let words = words_of(alloc, command)?;
     let mut source = PlainSource::new(Bytes::from_slice(alloc, input)?);
     let mut sink = PlainSink::new(alloc);

@@ -95,8 +95,10 @@ fn log_holds(
     let answer = answer_with_part(alloc, b"bspl check ", name, input, b"\n%% log\n", block)?;
     let (kind, verdict) = split_once(claim, b' ');
     if verdict.is_some_and(|verdict| verdict.starts_with(b"undecided ")) {
-        return Ok(answer.status.as_str() == "1"
-            && answer.output.as_slice() == b"rejected not-empty\n".as_slice());
+        return Ok(
+            answer.status.as_str() == "1"
+                && answer.output.as_slice() == b"rejected not-empty\n".as_slice(),
+        );
     }
     let mut wanted = Bytes::from_slice(alloc, b"accepted ")?;
     wanted.append(kind)?;
@@ -141,9 +143,8 @@ fn conflict_report(alloc: Global, conflict: &[u8]) -> Result<Bytes, NoMemory> {
 /// Whether the report is on a legal run that leaves the parameter unbound where it is quiet.
 fn has_unbound(report: &[u8], param: &[u8]) -> bool {
     report.starts_with(b"legal ")
-        && report
-            .split(|b| *b == b'\n')
-            .any(|line| line.starts_with(b"key 1 ") && is_unbound(line, param))
+        && report.split(|b| *b == b'\n').any(|line| line.starts_with(b"key 1 ")
+            && is_unbound(line, param))
 }
 
 /// Whether the line says that a run is quiet and leaves the parameter unbound.

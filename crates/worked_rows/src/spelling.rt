@@ -21,12 +21,7 @@ fn repetition(line: &[u8]) -> Option<(u32, &[u8])> {
 }
 
 /// Appends the text and its line end. A backslash at the end of the text takes the line end away.
-fn append_once(
-    alloc: Global,
-    out: &mut Bytes,
-    text: &[u8],
-    number: u64,
-) -> Result<(), NoMemory> {
+fn append_once(alloc: Global, out: &mut Bytes, text: &[u8], number: u64) -> Result<(), NoMemory> {
     match text.strip_suffix(b"\\") {
         Some(kept) => append_spelled(alloc, out, kept, number),
         None => {
