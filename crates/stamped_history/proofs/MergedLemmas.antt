@@ -8,7 +8,8 @@ use Rattle.std.proofs.lemmas.List.{get_or-append-add, get_or_at, length-append, 
 use Rattle.std.proofs.lemmas.List.Elements.{Contains-append_cases, filter-append}
 use Rattle.list_base.proofs.Members.{cons_cases, here_same, nowhere, there}
 use Rattle.stamped_history.specs.declared.entry.Entry.{Entry}
-use Rattle.stamped_history.specs.Merged.{ComesBefore, entries_of, RoleEntry}
+use Rattle.stamped_history.specs.declared.entry.RoleEntry.{RoleEntry}
+use Rattle.stamped_history.specs.Merged.{ComesBefore, entries_of}
 
 -- the test for a role's entries
 abbrev pub is_of : ℕ → RoleEntry → Bool

@@ -5,7 +5,8 @@ use Rattle.std.specs.List.{AllPairs, filter}
 use Rattle.list_base.proofs.Members.{cons_cases, here_same}
 use Rattle.bspl_types.specs.declared.event.Event.{Event}
 use Rattle.stamped_history.specs.declared.entry.Entry.{Entry}
-use Rattle.stamped_history.specs.Merged.{ComesBefore, entries_of, IsMerged, RoleEntry}
+use Rattle.stamped_history.specs.declared.entry.RoleEntry.{RoleEntry}
+use Rattle.stamped_history.specs.Merged.{ComesBefore, entries_of, IsMerged}
 use Rattle.stamped_history.proofs.MergedLemmas.{among_entries, entries_first, entry_among, is_of, pair_after, pairs_rest}
 
 -- of two entries only one comes before the other

@@ -18,11 +18,12 @@ use Rattle.bspl_types.specs.Instance.{Fits}
 use Rattle.bspl_types.specs.Knowledge.{IsEnabled, Knows}
 use Rattle.enactment_model.specs.Legal.{LegalAfter, MayFollow}
 use Rattle.stamped_history.specs.declared.entry.Entry.{Entry}
+use Rattle.stamped_history.specs.declared.entry.RoleEntry.{RoleEntry}
 use Rattle.stamped_history.specs.Entries.{events_of, last_stamp}
 use Rattle.stamped_history.specs.Explained.{AreExplained, AreLocal, history_at}
 use Rattle.stamped_history.specs.Laws.{IsRunOf, StoresAgree}
 use Rattle.stamped_history.specs.Local.{IsLocal, MayFollowAs}
-use Rattle.stamped_history.specs.Merged.{ComesBefore, entries_of, IsMerged, RoleEntry}
+use Rattle.stamped_history.specs.Merged.{ComesBefore, entries_of, IsMerged}
 use Rattle.stamped_history.proofs.MergedLemmas.{among_entries, entries_parted, entry_among, is_of, lower_before}
 
 -- the events of a merged list
