@@ -7,6 +7,7 @@ pub mod Script
 pub mod Given
 pub mod ScriptText
 pub mod Refusal
+pub mod Laws
 pub mod Fitting
 pub mod Plan
 pub mod Job

@@ -2,6 +2,7 @@
 #![tactic(auto)]
 
 mod job;
+mod laws;
 mod plan;
 mod refusal;
 mod rules;
@@ -11,6 +12,7 @@ mod value_list;
 mod values;
 
 pub use job::{Agents, Job, Scene};
+pub use laws::scripts_fit;
 pub use plan::Plan;
 pub use refusal::ScriptRefusal;
 pub use rules::{Declined, ValueRule};
