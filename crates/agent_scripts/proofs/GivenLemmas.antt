@@ -1,10 +1,12 @@
 -- What the statements of a text give fits the protocol.
 use Rattle.std.proofs.Common.{◌≡◌, ℕ, zero, suc, ◌+◌, ◌<◌, Bool, true, false, cond, List, [], ◌∷◌, ◌++◌, length, map, get_or, replicate, Some, None, slice_get, refl, sym, ◌∙◌, ap, subst, arith, ⊎_elim}
-use Rattle.std.specs.Prelude.{◌==◌}
-use Rattle.std.specs.List.{All, AllZip, filter, flat_map, list_any, enumerate_from}
-use Rattle.std.proofs.lemmas.Bool.{cases_Bool}
+use Rattle.std.specs.Prelude.{◌==◌, not}
+use Rattle.std.specs.List.{All, Contains, AllZip, filter, flat_map, list_any, enumerate_from}
+use Rattle.std.proofs.lemmas.Bool.{cases_Bool, true≢false}
 use Rattle.std.proofs.lemmas.Bool.Decides.{nat_tests}
-use Rattle.std.proofs.lemmas.List.Elements.{All-nil, All-cons, All-append, All-filter}
+use Rattle.std.proofs.lemmas.List.Elements.{All-nil, All-cons, All-append, All-filter, Contains-append_left, Contains-append_right}
+use Rattle.list_base.proofs.Filtered.{kept_member}
+use Rattle.list_base.proofs.Members.{here_same, there}
 use Rattle.std.proofs.lemmas.List.{length-replicate}
 use Rattle.std.proofs.lemmas.Option.{slice_get_within, same_Some}
 use Rattle.bspl_types.specs.declared.expanded.Expanded.{Expanded}
@@ -83,6 +85,51 @@ order_sent x role lines stated said =
     let first = flat_map (order_in role) (statements_of stated) in
     All-append (IsSentBy x role) _ _ (ordered x role lines stated said) (All-filter _ (IsSentBy x role) (sent_by x role) (all_sent x role))
 
+-- the test finds equal numbers equal
+equal_found : (m n : ℕ) → m ≡ n → (m == n) ≡ true
+equal_found m n same = grind (arith, nat_tests)
+
+-- each of them that the role sends is among those whose sender passes
+numbered_whole : (x : Expanded) (role k : ℕ) (messages : List Message) (i : ℕ) → i < length messages → (get_or messages i no_message).sender ≡ role → Contains (map (λ (m, _). m) (filter (λ (_, m). m.sender == role) (enumerate_from k messages))) (k + i)
+numbered_whole x role k [] i within sends = absurd (omega (arith, within))
+numbered_whole x role k (m ∷ messages) zero within sends =
+    let this : k ≡ k + 0 = omega arith in
+    let passes = equal_found m.sender role sends in
+    rw passes (here_same k _ (k + 0) this)
+numbered_whole x role k (m ∷ messages) (suc i) within sends =
+    let same : k + 1 + i ≡ k + suc i = omega arith in
+    let rest = map (λ (n, _). n) (filter (λ (_, n). n.sender == role) (enumerate_from (k + 1) messages)) in
+    let later : Contains rest (k + suc i) = subst (λ n. Contains rest n) same (numbered_whole x role (k + 1) messages i (omega (arith, within)) sends) in
+    ⊎_elim
+    (λ yes. rw yes (there k rest (k + suc i) later))
+    (λ none. rw none later)
+    (cases_Bool (m.sender == role))
+
+sent_whole : (x : Expanded) (role m : ℕ) → IsSentBy x role m → Contains (sent_by x role) m
+sent_whole x role m sends =
+    let same : 0 + m ≡ m = omega arith in
+    subst (λ n. Contains (sent_by x role) n) same (numbered_whole x role 0 x.messages m sends.0 sends.1)
+
+-- a number that the test finds is among them
+number_found : (numbers : List ℕ) (m : ℕ) → list_any (λ n. n == m) numbers ≡ true → Contains numbers m
+number_found [] m found = absurd (true≢false (sym found))
+number_found (n ∷ numbers) m found = ⊎_elim
+    (λ yes. here_same n numbers m (equal_test n m yes))
+    (λ none. there n numbers m (number_found numbers m (rw none at found)))
+    (cases_Bool (n == m))
+
+-- an order has each message that the role sends
+order_whole : (x : Expanded) (statements : List Statement) (role m : ℕ) → IsSentBy x role m → Contains (order_of x statements role) m
+order_whole x statements role m sends =
+    let first = flat_map (order_in role) statements in
+    let others = λ (n : ℕ). not (list_any (λ k. k == n) first) in
+    ⊎_elim
+    (λ yes. Contains-append_left first _ m (number_found first m yes))
+    (λ none.
+        let other : others m ≡ true = rw none refl in
+        Contains-append_right first _ m (kept_member others (sent_by x role) m other (sent_whole x role m sends)))
+    (cases_Bool (list_any (λ n. n == m) first))
+
 -- a list over places, place by place
 over_length : {X A : Type 0} (f : ℕ → A) (k : ℕ) (xs : List X) → length (map (λ (n, _). f n) (enumerate_from k xs)) ≡ length xs
 over_length f k [] = refl
@@ -123,6 +170,14 @@ given_width x lines stated said = ⊎_elim
     (λ none. rw none (listed_width x lines stated said))
     (cases_Bool (length (flat_map key_in (statements_of stated)) == 0))
 
+-- the order at a role's place is the role's
+order_is : (x : Expanded) (statements : List Statement) (role : ℕ) (order : List ℕ) → slice_get (orders_given x statements) role ≡ Some order → order_of x statements role ≡ order
+order_is x statements role order at =
+    let below : role < length x.roles = subst (λ n. role < n) (over_length (order_of x statements) 0 x.roles) (slice_get_within _ role order at) in
+    let there_is = over_at (order_of x statements) 0 x.roles role below in
+    let same : role ≡ 0 + role = omega arith in
+    ap (order_of x statements) same ∙ same_Some _ _ (sym there_is ∙ at)
+
 pub script_fits : (x : Expanded) (script : Script) → IsScriptFor x script → FitsProtocol x script
 script_fits x script for_it =
     let stated = for_it.gives.stated in
@@ -133,10 +188,9 @@ script_fits x script for_it =
       keys = rw given.keys (given_width x read.before stated read.said);
       roles = rw given.orders (over_length (order_of x statements) 0 x.roles);
       sent = λ role order is.
-          let at : slice_get (orders_given x statements) role ≡ Some order = ap (λ os. slice_get os role) (sym given.orders) ∙ is in
-          let below : role < length x.roles = subst (λ n. role < n) (over_length (order_of x statements) 0 x.roles) (slice_get_within _ role order at) in
-          let there = over_at (order_of x statements) 0 x.roles role below in
-          let zero_role : 0 + role ≡ role = omega arith in
-          let same : order_of x statements role ≡ order = ap (order_of x statements) (sym zero_role) ∙ same_Some _ _ (sym there ∙ at) in
+          let same = order_is x statements role order (ap (λ os. slice_get os role) (sym given.orders) ∙ is) in
           subst (λ o. All (IsSentBy x role) o) same (order_sent x role read.before stated read.said);
+      whole = λ role order is m sends.
+          let same = order_is x statements role order (ap (λ os. slice_get os role) (sym given.orders) ∙ is) in
+          subst (λ o. Contains o m) same (order_whole x statements role m sends);
     }
