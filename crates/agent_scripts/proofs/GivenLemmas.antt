@@ -1,5 +1,5 @@
 -- What the statements of a text give fits the protocol.
-use Rattle.std.proofs.Common.{◌≡◌, ℕ, zero, suc, ◌+◌, ◌<◌, Bool, true, false, cond, List, [], ◌∷◌, ◌++◌, length, map, get_or, replicate, Some, None, slice_get, refl, sym, ◌∙◌, ap, subst, arith, ⊎_elim}
+use Rattle.std.proofs.Common.{◌≡◌, ℕ, zero, suc, ◌+◌, ◌<◌, true, List, [], ◌∷◌, length, map, get_or, Some, slice_get, refl, sym, ◌∙◌, ap, subst, arith, ⊎_elim}
 use Rattle.std.specs.Prelude.{◌==◌, not}
 use Rattle.std.specs.List.{All, Contains, AllZip, filter, flat_map, list_any, enumerate_from}
 use Rattle.std.proofs.lemmas.Bool.{cases_Bool, true≢false}
@@ -48,8 +48,8 @@ numbered x role k (m ∷ messages) from =
     let this : k + 0 ≡ k = omega arith in
     ⊎_elim
     (λ yes.
-        let first : IsSentBy x role k = subst (λ n. IsSentBy x role n) this (here.0, ap (λ (n : Message). n.sender) here.1 ∙ equal_test m.sender role yes) in
-        rw yes (All-cons (IsSentBy x role) k _ first rest))
+    let first : IsSentBy x role k = subst (λ n. IsSentBy x role n) this (here.0, ap (λ (n : Message). n.sender) here.1 ∙ equal_test m.sender role yes) in
+    rw yes (All-cons (IsSentBy x role) k _ first rest))
     (λ none. rw none rest)
     (cases_Bool (m.sender == role))
 
@@ -126,8 +126,8 @@ order_whole x statements role m sends =
     ⊎_elim
     (λ yes. Contains-append_left first _ m (number_found first m yes))
     (λ none.
-        let other : others m ≡ true = rw none refl in
-        Contains-append_right first _ m (kept_member others (sent_by x role) m other (sent_whole x role m sends)))
+    let other : others m ≡ true = rw none refl in
+    Contains-append_right first _ m (kept_member others (sent_by x role) m other (sent_whole x role m sends)))
     (cases_Bool (list_any (λ n. n == m) first))
 
 -- a list over places, place by place

@@ -1,13 +1,13 @@
 -- A line is its first field and what follows it.
-use Rattle.std.proofs.Common.{◌≡◌, ℕ, suc, ◌+◌, ◌-◌, ◌<◌, ◌≤◌, Bool, true, false, cond, List, [], ◌∷◌, length, take, drop, refl, sym, ◌∙◌, ap, arith, inl, inr, ⊎_elim, length-drop}
+use Rattle.std.proofs.Common.{◌≡◌, ℕ, suc, ◌-◌, ◌≤◌, Bool, true, false, List, [], ◌∷◌, length, take, drop, refl, sym, ◌∙◌, ap, arith, ⊎_elim, length-drop}
 use Rattle.std.specs.Prelude.{not, ◌==◌}
-use Rattle.std.specs.List.{slice_split, filter, position_or_len, onto_first}
+use Rattle.std.specs.List.{slice_split, filter, position_or_len}
 use Rattle.std.proofs.lemmas.Bool.{cases_Bool}
 use Rattle.std.proofs.lemmas.Bool.Decides.{nat_tests}
 use Rattle.std.proofs.Math.Seq.{take-length}
-use Rattle.std.proofs.lemmas.List.Splits.{slice_split-cons_yes, slice_split-cons_no}
+use Rattle.std.proofs.lemmas.List.Splits.{slice_split-cons_no}
 use Rattle.agent_scripts.specs.Lines.{fields_of}
-use Rattle.script_text.specs.inner.Blanks.{is_blank, BeginsField}
+use Rattle.script_text.specs.inner.Blanks.{is_blank}
 
 -- not empty
 abbrev pub is_some_field : List ℕ → Bool
@@ -29,14 +29,14 @@ parted p (x ∷ xs) = ⊎_elim
       after = rw yes (rw yes refl);
     })
     (λ none.
-        let later = parted p xs in
-        let n = position_or_len p xs in
-        let one : position_or_len p (x ∷ xs) ≡ suc n = rw none (omega arith) in
-        record {
-          others = later.others;
-          whole = rw one (rw (slice_split-cons_no p x xs none, later.whole) refl);
-          after = rw one later.after;
-        })
+    let later = parted p xs in
+    let n = position_or_len p xs in
+    let one : position_or_len p (x ∷ xs) ≡ suc n = rw none (omega arith) in
+    record {
+      others = later.others;
+      whole = rw one (rw (slice_split-cons_no p x xs none, later.whole) refl);
+      after = rw one later.after;
+    })
     (cases_Bool (p x))
 
 -- a length above 0 passes

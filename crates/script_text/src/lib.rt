@@ -1,6 +1,10 @@
-//! The agents text, read into a script and a plan.
+//! Parts of the reader of scripts: fields, numbers and settings.
 #![tactic(auto)]
 
 mod fields;
+mod numbers;
+mod settings;
 
 pub use fields::first_field;
+pub use numbers::{last_number, number_of};
+pub use settings::{is_setting, setting_of};

@@ -1,6 +1,5 @@
 -- What begins with a field has it first.
-use Rattle.std.proofs.Common.{◌≡◌, ◌<◌, ◌≤◌, ◌∷◌, [], length, take, drop, refl, List, ℕ, ◌-◌, ◌+◌, arith, length-drop}
-use Rattle.std.proofs.lemmas.List.{take_all}
+use Rattle.std.proofs.Common.{◌≡◌, ◌∷◌, [], take, drop, refl, List, ℕ}
 use Rattle.std.specs.List.{position_or_len}
 use Rattle.agent_scripts.specs.Lines.{fields_of}
 use Rattle.script_text.specs.inner.Blanks.{is_blank, BeginsField}
