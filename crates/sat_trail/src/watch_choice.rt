@@ -1,0 +1,63 @@
+ghost use Rattle.std.specs.Prelude.{◌≡◌, ◌≢◌, ◌<◌, ◌≤◌, length, Contains, IfSome, IfNone};
+ghost use Rattle.clause_core.specs.Clause.{VariablesExist};
+ghost use Rattle.clause_core.specs.Propagation.{MakesFalse, OthersFalse};
+ghost use Rattle.sat_trail.specs.Entry.{values_of};
+ghost use Rattle.sat_trail.specs.inner.Attach.{HasOpenTwo, MayWatch, AreClosed, AreChosen};
+
+use super::set_literals::Entries;
+use clause_core::Lit;
+
+/// A literal of the clause that is not false, other than this one. If there is none, the others
+/// are all false.
+pub fn not_false(set: &Entries, clause: &[Lit], kept: Lit) -> Option<Lit>
+    requires exist { VariablesExist set.now.vars clause.now }
+    ensures among { IfSome result (Contains clause.now) }
+    ensures differs { IfSome result (λ l. l ≢ kept) }
+    ensures found { IfSome result (λ l. ¬ MakesFalse (values_of set.now.entries) l) }
+    ensures none { IfNone result (OthersFalse (values_of set.now.entries) clause.now kept) }
+{
+    for lit in clause {
+        if *lit != kept && !set.is_false(*lit) {
+            return Some(*lit);
+        }
+    }
+    None
+}
+
+/// The literal of the clause that is to be watched, other than this one: one that is not false, if
+/// there is any, and else one that was set at the level.
+fn best(set: &Entries, clause: &[Lit], kept: Lit, level: u32) -> Option<Lit>
+    requires exist { VariablesExist set.now.vars clause.now }
+    ensures found { IfSome result (λ l. MayWatch set.now.entries level clause.now l kept) }
+    ensures none { IfNone result (AreClosed set.now.entries level clause.now kept) }
+{
+    let mut found = None;
+    for lit in clause {
+        if *lit != kept {
+            if !set.is_false(*lit) {
+                return Some(*lit);
+            }
+            if set.is_open(lit.var, level) {
+                found = Some(*lit);
+            }
+        }
+    }
+    found
+}
+
+/// The two literals that a new clause is to watch, if it has as many.
+pub fn choose(set: &Entries, clause: &[Lit], level: u32) -> Option<(Lit, Lit)>
+    requires exist { VariablesExist set.now.vars clause.now }
+    requires open { 2 ≤ length clause.now → HasOpenTwo set.now.entries level clause.now }
+    ensures chosen { IfSome result
+        (λ pair. AreChosen set.now.entries level clause.now pair.0 pair.1) }
+    ensures none { IfNone result (length clause.now < 2) }
+{
+    let none = Lit {
+        var: 0,
+        positive: false,
+    };
+    let one = best(set, clause, none, level)?;
+    let other = best(set, clause, one, level)?;
+    Some((one, other))
+}
