@@ -10,3 +10,10 @@ mod LevelLemmas
 mod FactLemmas
 mod ValueLemmas
 mod WatchedLemmas
+mod MovedLemmas
+mod GrowthLemmas
+mod ForceLemmas
+mod VisitLemmas
+mod WalkLemmas
+mod TrailLemmas
+mod ChangeLemmas

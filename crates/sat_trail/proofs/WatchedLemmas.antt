@@ -136,7 +136,7 @@ AreWatched-back numbering last cells kept dropped p level lower below above watc
 }
 
 -- a literal that is true is true by an entry of the level or below
-true-by : (es : List Entry) (level : ℕ) (l : Lit) → All (λ e. e.level ≤ level) es → values_of es l.var ≡ Some l.positive → IsTrueBy es level l
+pub true-by : (es : List Entry) (level : ℕ) (l : Lit) → All (λ e. e.level ≤ level) es → values_of es l.var ≡ Some l.positive → IsTrueBy es level l
 true-by es level l top holds =
     let found = true-entry es l holds in
     record { entry = found.0; among = found.1; sets = found.2; low = All-contains (λ e. e.level ≤ level) es found.0 top found.1 }

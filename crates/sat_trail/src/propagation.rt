@@ -1,4 +1,4 @@
-ghost use Rattle.std.specs.Prelude.{◌≡◌, ◌≢◌, ◌-◌, ◌+◌, ◌*◌, ◌<◌, ◌≤◌, ◌∷◌, length, IfSome, IfNone};
+ghost use Rattle.std.specs.Prelude.{◌≡◌, ◌≢◌, ◌-◌, ◌+◌, ◌*◌, ◌<◌, ◌≤◌, ◌∷◌, length, IfSome, IfNone, Some};
 ghost use Rattle.std.specs.Prelude.{ℕ};
 ghost use Rattle.std.specs.Bool.{OnTrue, OnFalse};
 ghost use Rattle.clause_core.specs.Numbering.{numbered};
@@ -85,6 +85,7 @@ pub fn examine_new(
 fn force(store: &ClauseStore, set: &mut Entries, lit: Lit, number: u32, level: u32) -> Visit
     requires fits { CanPropagate store.now set.old level }
     requires left { IsLastLeft store.now set.old.entries number lit }
+    requires untrue { values_of set.old.entries lit.var ≢ Some lit.positive }
     ensures extends { Extends store.now level set.old set.new }
     ensures stays { result ≡ Visit.Stays → IsTrueBy set.new.entries level lit }
     ensures moves { (next : ℕ) → result ≢ Visit.Moves next }
@@ -118,6 +119,7 @@ fn visit_clause(
     requires watched { HasWatches store.now lists.old.cells.items set.old level position
         (length store.now) }
     requires fails { IsFalseAt set.old.entries position lit }
+    requires exists { (0 < lit.var) × (lit.var ≤ set.old.vars) }
     requires many { length lists.old.heads.items ≡ 2 * set.old.vars + 2 }
     requires walk { Walks lists.old.cells.items lists.old.heads.items lit before number }
     requires others { AreOthersListed set.old.vars lists.old.cells.items lists.old.heads.items lit }
@@ -171,7 +173,7 @@ fn propagate_entry(
     let lit = set.at(position).lit.negation();
     let mut before = 0;
     let mut number = lists.first(lit);
-    for _count in 0..lists.cells.len() {
+    for _passed in 0..lists.cells.len() {
         if number == 0 {
             return None;
         }

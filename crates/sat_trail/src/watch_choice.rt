@@ -1,4 +1,5 @@
 ghost use Rattle.std.specs.Prelude.{◌≡◌, ◌≢◌, ◌<◌, ◌≤◌, length, Contains, IfSome, IfNone};
+ghost use Rattle.std.specs.Bool.{OnTrue, OnFalse};
 ghost use Rattle.clause_core.specs.Clause.{VariablesExist};
 ghost use Rattle.clause_core.specs.Propagation.{MakesFalse, OthersFalse};
 ghost use Rattle.sat_trail.specs.Entry.{values_of};
@@ -6,6 +7,16 @@ ghost use Rattle.sat_trail.specs.inner.Attach.{HasOpenTwo, MayWatch, AreClosed, 
 
 use super::set_literals::Entries;
 use clause_core::Lit;
+
+/// Whether the literal is another one and not false.
+fn may_take(set: &Entries, lit: Lit, kept: Lit) -> bool
+    requires from_one { 0 < lit.var }
+    requires exists { lit.var ≤ set.now.vars }
+    ensures yes { OnTrue result ((lit ≢ kept) × (¬ MakesFalse (values_of set.now.entries) lit)) }
+    ensures no { OnFalse result (lit ≢ kept → MakesFalse (values_of set.now.entries) lit) }
+{
+    lit != kept && !set.is_false(lit)
+}
 
 /// A literal of the clause that is not false, other than this one. If there is none, the others
 /// are all false.
@@ -17,7 +28,7 @@ pub fn not_false(set: &Entries, clause: &[Lit], kept: Lit) -> Option<Lit>
     ensures none { IfNone result (OthersFalse (values_of set.now.entries) clause.now kept) }
 {
     for lit in clause {
-        if *lit != kept && !set.is_false(*lit) {
+        if may_take(set, *lit, kept) {
             return Some(*lit);
         }
     }
@@ -33,13 +44,11 @@ fn best(set: &Entries, clause: &[Lit], kept: Lit, level: u32) -> Option<Lit>
 {
     let mut found = None;
     for lit in clause {
-        if *lit != kept {
-            if !set.is_false(*lit) {
-                return Some(*lit);
-            }
-            if set.is_open(lit.var, level) {
-                found = Some(*lit);
-            }
+        if may_take(set, *lit, kept) {
+            return Some(*lit);
+        }
+        if *lit != kept && set.is_open(lit.var, level) {
+            found = Some(*lit);
         }
     }
     found

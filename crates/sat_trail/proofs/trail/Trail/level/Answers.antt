@@ -1,5 +1,4 @@
 -- What every trail keeps follows from its growth.
-use Rattle.sat_trail.proofs.WatchedLemmas.{AreWatched-propagated, AreWatched-passed}
 use Rattle.sat_trail.proofs.FactLemmas.{IsTrail-grown}
 use Rattle.sat_trail.proofs.trail.Trail.level.Goals as goal
 

@@ -1,5 +1,5 @@
 -- The clause's own watch gets the new link.
-use Rattle.std.proofs.Common.{arith, subst, refl, ◌∙◌}
+use Rattle.std.proofs.Common.{arith, subst, sym, refl, ◌∙◌}
 use Rattle.std.proofs.lemmas.List.{get_or_default}
 use Rattle.sat_trail.specs.declared.watch.Cell.{Cell}
 use Rattle.sat_trail.specs.inner.Watches.{blank, watch, IsPut}
@@ -10,4 +10,4 @@ pub returns : goal.returns
 returns c =
     at_cell (omega arith) refl c.put.result
     (subst (λ (cell : Cell). IsPut cell c.args.lit (watch c.args.lit c.args.next) c.put.result)
-    (c.index-cell.ensures ∙ get_or_default c.args.self.now.cells.items c.args.number blank c.index-cell.result.now c.requires.within) c.put.ensures) refl
+    (c.index-cell.ensures ∙ sym (get_or_default c.args.self.now.cells.items c.args.number blank c.index-cell.result.now c.requires.within)) c.put.ensures) refl
