@@ -17,3 +17,5 @@ mod VisitLemmas
 mod WalkLemmas
 mod TrailLemmas
 mod ChangeLemmas
+mod ChoiceLemmas
+mod AttachLemmas

@@ -16,7 +16,7 @@ use Rattle.sat_trail.proofs.GrowthLemmas.{Grows-append}
 use Rattle.sat_trail.specs.declared.watch.Cell.{Cell}
 use Rattle.sat_trail.specs.inner.Watches.{AreLinked}
 use Rattle.clause_core.specs.Clause.{VariablesExist}
-use Rattle.sat_trail.proofs.GrowthLemmas.{CanPropagate-once, number-last}
+use Rattle.sat_trail.proofs.GrowthLemmas.{CanPropagate-once, CanPropagate-extends, Extends-more, number-last}
 use Rattle.sat_trail.proofs.WatchedLemmas.{AreWatched-propagated}
 
 -- a fact for nothing found
@@ -89,3 +89,12 @@ CanPropagate-kept clauses cells heads set level head examined ready kept = recor
 pub HasWatches-all : (clauses : List (List Lit)) (cells : List Cell) (set : Assigned) (level head examined : ℕ) (found : Option ℕ) → false ≡ is_some found → IfNone found (examined ≡ length clauses) → HasWatches clauses cells set level head examined → HasWatches clauses cells set level head (length clauses)
 HasWatches-all clauses cells set level head examined found none all watched =
     subst (λ n. HasWatches clauses cells set level head n) (when_none found (examined ≡ length clauses) (sym none) all) watched
+
+-- the same where the first walk found nothing
+pub IsKept-both : (clauses : List (List Lit)) (cells new_cells : List Cell) (heads new_heads : List ℕ) (old now new : Assigned) (level head head' examined examined' : ℕ) (before ready : Bool) (first found : Option ℕ) → IsKept clauses cells heads old level head examined before → Extends clauses level old now → Extends clauses level now new → AreLinked now.vars new_cells new_heads → HasWatches clauses new_cells new level head' (length clauses) → false ≡ is_some first → IfNone first (examined' ≡ length clauses) → is_some found ≡ not ready → IfNone found (head' ≡ length new.entries) → IsKept clauses new_cells new_heads new level head' examined' ready
+IsKept-both clauses cells new_cells heads new_heads old now new level head head' examined examined' before ready first found kept extends later linked watched none all_examined is_ready all =
+    let whole = Extends-more clauses level old now new extends later in
+    subst (λ n. IsKept clauses new_cells new_heads new level head' n ready) (sym (when_none first (examined' ≡ length clauses) (sym none) all_examined))
+    (IsKept-finished clauses cells new_cells heads new_heads old new level head head' examined before ready found kept whole
+    (CanPropagate-extends clauses old new level (CanPropagate-kept clauses cells heads old level head examined before kept) whole)
+    (subst (λ vars. AreLinked vars new_cells new_heads) (ap (λ (s : Assigned). s.vars) extends.grows) linked) watched (sym is_ready) all)

@@ -1,6 +1,6 @@
 ghost use Rattle.std.specs.Prelude.{◌≡◌, ◌-◌, ◌+◌, ◌*◌, ◌^◌, ◌<◌, ◌≤◌, ◌++◌, ◌⊎◌, ◌↔◌, [], ◌∷◌, None};
 ghost use Rattle.std.specs.Prelude.{Some, false, length, replicate, IsTrue, IsSome, IfOk, OnErr, IfSome};
-ghost use Rattle.std.specs.Prelude.{IfNone, is_none, slice_get, All};
+ghost use Rattle.std.specs.Prelude.{IfNone, is_none, slice_get, map, All};
 ghost use Rattle.clause_core.specs.Clause.{VariablesExist};
 ghost use Rattle.clause_core.specs.Numbering.{numbered, HasNumber};
 ghost use Rattle.clause_core.specs.Propagation.{IsFalsified, IsPropagated};
@@ -83,9 +83,7 @@ impl<'f> Trail<'f> {
         let watched = choose(&self.set, c.lits(), self.level);
         self.lists.reserve(number)?;
         self.store.push(c)?;
-        if let Some((one, other)) = watched {
-            self.lists.link(number, one, other);
-        }
+        self.lists.attach(self.set.vars(), number, watched);
         self.ready = false;
         Ok(number)
     }
@@ -258,8 +256,6 @@ fn watch_all(lists: &mut WatchLists, set: &Entries, clauses: &[Clause])
     let mut number = 0;
     for clause in clauses {
         number += 1;
-        if let Some((one, other)) = choose(set, clause.lits(), 0) {
-            lists.link(number, one, other);
-        }
+        lists.attach(set.vars(), number, choose(set, clause.lits(), 0));
     }
 }

@@ -3,7 +3,7 @@ ghost use Rattle.std.specs.Bool.{OnTrue, OnFalse};
 ghost use Rattle.clause_core.specs.Clause.{VariablesExist};
 ghost use Rattle.clause_core.specs.Propagation.{MakesFalse, OthersFalse};
 ghost use Rattle.sat_trail.specs.Entry.{values_of};
-ghost use Rattle.sat_trail.specs.inner.Attach.{HasOpenTwo, MayWatch, AreClosed, AreChosen};
+ghost use Rattle.sat_trail.specs.inner.Attach.{IsOpenAt, HasOpenTwo, MayWatch, AreClosed, AreChosen};
 
 use super::set_literals::Entries;
 use clause_core::Lit;
@@ -35,6 +35,16 @@ pub fn not_false(set: &Entries, clause: &[Lit], kept: Lit) -> Option<Lit>
     None
 }
 
+/// Whether the literal is another one that has no value, or was set at the level.
+fn is_spare(set: &Entries, lit: Lit, kept: Lit, level: u32) -> bool
+    requires from_one { 0 < lit.var }
+    requires exists { lit.var ≤ set.now.vars }
+    ensures yes { OnTrue result ((lit ≢ kept) × IsOpenAt set.now.entries level lit) }
+    ensures no { OnFalse result (lit ≢ kept → ¬ IsOpenAt set.now.entries level lit) }
+{
+    lit != kept && set.is_open(lit.var, level)
+}
+
 /// The literal of the clause that is to be watched, other than this one: one that is not false, if
 /// there is any, and else one that was set at the level.
 fn best(set: &Entries, clause: &[Lit], kept: Lit, level: u32) -> Option<Lit>
@@ -47,7 +57,7 @@ fn best(set: &Entries, clause: &[Lit], kept: Lit, level: u32) -> Option<Lit>
         if may_take(set, *lit, kept) {
             return Some(*lit);
         }
-        if *lit != kept && set.is_open(lit.var, level) {
+        if is_spare(set, *lit, kept, level) {
             found = Some(*lit);
         }
     }

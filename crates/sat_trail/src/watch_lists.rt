@@ -1,7 +1,8 @@
-ghost use Rattle.std.specs.Prelude.{◌≡◌, ◌≢◌, ◌+◌, ◌*◌, ◌^◌, ◌<◌, ◌≤◌, ◌∷◌, length, IfOk, OnOk, replicate, slice_set};
+ghost use Rattle.std.specs.Prelude.{◌≡◌, ◌≢◌, ◌+◌, ◌*◌, ◌^◌, ◌<◌, ◌≤◌, ◌∷◌, length, IfOk, OnOk, IfSome, replicate, slice_set};
 ghost use Rattle.clause_core.specs.Literal.{rank};
 ghost use Rattle.sat_trail.specs.inner.Watches.{blank, cell_of, Watches, IsTurn, IsPut, ReservesCells};
-ghost use Rattle.sat_trail.specs.inner.Watches.{watch, head_of};
+ghost use Rattle.sat_trail.specs.inner.Watches.{watch, head_of, AreLinked};
+ghost use Rattle.sat_trail.specs.inner.Attach.{IsUnwatched, ArePair, IsAttachedTo};
 ghost use Rattle.sat_trail.specs.declared.watch.Cell.{Cell as SpecCell};
 ghost use Rattle.sat_trail.specs.inner.Walk.{AreOthersListed, SetsLink, PutsFront, MovesWatch};
 ghost use Rattle.sat_trail.specs.inner.Walk.{Walks, IsNewWatch};
@@ -92,6 +93,20 @@ impl WatchLists {
         };
         self.heads[one.rank() as usize] = number;
         self.heads[other.rank() as usize] = number;
+    }
+
+    /// Lets the clause of the number watch these literals, if there are any.
+    pub fn attach(&mut self, vars: u32, number: u32, watched: Option<(Lit, Lit)>)
+        requires linked { AreLinked vars self.old.cells.items self.old.heads.items }
+        requires within { (0 < number) × (number < length self.old.cells.items) }
+        requires blank { IsUnwatched (cell_of self.old.cells.items number) }
+        requires pair { IfSome watched (λ pair. ArePair vars pair.0 pair.1) }
+        ensures linked { AreLinked vars self.new.cells.items self.new.heads.items }
+        ensures attached { IsAttachedTo self.old.cells.items self.new.cells.items number watched }
+    {
+        if let Some((one, other)) = watched {
+            self.link(number, one, other);
+        }
     }
 
     /// Takes the clause of the number, which comes after `before` in the list of the literal, out

@@ -1,5 +1,6 @@
 -- Which literals a new clause is to watch.
-use Rattle.std.specs.Prelude.{◌≡◌, ◌≢◌, ℕ, ◌<◌, List, [], length, take, Contains, IfSome}
+use Rattle.std.specs.Prelude.{◌≡◌, ◌≢◌, ℕ, ◌<◌, ◌≤◌, Option, Some, None, List, [], length, take}
+use Rattle.std.specs.Prelude.{Contains, IfSome}
 use Rattle.clause_core.specs.declared.literal.Lit.{Lit}
 use Rattle.clause_core.specs.Numbering.{numbered}
 use Rattle.clause_core.specs.Propagation.{MakesFalse, OthersFalse}
@@ -7,7 +8,7 @@ use Rattle.sat_trail.specs.declared.entry.Entry.{Entry}
 use Rattle.sat_trail.specs.declared.watch.Cell.{Cell}
 use Rattle.sat_trail.specs.Entry.{entry_of, values_of}
 use Rattle.sat_trail.specs.inner.Excuse.{AreWatched}
-use Rattle.sat_trail.specs.inner.Watches.{AreLinked}
+use Rattle.sat_trail.specs.inner.Watches.{cell_of, Watches, AreLinked}
 
 -- the literal was set at the level, if it was set
 abbrev pub IsOpenAt : List Entry → ℕ → Lit → Type 0
@@ -42,6 +43,25 @@ pub record AreChosen
     (entries : List Entry) (level : ℕ) (clause : List Lit) (one other : Lit) : Type 0 where
   pub first : MayWatch entries level clause one other
   pub second : MayWatch entries level clause other one
+
+-- the cell watches no literal
+abbrev pub IsUnwatched : Cell → Type 0
+IsUnwatched cell = (l : Lit) → 0 < l.var → ¬ Watches cell l
+
+-- two literals exist and differ
+pub record ArePair (vars : ℕ) (one other : Lit) : Type 0 where
+  pub differ : one ≢ other
+  pub one_exists : (0 < one.var) × (one.var ≤ vars)
+  pub other_exists : (0 < other.var) × (other.var ≤ vars)
+
+-- the clause of the number watches these literals, if there are any
+pub record IsAttachedTo
+    (cells new_cells : List Cell) (number : ℕ) (watched : Option (Lit × Lit)) : Type 0 where
+  pub as_many : length new_cells ≡ length cells
+  pub others : (n : ℕ) → n ≢ number → cell_of new_cells n ≡ cell_of cells n
+  pub some : (one other : Lit) → watched ≡ Some (one, other) →
+      ((cell_of new_cells number).one.lit ≡ one) × ((cell_of new_cells number).other.lit ≡ other)
+  pub none : watched ≡ None → cell_of new_cells number ≡ cell_of cells number
 
 -- the first clauses are watched, before any entry is there
 pub record IsAttached
