@@ -145,7 +145,7 @@ chosen-both es p n c cell one other once late are chosen turn (inr same) =
     (subst (λ (k : Lit). IsWatched es p n c other k) (sym (ap (λ (t : Cell). t.other.lit) same ∙ are.0)) (chosen-two es p n c other one once late chosen.second))
 
 -- a clause that holds two literals has two
-two-literals : (c : List Lit) (l m : Lit) → l ≢ m → Contains c l → Contains c m → 2 ≤ length c
+pub two-literals : (c : List Lit) (l m : Lit) → l ≢ m → Contains c l → Contains c m → 2 ≤ length c
 two-literals [] l m differ l_among m_among = absurd (omega (arith, l_among.1))
 two-literals (k ∷ []) l m differ l_among m_among = absurd (differ (first l l_among ∙ sym (first m m_among)))
   where

@@ -16,7 +16,7 @@ use Rattle.sat_trail.specs.inner.Storage.{Assigned, StartsWith}
 use Rattle.sat_trail.specs.Trail.{HasTwoOpen, Adds}
 use Rattle.sat_trail.specs.inner.Propagation.{IsKept}
 use Rattle.sat_trail.proofs.StorageLemmas.{last_level-push}
-use Rattle.sat_trail.proofs.NumberLemmas.{Widens, others_keep, added_last}
+use Rattle.sat_trail.proofs.NumberLemmas.{Widens, Widens-push, others_keep, added_last}
 use Rattle.sat_trail.proofs.EntryLemmas.{entry_of-kept, entry_of-member}
 use Rattle.sat_trail.proofs.SettledLemmas.{IsSettled-two, IsSettled-no_false, IsSettled-no_unit}
 use Rattle.sat_trail.specs.declared.watch.Cell.{Cell}
@@ -223,3 +223,16 @@ Adds-push old clause new number grows counted = rw grows (record {
 
     next : number ≡ length old.clauses + 1
     next = counted ∙ ap (λ (s : State). length s.clauses) grows ∙ sym whole
+
+-- a trail with one clause more that is open
+pub IsGrown-add : (clauses : List (List Lit)) (set : Assigned) (level : ℕ) (ready : Bool) (clause : List Lit) → IsGrown (state_of clauses set level ready) → VariablesExist set.vars clause → (level ≡ 0) ⊎ HasTwoOpen (state_of clauses set level ready) clause → IsGrown (state_of (clauses ++ clause ∷ []) set level false)
+IsGrown-add clauses set level ready clause trail exist is_open = record {
+  grown = Grows-add (numbered clauses) clause (numbered (clauses ++ clause ∷ [])) [] set.entries level (Widens-push clauses clause) trail.grown IsTop-none trail.level (open-clause (state_of clauses set level ready) clause is_open);
+  level = trail.level;
+  exist = trail.exist;
+  clauses_exist = λ n c has. elim ((Widens-push clauses clause).only n c has) [
+    | inl before ↦ trail.clauses_exist n c before
+    | inr same ↦ subst (VariablesExist set.vars) same exist
+  ];
+  ready_propagated = λ impossible. cc;
+}

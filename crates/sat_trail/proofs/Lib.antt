@@ -19,3 +19,4 @@ mod TrailLemmas
 mod ChangeLemmas
 mod ChoiceLemmas
 mod AttachLemmas
+mod AdditionLemmas
