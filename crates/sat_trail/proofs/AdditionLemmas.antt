@@ -186,7 +186,7 @@ attached-next vars i n v clauses es item lits cells new heads new_heads watched 
       (spare-unwatched (numbered (take i clauses)) (length (take i clauses)) cells [] p (length (take i clauses) + 1) (omega arith) a.watched)
       (λ few. refl)
       (λ one other some. subst (λ o. IfSome o (λ (pair : Lit × Lit). AreChosen [] 0 item pair.0 pair.1)) some
-          (subst (λ ls. IfSome watched (λ (pair : Lit × Lit). AreChosen [] 0 ls pair.0 pair.1)) same (subst (λ xs. IfSome watched (λ (pair : Lit × Lit). AreChosen xs 0 lits pair.0 pair.1)) empty chosen)))
+      (subst (λ ls. IfSome watched (λ (pair : Lit × Lit). AreChosen [] 0 ls pair.0 pair.1)) same (subst (λ xs. IfSome watched (λ (pair : Lit × Lit). AreChosen xs 0 lits pair.0 pair.1)) empty chosen)))
       (λ missing. subst (λ (o : Option (Lit × Lit)). IfNone o (length item < 2)) missing (subst (λ (ls : List Lit). IfNone watched (length ls < 2)) same none))
       (subst (λ k. IsAttachedTo cells new k watched) (let next : n + 1 ≡ length (take i clauses) + 1 = omega (arith, counted, long) in next) attached) a.watched));
   room = omega (arith, a.room, attached.as_many);

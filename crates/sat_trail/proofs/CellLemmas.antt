@@ -8,7 +8,6 @@ use Rattle.sat_trail.specs.declared.watch.Cell.{Cell}
 use Rattle.sat_trail.specs.inner.Watches.{watch, HasLink, by_one, by_other, Watches, WatchesApart, IsPut, at_one, at_other, IsTurn, KeepsLits}
 use Rattle.sat_trail.proofs.LiteralLemmas.{same_literal}
 
-
 -- a cell with a link watches its literal
 pub HasLink-watches : (cell : Cell) (l : Lit) (next : ℕ) → HasLink cell l next → Watches cell l
 HasLink-watches cell l next (by_one here) = inl (ap (λ (w : Watch). w.lit) here)

@@ -49,9 +49,10 @@ sought-found es level clause kept (Some l) i past sought =
 
 -- if nothing was found
 pub sought-none : (es : List Entry) (level : ℕ) (clause : List Lit) (kept : Lit) (i : ℕ) → length clause ≤ i → IsSought es level clause kept None i → AreClosed es level clause kept
-sought-none es level clause kept i past sought m among other =
-    (PassedFalse-all es clause kept i past sought.fails m among other,
-    sought.closed refl m (subst (λ lits. Contains lits m) (sym (take_all i clause past)) among) other)
+sought-none es level clause kept i past sought m among other = (
+  PassedFalse-all es clause kept i past sought.fails m among other,
+  sought.closed refl m (subst (λ lits. Contains lits m) (sym (take_all i clause past)) among) other,
+)
 
 -- a clause with two open literals is not closed
 pub closed-short : (es : List Entry) (level : ℕ) (clause : List Lit) (kept : Lit) → (2 ≤ length clause → HasOpenTwo es level clause) → AreClosed es level clause kept → length clause < 2

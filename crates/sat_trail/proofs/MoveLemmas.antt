@@ -178,10 +178,12 @@ moving-to vars cells mid new heads mid_heads new_heads l to before number next m
     ap (λ hs. head_of hs to) m.front.heads_set ∙ get_or-set_same mid_heads (rank to) number 0 m.head_within,
     m.number_some,
     subst (λ k. number < k) (sym (moving-many vars cells mid new heads mid_heads new_heads l to before number next m ∙ sym m.relinked.as_many)) m.within,
-    (head_of heads to,
-    put-here (cell_of cells number) l to (head_of heads to) (cell_of new number) (moving-cell vars cells mid new heads mid_heads new_heads l to before number next m),
-    chain-frame cells new to (head_of heads to) listed.list (moving-many vars cells mid new heads mid_heads new_heads l to before number next m)
-    (λ n among j link. moving-links vars cells mid new heads mid_heads new_heads l to before number next m n to j m.differs link) listed.chain),
+    (
+      head_of heads to,
+      put-here (cell_of cells number) l to (head_of heads to) (cell_of new number) (moving-cell vars cells mid new heads mid_heads new_heads l to before number next m),
+      chain-frame cells new to (head_of heads to) listed.list (moving-many vars cells mid new heads mid_heads new_heads l to before number next m)
+          (λ n among j link. moving-links vars cells mid new heads mid_heads new_heads l to before number next m n to j m.differs link) listed.chain,
+    ),
   );
   distinct = (absent, listed.distinct);
   covers = λ n watches. elim (cases_eq number n) [
@@ -258,9 +260,11 @@ before-other cells heads l [] rest before number walk = (
   λ some. absurd (omega (arith, some, walk.last)),
 )
 before-other cells heads l (p ∷ earlier) rest before number walk =
-    let member = before-member cells l (head_of heads l) (p ∷ earlier) number before walk.linked (here_same p earlier before (sym walk.last)) in
-    ((λ is. distinct-apart (p ∷ earlier) (number ∷ rest) number walk.distinct (here_same p earlier number (sym (is ∙ walk.last))) (here number rest)),
-    member.1, λ some. member.2)
+    let member = before-member cells l (head_of heads l) (p ∷ earlier) number before walk.linked (here_same p earlier before (sym walk.last)) in (
+      (λ is. distinct-apart (p ∷ earlier) (number ∷ rest) number walk.distinct (here_same p earlier number (sym (is ∙ walk.last))) (here number rest)),
+      member.1,
+      λ some. member.2,
+    )
 
 -- what a move does to the lists
 pub MovesWatch-moved : (vars : ℕ) (cells mid new : List Cell) (heads mid_heads new_heads : List ℕ) (l to : Lit) (before number next : ℕ) → Walks cells heads l before number → AreOthersListed vars cells heads l → IsNewWatch vars (cell_of cells number) to → rank l < length heads → rank to < length heads → HasLink (cell_of cells number) l next → SetsLink cells mid heads mid_heads l before next → PutsFront mid new mid_heads new_heads l to number → MovesWatch vars cells new heads new_heads l to before number next

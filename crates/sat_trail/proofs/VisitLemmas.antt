@@ -131,9 +131,13 @@ visited-left clauses cells set level head n l turn c lits v has same others = re
 -- if the other watched literal is true, the clause stays
 pub visited-stays : (clauses : List (List Lit)) (cells : List Cell) (heads : List ℕ) (set : Assigned) (level head before n : ℕ) (l : Lit) (turn : Cell) → IsVisited clauses cells set level head n l turn → values_of set.entries turn.other.lit.var ≡ Some turn.other.lit.positive → IsVisit cells cells heads heads set.entries level l before n Stays
 visited-stays clauses cells heads set level head before n l turn v holds = record {
-  stays = λ same. (refl, refl, λ other turns is.
-      subst (λ (k : Lit). IsTrueBy set.entries level k) (sym (visited-same clauses cells set level head n l turn other v turns is))
-      (true-by set.entries level turn.other.lit (CanPropagate-top clauses set level v.fits) holds));
+  stays = λ same. (
+    refl,
+    refl,
+    λ other turns is.
+        subst (λ (k : Lit). IsTrueBy set.entries level k) (sym (visited-same clauses cells set level head n l turn other v turns is))
+        (true-by set.entries level turn.other.lit (CanPropagate-top clauses set level v.fits) holds),
+  );
   moves = λ next same. cc;
   fails = λ same. cc;
 }

@@ -51,8 +51,12 @@ distinct-pairs (n ∷ rest) distinct (suc i) (suc j) d less within = distinct-pa
 -- distinct numbers below one are no more than it
 distinct-few : (list : List ℕ) (n : ℕ) → IsDistinct list → ((k : ℕ) → Contains list k → k < n) → length list ≤ n
 distinct-few list n distinct below =
-    omega (arith, numbers-length n, few_distinct list (numbers n) (distinct-pairs list distinct)
-    (λ i d within. numbers-has n (get_or list i d) (below (get_or list i d) (i, within, get_or_default list i (get_or list i d) d within))))
+    omega (
+      arith,
+      numbers-length n,
+      few_distinct list (numbers n) (distinct-pairs list distinct)
+          (λ i d within. numbers-has n (get_or list i d) (below (get_or list i d) (i, within, get_or_default list i (get_or list i d) d within))),
+    )
 
 -- the walk has come to a number, after some turns of the loop
 pub record IsWalking (clauses : List (List Lit)) (old now : Assigned) (cells : List Cell) (heads : List ℕ) (level position : ℕ) (l : Lit) (before number count : ℕ) : Type 0 where

@@ -10,8 +10,8 @@ ghost use Rattle.sat_trail.specs.inner.Attach.{IsAttached};
 ghost use Rattle.sat_trail.specs.inner.Watches.{blank};
 ghost use Rattle.sat_trail.specs.Trail.{IsTrail, IsStart, Adds, HasTwoOpen, Propagates};
 
-use super::entry::Entry;
 use super::clause_store::ClauseStore;
+use super::entry::Entry;
 use super::propagation::{examine_new, propagate_entries};
 use super::set_literals::Entries;
 use super::watch_choice::choose;

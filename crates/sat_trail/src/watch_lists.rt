@@ -74,8 +74,8 @@ impl WatchLists {
         requires within { number < length self.old.cells.items }
         ensures cells { let heads = self.old.heads.items in
             let cell : SpecCell = record {
-            one = watch one (head_of heads one);
-            other = watch other (head_of heads other);
+              one = watch one (head_of heads one);
+              other = watch other (head_of heads other);
             } in
             self.new.cells.items ≡ slice_set self.old.cells.items number cell }
         ensures heads { let heads = slice_set self.old.heads.items (rank one) number in
