@@ -16,7 +16,8 @@ use Rattle.bspl_types.specs.Expansion.{message_of}
 use Rattle.bspl_types.specs.History.{history_of, instance_of, role_of}
 use Rattle.bspl_types.specs.Knowledge.{CanEmit}
 use Rattle.played_runs.specs.Laws.{HistoriesPlay, HistoriesSettle, OrdersAreOwn, PlayedGrows}
-use Rattle.played_runs.specs.Played.{IsPassed, IsPlayed, WasEmitted}
+use Rattle.enactment_model.specs.Liveness.{IsEmitted}
+use Rattle.played_runs.specs.Played.{IsPassed, IsPlayed}
 use Rattle.played_runs.specs.Rules.{Rules}
 
 -- an event is in its role's history
@@ -42,7 +43,7 @@ history_again : (x : Expanded) (role : ℕ) (run : List Event) → history_of x 
 history_again x role run = all_kept (λ e. role_of x e == role) (history_of x role run) (filter_passes (λ e. role_of x e == role) run)
 
 -- what the role emitted stands in its history, and the other way round
-emitted_own : (x : Expanded) (run : List Event) (m : ℕ) (key : List Value) → WasEmitted run m key → WasEmitted (history_of x (message_of x m).sender run) m key
+emitted_own : (x : Expanded) (run : List Event) (m : ℕ) (key : List Value) → IsEmitted run key m → IsEmitted (history_of x (message_of x m).sender run) key m
 emitted_own x run m key was =
     record {
       instance = was.instance;
@@ -51,7 +52,7 @@ emitted_own x run m key was =
       under = was.under;
     }
 
-emitted_any : (x : Expanded) (role : ℕ) (run : List Event) (m : ℕ) (key : List Value) → WasEmitted (history_of x role run) m key → WasEmitted run m key
+emitted_any : (x : Expanded) (role : ℕ) (run : List Event) (m : ℕ) (key : List Value) → IsEmitted (history_of x role run) key m → IsEmitted run key m
 emitted_any x role run m key was =
     record {
       instance = was.instance;

@@ -11,26 +11,20 @@ use Rattle.bspl_types.specs.Expansion.{message_of}
 use Rattle.bspl_types.specs.History.{history_of, instance_of}
 use Rattle.bspl_types.specs.Instance.{Carries}
 use Rattle.bspl_types.specs.Knowledge.{CanEmit}
+use Rattle.enactment_model.specs.Liveness.{IsEmitted}
 use Rattle.played_runs.specs.Rules.{IsNumber, Rules, TriesBefore}
-
--- an instance of the message under the key was emitted
-pub record WasEmitted (events : List Event) (m : ℕ) (key : List Value) : Type 0 where
-  pub instance : Instance
-  pub emitted : Contains events (Emit instance)
-  pub message_is : instance.message ≡ m
-  pub under : instance.key ≡ key
 
 -- the message was declined, was emitted before, or could not be emitted
 abbrev pub IsPassed : Expanded → Rules → List Event → ℕ → ℕ → List Value → Type 0
 IsPassed x rules before m n key =
-    (rules.declines m n ≡ true) ⊎ (WasEmitted before m key ⊎
+    (rules.declines m n ≡ true) ⊎ (IsEmitted before key m ⊎
     (¬ CanEmit x (history_of x (message_of x m).sender before) m key))
 
 -- the agent emits the first message that it may, with the values of its rules, and once
 pub record IsChosen (x : Expanded) (rules : Rules) (before : List Event) (i : Instance)
     : Type 0 where
   pub accepted : (n : ℕ) → IsNumber rules n i.key → rules.declines i.message n ≡ false
-  pub first : ¬ WasEmitted before i.message i.key
+  pub first : ¬ IsEmitted before i.key i.message
   pub values : (n p : ℕ) (v : Value) → IsNumber rules n i.key → Carries x i Out p v →
       ¬ Contains x.keys p → v ≡ rules.value i.message p n
   pub passed : (n m : ℕ) → IsNumber rules n i.key →

@@ -9,7 +9,7 @@ use Rattle.bspl_types.specs.declared.value.Value.{Value}
 use Rattle.bspl_types.specs.Expansion.{message_of}
 use Rattle.bspl_types.specs.History.{history_of}
 use Rattle.bspl_types.specs.Knowledge.{CanEmit}
-use Rattle.played_runs.specs.Played.{WasEmitted}
+use Rattle.enactment_model.specs.Liveness.{IsEmitted}
 use Rattle.played_runs.specs.Rules.{IsNumber, Rules}
 
 -- what is emitted and not lost is received; what is not declined and not emitted cannot be emitted
@@ -17,7 +17,7 @@ pub record Settled (x : Expanded) (rules : Rules) (run : List Event) : Type 0 wh
   pub delivered : (n : ℕ) (i : Instance) → IsNumber rules n i.key → Contains run (Emit i) →
       rules.loses i.message n ≡ false → Contains run (Receive i)
   pub exhausted : (n m : ℕ) (key : List Value) → IsNumber rules n key →
-      rules.declines m n ≡ false → ¬ WasEmitted run m key →
+      rules.declines m n ≡ false → ¬ IsEmitted run key m →
       ¬ CanEmit x (history_of x (message_of x m).sender run) m key
 
 -- the same, by the senders' and the receivers' own histories
@@ -28,5 +28,5 @@ pub record HistoriesSettled (x : Expanded) (rules : Rules) (history : ℕ → Li
       rules.loses i.message n ≡ false →
       Contains (history (message_of x i.message).receiver) (Receive i)
   pub exhausted : (n m : ℕ) (key : List Value) → IsNumber rules n key →
-      rules.declines m n ≡ false → ¬ WasEmitted (history (message_of x m).sender) m key →
+      rules.declines m n ≡ false → ¬ IsEmitted (history (message_of x m).sender) key m →
       ¬ CanEmit x (history (message_of x m).sender) m key
