@@ -1,7 +1,7 @@
 -- The parts of a trail with one clause more, and those of a new trail.
-use Rattle.std.proofs.Common.{◌≡◌, ◌≢◌, ℕ, zero, suc, ◌+◌, ◌*◌, ◌<◌, ◌≤◌, Bool, false, Option, Some, None, IfSome, IfNone, List, [], ◌∷◌, ◌++◌, ◌⊎◌, inl, inr, length, take, get_or, replicate, sym, ap, refl, ◌∙◌, subst, arith, All, AllPairs, Contains, length-append}
+use Rattle.std.proofs.Common.{◌≡◌, ℕ, zero, suc, ◌+◌, ◌*◌, ◌<◌, ◌≤◌, Bool, false, Option, Some, None, IfSome, IfNone, List, [], ◌∷◌, ◌++◌, ◌⊎◌, inl, inr, length, take, get_or, replicate, sym, ap, refl, ◌∙◌, subst, arith, All, length-append}
 use Rattle.std.proofs.lemmas.List.{take_more, take_all, length-take-le}
-use Rattle.list_base.proofs.Members.{here, there, nowhere}
+use Rattle.list_base.proofs.Members.{here}
 use Rattle.clause_core.specs.declared.literal.Lit.{Lit}
 use Rattle.clause_core.specs.declared.formula.Formula.{Formula}
 use Rattle.clause_core.specs.Literal.{rank}
@@ -9,15 +9,15 @@ use Rattle.clause_core.specs.Clause.{IsAscending, VariablesExist}
 use Rattle.clause_core.specs.Numbering.{Numbering, numbered, HasNumber}
 use Rattle.sat_trail.specs.declared.entry.Entry.{Entry}
 use Rattle.sat_trail.specs.declared.watch.Cell.{Cell}
-use Rattle.sat_trail.specs.Entry.{values_of, last_level}
+use Rattle.sat_trail.specs.Entry.{last_level}
 use Rattle.sat_trail.specs.State.{State}
-use Rattle.sat_trail.specs.Trail.{HasTwoOpen, IsStart}
-use Rattle.sat_trail.specs.inner.Attach.{HasOpenTwo, AreChosen, IsAttached, IsAttachedTo, IsUnwatched, ArePair}
+use Rattle.sat_trail.specs.Trail.{HasTwoOpen}
+use Rattle.sat_trail.specs.inner.Attach.{HasOpenTwo, AreChosen, IsAttached, IsAttachedTo, IsUnwatched}
 use Rattle.sat_trail.specs.inner.Excuse.{Progress, WatchesTwo, WatchesNone, AreWatched}
 use Rattle.sat_trail.specs.inner.Growth.{Grows, IsGrown}
-use Rattle.sat_trail.specs.inner.Propagation.{HasWatches, IsKept, state_of}
+use Rattle.sat_trail.specs.inner.Propagation.{IsKept, state_of}
 use Rattle.sat_trail.specs.inner.Storage.{Assigned}
-use Rattle.sat_trail.specs.inner.Watches.{blank, cell_of, head_of, HasLink, Watches, WatchesApart, IsChain, IsListed, AreLinked, ReservesCells}
+use Rattle.sat_trail.specs.inner.Watches.{blank, cell_of, head_of, HasLink, Watches, WatchesApart, IsChain, AreLinked, ReservesCells}
 use Rattle.sat_trail.proofs.AttachLemmas.{AreWatched-add, open-low, spare-unwatched, two-literals}
 use Rattle.sat_trail.proofs.ChangeLemmas.{IsGrown-add}
 use Rattle.sat_trail.proofs.LevelLemmas.{IsTop-grown, IsTop-none}

@@ -1,7 +1,7 @@
 -- A new clause is put into the lists of two literals.
-use Rattle.std.proofs.Common.{◌≡◌, ◌≢◌, ℕ, zero, suc, ◌+◌, ◌*◌, ◌<◌, ◌≤◌, Option, Some, None, IfSome, IfNone, List, [], ◌∷◌, ◌++◌, ◌⊎◌, inl, inr, length, get_or, set, sym, ap, refl, ◌∙◌, subst, arith, All, Contains, length-set, length-append, get_or-set_same, get_or-set_other}
+use Rattle.std.proofs.Common.{◌≡◌, ◌≢◌, ℕ, ◌+◌, ◌<◌, ◌≤◌, Option, Some, None, IfSome, List, [], ◌∷◌, ◌++◌, inl, inr, length, get_or, set, sym, ap, refl, ◌∙◌, subst, arith, All, Contains, length-set, get_or-set_same, get_or-set_other}
 use Rattle.std.proofs.lemmas.Bool.{cases_eq}
-use Rattle.std.proofs.lemmas.List.Elements.{All-contains, Contains-get_or}
+use Rattle.std.proofs.lemmas.List.Elements.{All-contains}
 use Rattle.list_base.proofs.Members.{here_same, there}
 use Rattle.clause_core.specs.declared.literal.Lit.{Lit}
 use Rattle.clause_core.specs.Literal.{rank}
@@ -12,12 +12,12 @@ use Rattle.sat_trail.specs.declared.watch.Cell.{Cell}
 use Rattle.sat_trail.specs.Entry.{entry_of}
 use Rattle.sat_trail.specs.inner.Attach.{IsOpenAt, HasOpenTwo, MayWatch, AreChosen, IsUnwatched, ArePair, IsAttachedTo}
 use Rattle.sat_trail.specs.inner.Excuse.{Progress, is_new, IsWatched, WatchesTwo, WatchesNone, AreWatched}
-use Rattle.sat_trail.specs.inner.Watches.{blank, cell_of, watch, HasLink, by_one, by_other, Watches, WatchesApart, head_of, IsChain, IsListed, AreLinked, IsTurn}
+use Rattle.sat_trail.specs.inner.Watches.{blank, cell_of, watch, HasLink, by_one, by_other, Watches, WatchesApart, head_of, IsChain, IsListed, AreLinked}
 use Rattle.sat_trail.proofs.LiteralLemmas.{cases_literal}
 use Rattle.sat_trail.proofs.CellLemmas.{rank-only, rank-within}
 use Rattle.sat_trail.proofs.ChainLemmas.{chain-frame, chain-member}
 use Rattle.sat_trail.proofs.EntryLemmas.{entry_of-member}
-use Rattle.sat_trail.proofs.NumberLemmas.{others_keep, added_last, number_within}
+use Rattle.sat_trail.proofs.NumberLemmas.{others_keep, added_last}
 use Rattle.sat_trail.proofs.ValueLemmas.{IsOnce, at-among, entry_of-among, value-false}
 
 -- the cell and the heads of a clause that is put into two lists

@@ -1,9 +1,9 @@
 -- Numbers that are linked one after the other, and the walk along them.
-use Rattle.std.proofs.Common.{◌≡◌, ◌≢◌, ℕ, ◌<◌, ◌≤◌, List, [], ◌∷◌, ◌⊎◌, inl, inr, length, get_or, sym, ap, refl, ◌∙◌, subst, arith, Contains}
+use Rattle.std.proofs.Common.{◌≡◌, ◌≢◌, ℕ, ◌<◌, List, [], ◌∷◌, ◌⊎◌, inl, inr, length, sym, ap, refl, subst, arith, Contains}
 use Rattle.list_base.proofs.Members.{here, here_same, there, nowhere, cons_cases}
 use Rattle.clause_core.specs.declared.literal.Lit.{Lit}
 use Rattle.sat_trail.specs.declared.watch.Cell.{Cell}
-use Rattle.sat_trail.specs.inner.Watches.{cell_of, HasLink, Watches, WatchesApart, head_of, IsChain, IsBefore, IsDistinct, joined, last_of, IsListed}
+use Rattle.sat_trail.specs.inner.Watches.{cell_of, HasLink, Watches, head_of, IsChain, IsBefore, IsDistinct, joined, IsListed}
 use Rattle.sat_trail.specs.inner.Walk.{IsWalk}
 use Rattle.sat_trail.proofs.CellLemmas.{HasLink-watches, link-only}
 

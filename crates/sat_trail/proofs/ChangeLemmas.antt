@@ -1,5 +1,5 @@
 -- What a decision, a new clause and a way back keep of a trail.
-use Rattle.std.proofs.Common.{◌≡◌, ◌≢◌, ℕ, zero, suc, ◌+◌, ◌<◌, ◌≤◌, Bool, false, Option, Some, None, option_map, IfSome, IsTrue, List, [], ◌∷◌, ◌++◌, ◌⊎◌, inl, inr, length, take, get_or, sym, ap, refl, ◌∙◌, subst, append-nil, arith, All, Contains, length-append}
+use Rattle.std.proofs.Common.{◌≡◌, ◌≢◌, ℕ, zero, suc, ◌+◌, ◌<◌, ◌≤◌, Bool, false, Option, Some, None, option_map, IfSome, IsTrue, List, [], ◌∷◌, ◌++◌, ◌⊎◌, inl, inr, length, get_or, sym, ap, refl, ◌∙◌, subst, append-nil, arith, All, Contains, length-append}
 use Rattle.std.proofs.lemmas.List.Elements.{All-contains, All-head, All-push}
 use Rattle.std.proofs.lemmas.List.{get_or_append_left}
 use Rattle.clause_core.specs.declared.literal.Lit.{Lit}

@@ -1,10 +1,10 @@
 -- What a forced literal does to the entries.
-use Rattle.std.proofs.Common.{◌≡◌, ◌≢◌, ℕ, ◌+◌, ◌<◌, ◌≤◌, Bool, true, false, not, Option, Some, None, IfSome, IfNone, List, [], ◌∷◌, ◌++◌, inl, inr, length, take, get_or, sym, ap, refl, ◌∙◌, subst, arith, All, Contains}
+use Rattle.std.proofs.Common.{◌≡◌, ◌≢◌, ℕ, ◌+◌, ◌<◌, ◌≤◌, Bool, not, Option, Some, None, List, [], ◌∷◌, ◌++◌, inl, inr, length, take, get_or, sym, ap, refl, ◌∙◌, subst, arith, Contains}
 use Rattle.std.proofs.lemmas.List.{take_more, take_all}
-use Rattle.std.proofs.lemmas.List.Elements.{All-more, All-contains, Contains-push, Contains-push_cases, Contains-append_left, Contains-get_or}
+use Rattle.std.proofs.lemmas.List.Elements.{Contains-push, Contains-push_cases, Contains-get_or}
 use Rattle.clause_core.specs.declared.literal.Lit.{Lit}
-use Rattle.clause_core.specs.Numbering.{numbered, HasNumber}
-use Rattle.clause_core.specs.Propagation.{MakesFalse, OthersFalse, LeavesOnly, Falsifies, IsFalsified}
+use Rattle.clause_core.specs.Numbering.{numbered}
+use Rattle.clause_core.specs.Propagation.{MakesFalse, OthersFalse, LeavesOnly, IsFalsified}
 use Rattle.sat_trail.specs.declared.entry.Entry.{Entry}
 use Rattle.sat_trail.specs.Entry.{values_of}
 use Rattle.sat_trail.specs.inner.Excuse.{IsTrueBy}

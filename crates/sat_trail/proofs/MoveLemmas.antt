@@ -1,10 +1,9 @@
 -- A clause leaves the list of one literal and becomes the first of another's.
-use Rattle.std.proofs.Common.{◌≡◌, ◌≢◌, ℕ, ◌+◌, ◌*◌, ◌<◌, ◌≤◌, List, [], ◌∷◌, ◌⊎◌, inl, inr, length, get_or, set, sym, ap, refl, ◌∙◌, subst, arith, Contains, length-set, get_or-set_same, get_or-set_other}
+use Rattle.std.proofs.Common.{◌≡◌, ◌≢◌, ℕ, ◌<◌, List, [], ◌∷◌, inl, inr, length, set, sym, ap, refl, ◌∙◌, subst, arith, Contains, length-set, get_or-set_same, get_or-set_other}
 use Rattle.std.proofs.lemmas.Bool.{cases_eq}
-use Rattle.list_base.proofs.Members.{here, here_same, there, nowhere, cons_cases}
+use Rattle.list_base.proofs.Members.{here, here_same, there, cons_cases}
 use Rattle.clause_core.specs.declared.literal.Lit.{Lit}
 use Rattle.clause_core.specs.Literal.{rank}
-use Rattle.sat_trail.specs.declared.watch.Watch.{Watch}
 use Rattle.sat_trail.specs.declared.watch.Cell.{Cell}
 use Rattle.sat_trail.specs.inner.Watches.{blank, cell_of, watch, HasLink, Watches, WatchesApart, IsPut, head_of, IsChain, IsBefore, IsDistinct, joined, last_of, IsListed, KeepsLits}
 use Rattle.sat_trail.specs.inner.Walk.{IsWalk, AreOthersListed, SetsLink, at_head, at_cell, PutsFront, MovesWatch, Walks, IsNewWatch}

@@ -1,19 +1,17 @@
 -- What clauses watch after one of them left the list of a false literal.
-use Rattle.std.proofs.Common.{◌≡◌, ◌≢◌, ℕ, ◌+◌, ◌<◌, ◌≤◌, Bool, not, Option, Some, None, List, ◌⊎◌, inl, inr, length, slice_get, sym, ap, refl, ◌∙◌, subst, arith, Contains}
-use Rattle.std.proofs.lemmas.Bool.{cases_eq, cases_lt}
+use Rattle.std.proofs.Common.{◌≡◌, ◌≢◌, ℕ, ◌<◌, ◌≤◌, Some, List, inl, inr, sym, ap, refl, ◌∙◌, subst, arith, Contains}
+use Rattle.std.proofs.lemmas.Bool.{cases_eq}
 use Rattle.clause_core.specs.declared.literal.Lit.{Lit}
-use Rattle.clause_core.specs.Literal.{negated}
 use Rattle.clause_core.specs.Numbering.{Numbering, HasNumber}
 use Rattle.clause_core.specs.Propagation.{MakesFalse}
 use Rattle.sat_trail.specs.declared.entry.Entry.{Entry}
-use Rattle.sat_trail.specs.declared.watch.Watch.{Watch}
 use Rattle.sat_trail.specs.declared.watch.Cell.{Cell}
 use Rattle.sat_trail.specs.Entry.{values_of}
-use Rattle.sat_trail.specs.inner.Excuse.{Progress, IsTrueBy, IsExcused, is_satisfied, is_waiting, is_new, IsWatched, WatchesTwo, WatchesNone, AreWatched}
+use Rattle.sat_trail.specs.inner.Excuse.{Progress, IsExcused, is_satisfied, is_waiting, is_new, IsWatched, WatchesTwo, AreWatched}
 use Rattle.sat_trail.specs.inner.Visit.{IsFalseAt}
 use Rattle.sat_trail.specs.inner.Walk.{MovesWatch}
 use Rattle.sat_trail.specs.inner.Watches.{cell_of, watch, IsPut, at_one, at_other, IsTurn, Watches, KeepsLits}
-use Rattle.sat_trail.proofs.CellLemmas.{put-watched, KeepsLits-watches}
+use Rattle.sat_trail.proofs.CellLemmas.{KeepsLits-watches}
 use Rattle.sat_trail.proofs.SettledLemmas.{true-false}
 use Rattle.sat_trail.proofs.ValueLemmas.{IsOnce, value-by, value-false}
 

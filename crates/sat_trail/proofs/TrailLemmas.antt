@@ -3,7 +3,6 @@ use Rattle.std.proofs.Common.{◌≡◌, ℕ, ◌+◌, ◌<◌, ◌≤◌, Bool,
 use Rattle.std.proofs.lemmas.List.Elements.{All-append}
 use Rattle.clause_core.specs.declared.literal.Lit.{Lit}
 use Rattle.clause_core.specs.Propagation.{IsPropagated}
-use Rattle.sat_trail.specs.declared.entry.Entry.{Entry}
 use Rattle.sat_trail.specs.Entry.{values_of}
 use Rattle.clause_core.specs.Numbering.{numbered}
 use Rattle.sat_trail.specs.inner.Growth.{Grows, IsGrown}
@@ -15,7 +14,6 @@ use Rattle.sat_trail.proofs.LiteralLemmas.{not-not}
 use Rattle.sat_trail.proofs.GrowthLemmas.{Grows-append}
 use Rattle.sat_trail.specs.declared.watch.Cell.{Cell}
 use Rattle.sat_trail.specs.inner.Watches.{AreLinked}
-use Rattle.clause_core.specs.Clause.{VariablesExist}
 use Rattle.sat_trail.proofs.GrowthLemmas.{CanPropagate-once, CanPropagate-extends, Extends-more, number-last}
 use Rattle.sat_trail.proofs.WatchedLemmas.{AreWatched-propagated}
 

@@ -1,5 +1,5 @@
 -- Entries at their indices, and the values that they give.
-use Rattle.std.proofs.Common.{◌≡◌, ◌≢◌, ℕ, suc, ◌+◌, ◌<◌, ◌≤◌, Bool, not, Option, Some, None, option_map, List, [], ◌∷◌, ◌++◌, ◌⊎◌, inl, inr, length, get_or, slice_get, sym, ap, refl, ◌∙◌, subst, arith, AllPairs, Contains, length-append}
+use Rattle.std.proofs.Common.{◌≡◌, ◌≢◌, ℕ, suc, ◌<◌, Bool, not, Option, Some, None, option_map, List, [], ◌∷◌, ◌++◌, ◌⊎◌, inl, inr, length, slice_get, sym, ap, refl, ◌∙◌, subst, arith, AllPairs, Contains, length-append}
 use Rattle.std.proofs.lemmas.Bool.{cases_lt, eq-eqb, ne_eqb}
 use Rattle.std.proofs.lemmas.List.{get_or_append_left, get_or_push}
 use Rattle.std.proofs.lemmas.List.Elements.{Contains-append_left}
@@ -11,7 +11,6 @@ use Rattle.clause_core.specs.Propagation.{MakesFalse, OthersFalse}
 use Rattle.sat_trail.specs.declared.entry.Entry.{Entry}
 use Rattle.sat_trail.specs.Entry.{entry_of, values_of}
 use Rattle.sat_trail.specs.inner.Excuse.{IsTrueBy}
-use Rattle.sat_trail.specs.inner.Visit.{IsFalseAt}
 use Rattle.sat_trail.proofs.EntryLemmas.{entry_of-kept, entry_of-member, entry_of-variable}
 use Rattle.sat_trail.proofs.LiteralLemmas.{same_literal, not-not}
 

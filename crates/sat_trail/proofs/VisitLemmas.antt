@@ -1,19 +1,18 @@
 -- What a visit of one clause knows of it.
-use Rattle.std.proofs.Common.{◌≡◌, ◌≢◌, ℕ, suc, ◌+◌, ◌-◌, ◌<◌, ◌≤◌, Some, List, [], ◌∷◌, ◌⊎◌, inl, inr, length, get_or, sym, ap, refl, ◌∙◌, subst, arith, All, Contains}
+use Rattle.std.proofs.Common.{◌≡◌, ◌≢◌, ℕ, ◌+◌, ◌-◌, ◌<◌, ◌≤◌, Some, List, [], ◌⊎◌, inl, inr, length, get_or, sym, ap, refl, ◌∙◌, subst, arith, Contains}
 use Rattle.clause_core.specs.declared.literal.Lit.{Lit}
 use Rattle.clause_core.specs.Clause.{VariablesExist}
 use Rattle.clause_core.specs.Numbering.{numbered, HasNumber}
 use Rattle.clause_core.specs.Propagation.{MakesFalse, OthersFalse}
-use Rattle.sat_trail.specs.declared.propagation.Visit.{Visit}
-use Rattle.sat_trail.specs.declared.propagation.Visit.TheVariants.{Stays, Moves, Fails}
+use Rattle.sat_trail.specs.declared.propagation.Visit.TheVariants.{Stays}
 use Rattle.sat_trail.specs.declared.watch.Cell.{Cell}
 use Rattle.sat_trail.specs.Entry.{values_of}
-use Rattle.sat_trail.specs.inner.Excuse.{IsTrueBy, IsWatched}
+use Rattle.sat_trail.specs.inner.Excuse.{IsTrueBy}
 use Rattle.sat_trail.specs.inner.Propagation.{CanPropagate, HasWatches}
 use Rattle.sat_trail.specs.inner.Storage.{Assigned}
 use Rattle.sat_trail.specs.inner.Visit.{IsFalseAt, IsLastLeft, IsVisit}
 use Rattle.sat_trail.specs.inner.Walk.{IsNewWatch}
-use Rattle.sat_trail.specs.inner.Watches.{cell_of, IsTurn, Watches, WatchesApart, KeepsLits}
+use Rattle.sat_trail.specs.inner.Watches.{cell_of, IsTurn, Watches, KeepsLits}
 use Rattle.sat_trail.proofs.CellLemmas.{HasLink-watches, link-turn}
 use Rattle.sat_trail.proofs.GrowthLemmas.{CanPropagate-exists, CanPropagate-once, CanPropagate-top, watched-number, watched-two}
 use Rattle.sat_trail.proofs.MovedLemmas.{IsReplaced}

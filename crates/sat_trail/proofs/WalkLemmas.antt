@@ -1,8 +1,8 @@
 -- What a walk along the list of a false literal keeps.
-use Rattle.std.proofs.Common.{◌≡◌, ◌≢◌, ℕ, zero, suc, ◌+◌, ◌*◌, ◌<◌, ◌≤◌, List, [], ◌∷◌, ◌⊎◌, inl, inr, length, get_or, slice_get, Some, sym, ap, refl, ◌∙◌, subst, arith, All, AllPairs, Contains}
+use Rattle.std.proofs.Common.{◌≡◌, ◌≢◌, ℕ, zero, suc, ◌+◌, ◌*◌, ◌<◌, ◌≤◌, List, [], ◌∷◌, inl, inr, length, get_or, slice_get, Some, sym, ap, refl, ◌∙◌, subst, arith, AllPairs, Contains}
 use Rattle.std.proofs.lemmas.Bool.{cases_eq}
 use Rattle.std.proofs.lemmas.List.{get_or_default}
-use Rattle.list_base.proofs.Members.{here, here_same, there, nowhere, cons_cases}
+use Rattle.list_base.proofs.Members.{here_same, there, nowhere, cons_cases}
 use Rattle.list_base.proofs.Pigeonhole.{few_distinct}
 use Rattle.clause_core.specs.declared.literal.Lit.{Lit}
 use Rattle.clause_core.specs.Numbering.{numbered}
@@ -13,8 +13,8 @@ use Rattle.sat_trail.specs.inner.Storage.{Assigned}
 use Rattle.sat_trail.specs.declared.propagation.Visit.TheVariants.{Stays, Moves, Fails}
 use Rattle.sat_trail.specs.inner.Visit.{IsFalseAt, IsVisit, KeepsLengths}
 use Rattle.sat_trail.specs.inner.Walk.{IsWalk, AreOthersListed, Walks}
-use Rattle.sat_trail.specs.inner.Watches.{cell_of, IsTurn, HasLink, Watches, KeepsLits, head_of, IsDistinct, joined, IsListed, AreLinked}
-use Rattle.sat_trail.proofs.ChainLemmas.{joined-cases, distinct-right, distinct-apart, chain-member, walk-start, walk-end, walk-member, walk-stays, walk-next, walk-none}
+use Rattle.sat_trail.specs.inner.Watches.{cell_of, IsTurn, HasLink, Watches, KeepsLits, head_of, IsDistinct, IsListed, AreLinked}
+use Rattle.sat_trail.proofs.ChainLemmas.{joined-cases, distinct-apart, chain-member, walk-start, walk-end, walk-member, walk-stays, walk-next, walk-none}
 use Rattle.sat_trail.proofs.GrowthLemmas.{Runs, Runs-none, Runs-more}
 use Rattle.sat_trail.proofs.LiteralLemmas.{cases_literal}
 use Rattle.sat_trail.proofs.ValueLemmas.{IsTrueBy-more, at-left}

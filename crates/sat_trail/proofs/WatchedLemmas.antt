@@ -1,5 +1,5 @@
 -- What clauses watch, as entries come and go.
-use Rattle.std.proofs.Common.{◌≡◌, ◌≢◌, ℕ, suc, ◌+◌, ◌<◌, ◌≤◌, Bool, not, Option, Some, None, List, [], ◌∷◌, ◌++◌, ◌⊎◌, inl, inr, length, get_or, slice_get, sym, ap, refl, ◌∙◌, subst, arith, append-nil, All, Contains, length-append}
+use Rattle.std.proofs.Common.{◌≡◌, ℕ, ◌+◌, ◌<◌, ◌≤◌, Bool, Option, Some, None, List, [], ◌∷◌, ◌++◌, ◌⊎◌, inl, inr, length, get_or, slice_get, sym, ap, refl, ◌∙◌, subst, arith, append-nil, All, Contains, length-append}
 use Rattle.std.proofs.lemmas.Bool.{cases_eq, cases_lt}
 use Rattle.std.proofs.lemmas.List.Elements.{All-contains, All-head, All-tail, Contains-append_cases}
 use Rattle.std.proofs.lemmas.Option.{slice_get_within}
@@ -7,18 +7,18 @@ use Rattle.list_base.proofs.Members.{nowhere}
 use Rattle.clause_core.specs.declared.literal.Lit.{Lit}
 use Rattle.clause_core.specs.Literal.{negated}
 use Rattle.clause_core.specs.Numbering.{Numbering, HasNumber}
-use Rattle.clause_core.specs.Propagation.{MakesFalse, OthersFalse, IsPropagated}
+use Rattle.clause_core.specs.Propagation.{IsPropagated}
 use Rattle.sat_trail.specs.declared.entry.Entry.{Entry}
 use Rattle.sat_trail.specs.declared.watch.Cell.{Cell}
 use Rattle.sat_trail.specs.Entry.{values_of}
 use Rattle.sat_trail.specs.inner.Examination.{IsSettled}
 use Rattle.sat_trail.specs.inner.Excuse.{Progress, IsTrueBy, IsExcused, is_satisfied, is_waiting, is_new, IsWatched, WatchesTwo, WatchesNone, AreWatched}
 use Rattle.sat_trail.specs.inner.Visit.{IsFalseAt}
-use Rattle.sat_trail.specs.inner.Watches.{cell_of, IsTurn, Watches}
+use Rattle.sat_trail.specs.inner.Watches.{cell_of, IsTurn}
 use Rattle.sat_trail.proofs.LevelLemmas.{moved}
 use Rattle.sat_trail.proofs.LiteralLemmas.{cases_bool}
 use Rattle.sat_trail.proofs.SettledLemmas.{IsSettled-true, IsSettled-two, IsSettled-no_false, IsSettled-no_unit}
-use Rattle.sat_trail.proofs.ValueLemmas.{at-left, at-push, at-among, among-at, IsOnce, value-by, value-false, true-entry, false-entry, IsTrueBy-more, OthersFalse-more}
+use Rattle.sat_trail.proofs.ValueLemmas.{at-left, at-push, at-among, among-at, IsOnce, value-by, true-entry, false-entry, IsTrueBy-more, OthersFalse-more}
 
 -- an excuse lasts while entries come
 excused-push : (es : List Entry) (d : Entry) (p : Progress) (n : ℕ) (c : List Lit) (other : Lit) (i : ℕ) (e : Entry) → IsExcused es p n c other i e → IsExcused (es ++ d ∷ []) p n c other i e

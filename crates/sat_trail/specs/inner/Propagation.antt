@@ -1,13 +1,13 @@
 -- What the steps of unit propagation add to the entries, and what a trail keeps of its parts.
-use Rattle.std.specs.Prelude.{◌≡◌, ℕ, ◌+◌, ◌<◌, ◌≤◌, IsTrue, IsSome, Bool, List, [], ◌++◌, length, All}
+use Rattle.std.specs.Prelude.{◌≡◌, ℕ, ◌<◌, ◌≤◌, IsTrue, IsSome, Bool, List, [], ◌++◌, length, All}
 use Rattle.clause_core.specs.declared.literal.Lit.{Lit}
 use Rattle.clause_core.specs.Clause.{VariablesExist}
 use Rattle.clause_core.specs.Numbering.{numbered}
 use Rattle.sat_trail.specs.declared.entry.Entry.{Entry}
 use Rattle.sat_trail.specs.declared.watch.Cell.{Cell}
-use Rattle.sat_trail.specs.Entry.{values_of, last_level}
+use Rattle.sat_trail.specs.Entry.{last_level}
 use Rattle.sat_trail.specs.State.{State}
-use Rattle.sat_trail.specs.inner.Excuse.{Progress, AreWatched}
+use Rattle.sat_trail.specs.inner.Excuse.{AreWatched}
 use Rattle.sat_trail.specs.inner.Growth.{Grows, IsGrown}
 use Rattle.sat_trail.specs.inner.Storage.{Assigned}
 use Rattle.sat_trail.specs.inner.Watches.{AreLinked}

@@ -3,7 +3,7 @@ use Rattle.std.specs.Prelude.{◌≡◌, ◌≢◌, ℕ, Some, List, ◌∷◌, 
 use Rattle.clause_core.specs.declared.literal.Lit.{Lit}
 use Rattle.clause_core.specs.Literal.{negated}
 use Rattle.clause_core.specs.Numbering.{numbered, HasNumber}
-use Rattle.clause_core.specs.Propagation.{OthersFalse, IsFalsified}
+use Rattle.clause_core.specs.Propagation.{OthersFalse}
 use Rattle.sat_trail.specs.declared.entry.Entry.{Entry}
 use Rattle.sat_trail.specs.declared.propagation.Visit.{Visit}
 use Rattle.sat_trail.specs.declared.propagation.Visit.TheVariants.{Stays, Moves, Fails}

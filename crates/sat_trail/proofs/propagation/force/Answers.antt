@@ -1,5 +1,5 @@
 -- The last literal that is left is set, unless it is false.
-use Rattle.std.proofs.Common.{◌≡◌, None, sym, ◌∙◌, subst, false}
+use Rattle.std.proofs.Common.{◌≡◌, None, sym, ◌∙◌}
 use Rattle.std.proofs.lemmas.Bool.{false≢true}
 use Rattle.sat_trail.specs.Entry.{values_of}
 use Rattle.sat_trail.proofs.ForceLemmas.{value-none, Extends-last, IsTrueBy-last}

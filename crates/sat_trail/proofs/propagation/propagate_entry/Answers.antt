@@ -1,11 +1,9 @@
 -- The walk goes over the clauses that watch the literal, one after the other.
-use Rattle.std.proofs.Common.{◌≡◌, ◌≤◌, ◌<◌, ◌+◌, ◌*◌, length, sym, ap, subst, arith, refl, ◌∙◌, rules}
+use Rattle.std.proofs.Common.{◌≤◌, ◌<◌, sym, subst, arith, ◌∙◌, rules}
 use Rattle.clause_core.specs.declared.literal.Lit.{Lit}
-use Rattle.sat_trail.specs.inner.Visit.{IsFalseAt}
-use Rattle.sat_trail.specs.inner.Walk.{AreOthersListed}
 use Rattle.sat_trail.proofs.CellLemmas.{link-turn}
 use Rattle.sat_trail.proofs.GrowthLemmas.{Extends-more}
-use Rattle.sat_trail.proofs.WalkLemmas.{IsWalking, walking-start, walking-walks, walking-linked, walking-ended, walking-passed, false-extends, vars-extends, stayed-member, walking-stayed, walking-failed, walking-moved}
+use Rattle.sat_trail.proofs.WalkLemmas.{walking-start, walking-walks, walking-linked, walking-ended, walking-passed, false-extends, stayed-member, walking-stayed, walking-failed, walking-moved}
 use Rattle.sat_trail.proofs.propagation.propagate_entry.Goals as goal
 use Rattle.sat_trail.proofs.propagation.propagate_entry.Goals.{in-Stays, in-Moves}
 

@@ -1,6 +1,5 @@
 -- The literal that is left is set, which settles the clause.
-use Rattle.std.proofs.Common.{◌≡◌, Some, sym, ◌∙◌, subst, List}
-use Rattle.clause_core.specs.declared.literal.Lit.{Lit}
+use Rattle.std.proofs.Common.{◌≡◌, Some, sym, ◌∙◌, subst}
 use Rattle.clause_core.specs.Propagation.{LeavesOnly}
 use Rattle.sat_trail.specs.Entry.{values_of}
 use Rattle.sat_trail.specs.inner.Examination.{IsSettled}

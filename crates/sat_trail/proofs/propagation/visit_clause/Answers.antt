@@ -1,5 +1,5 @@
 -- The other watched literal is true, or another literal is not false, or the other one is the last.
-use Rattle.std.proofs.Common.{◌≤◌, length, sym, subst}
+use Rattle.std.proofs.Common.{◌≤◌, sym, subst}
 use Rattle.sat_trail.proofs.GrowthLemmas.{HasWatches-extends, CanPropagate-once, number-last}
 use Rattle.sat_trail.proofs.MovedLemmas.{AreWatched-moved}
 use Rattle.sat_trail.proofs.VisitLemmas.{IsVisited, visited-given, visited-exists, visited-variables, visited-new, visited-replaced, visited-left, visited-stays}

@@ -1,5 +1,5 @@
 -- The clause is open, so it was settled at each lower level.
-use Rattle.std.proofs.Common.{◌≡◌, ◌≤◌, ◌+◌, length, sym, ap, subst, arith, false, List, [], ◌∷◌, length-append}
+use Rattle.std.proofs.Common.{◌≤◌, length, sym, ap, subst, arith, false, List, [], ◌∷◌, length-append}
 use Rattle.sat_trail.specs.inner.Attach.{HasOpenTwo}
 use Rattle.sat_trail.proofs.AdditionLemmas.{IsKept-reserved, IsKept-attached, open-two}
 use Rattle.sat_trail.proofs.AttachLemmas.{spare-unwatched}

@@ -1,6 +1,5 @@
 -- The clause before takes over the link, and the clause becomes the first of the other list.
-use Rattle.std.proofs.Common.{◌<◌, arith, subst, sym, length}
-use Rattle.clause_core.specs.Literal.{rank}
+use Rattle.std.proofs.Common.{arith}
 use Rattle.sat_trail.proofs.CellLemmas.{rank-within, link-turn}
 use Rattle.sat_trail.proofs.MoveLemmas.{MovesWatch-moved}
 use Rattle.sat_trail.proofs.watch_lists.WatchLists.move_watch.Goals as goal
