@@ -1,4 +1,4 @@
-ghost use Rattle.std.specs.Prelude.{◌≡◌, ◌+◌, ◌<◌, ◌≤◌, ℕ, length};
+ghost use Rattle.std.specs.Prelude.{◌≡◌, ◌+◌, ◌<◌, ◌≤◌, ℕ, length, slice_index_or};
 ghost use Rattle.std.specs.List.{All};
 ghost use Rattle.bspl_types.specs.Limits.{carried_limit};
 ghost use Rattle.local_store.specs.inner.Acts.{value_in};
@@ -38,7 +38,7 @@ pub fn fill(
                 c.adornment,
                 known,
                 key_value(keys, key, c.param),
-                value_in(outs.get(used).copied()),
+                chosen_at(outs, used),
             );
             values[count] = next.0;
             count += 1;
@@ -58,6 +58,13 @@ fn filling(adornment: Adornment, known: Value, of_key: Option<Value>, next: Valu
         (Adornment::Out, None) => (next, 1),
         (_, _) => (known, 0),
     }
+}
+
+/// The chosen value at the index, or 0 past the end.
+fn chosen_at(outs: &[Value], i: usize) -> Value
+    ensures { result ≡ slice_index_or outs.now i (Value.Number 0) }
+{
+    if i < outs.len() { outs[i] } else { BLANK }
 }
 
 /// The value in the cell, or 0.

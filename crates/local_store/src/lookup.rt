@@ -1,4 +1,5 @@
 ghost use Rattle.std.specs.Prelude.{◌≡◌, ◌↔◌, ◌<◌, ◌≤◌, length, slice_get, Some, IsTrue, MatchOption};
+ghost use Rattle.std.specs.Prelude.{IfSome, IsNone};
 ghost use Rattle.std.specs.List.{All, Contains};
 ghost use Rattle.bspl_types.specs.Expansion.{message_of};
 ghost use Rattle.bspl_types.specs.Instance.{Fits};
@@ -17,7 +18,7 @@ use super::difference::first_difference;
 use super::filling::fill;
 use super::receipt::Receipt;
 use super::store::Store;
-use bspl_types::{Carried, Instance, Key, Stamped, Value};
+use bspl_types::{Carried, Instance, Key, Stamped, Value, equal_values_are_one};
 use role_knowledge::Block;
 
 impl Store {
@@ -65,11 +66,14 @@ impl Store {
     pub(crate) fn block_at(&self, row: usize, message: u32) -> Option<Block>
         requires row { row < length self.now.keys }
         requires message { message < length self.now.protocol.messages }
-        ensures { MatchOption result
-            (CanEmit self.now.protocol (acts_of self.now) message (key_at self.now row))
+        ensures exact { IsNone result ↔
+            CanEmit self.now.protocol (acts_of self.now) message (key_at self.now row) }
+        ensures blocked { IfSome result
             (IsFirstBlock self.now.protocol (acts_of self.now) (key_at self.now row)
             (message_of self.now.protocol message).carried) }
     {
+        // law: keys that the test finds equal are one key
+        equal_values_are_one();
         first_block(&self.cells, row, self.carried(message))
     }
 

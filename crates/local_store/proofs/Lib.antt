@@ -1,0 +1,9 @@
+pub mod StepLemmas
+pub mod CellLemmas
+pub mod InstanceLemmas
+pub mod IndexLemmas
+pub mod EntryLemmas
+pub mod LocalLemmas
+pub mod AppendLemmas
+pub mod KnownLemmas
+pub mod BlockLemmas
