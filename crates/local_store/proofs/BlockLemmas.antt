@@ -3,7 +3,7 @@ use Rattle.std.proofs.Common.{◌≡◌, ◌≢◌, ℕ, ◌<◌, List, [], ◌�
 use Rattle.std.specs.Prelude.{◌↔◌, IfSome, IsNone, MatchOption}
 use Rattle.std.specs.List.{All, Contains}
 use Rattle.std.specs.Option.{option_or}
-use Rattle.std.proofs.lemmas.Bool.{false≢true}
+use Rattle.std.proofs.lemmas.Bool.{true≢false}
 use Rattle.std.proofs.lemmas.List.Elements.{All-cons, All-contains, All-from_get_or, All-head, All-nil, All-tail, Contains-append_right, Contains-get_or}
 use Rattle.list_base.proofs.Members.{here}
 use Rattle.bspl_types.specs.declared.event.Event.{Event}
@@ -83,6 +83,6 @@ pub record Decided (x : Expanded) (history : List Event) (m : ℕ) (key : List V
 pub decided : (x : Expanded) (history : List Event) (m : ℕ) (key : List Value) (found : Option Block) → m < length x.messages → MatchOption found (All (IsPermitted x history key) (message_of x m).carried) (IsFirstBlock x history key (message_of x m).carried) → Decided x history m key found
 decided x history m key None known all = record { exact = (λ _. emits_if_permitted x history m key known all, λ _. refl); blocked = tt }
 decided x history m key (Some b) known first = record {
-  exact = (λ none. absurd (false≢true none), λ can. absurd (not_permitted x history key first.blocked b first.why (permitted_if_emits x history m key can first.blocked (subst (λ cs. Contains cs first.blocked) (sym first.split) (Contains-append_right first.before (first.blocked ∷ first.after) first.blocked (here first.blocked first.after))))));
+  exact = (λ none. absurd (true≢false none), λ can. absurd (not_permitted x history key first.blocked b first.why (permitted_if_emits x history m key can first.blocked (subst (λ cs. Contains cs first.blocked) (sym first.split) (Contains-append_right first.before (first.blocked ∷ first.after) first.blocked (here first.blocked first.after))))));
   blocked = first;
 }

@@ -7,3 +7,5 @@ pub mod LocalLemmas
 pub mod AppendLemmas
 pub mod KnownLemmas
 pub mod BlockLemmas
+pub mod TableLemmas
+pub mod SoundLemmas

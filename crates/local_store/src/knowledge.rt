@@ -3,7 +3,7 @@ ghost use Rattle.bspl_types.specs.Knowledge.{IsKnown, Knows};
 ghost use Rattle.enactment_model.specs.Liveness.{IsEmitted};
 ghost use Rattle.local_store.specs.Consistent.{IsReceived};
 ghost use Rattle.local_store.specs.State.{acts_of};
-ghost use Rattle.local_store.specs.inner.Kept.{HasEvent, IsOfRole};
+ghost use Rattle.local_store.specs.inner.Kept.{HasEvent, IsOfRole, IsSound};
 
 use super::act::Kind;
 use super::store::Store;
@@ -39,7 +39,8 @@ impl Store {
 
     /// Whether the message exists, and the role does this with it.
     fn is_of_role(&self, kind: Kind, message: u32) -> bool
-        ensures { IsTrue result ↔ IsOfRole self.now.protocol self.now.role kind message }
+        ensures exact { IsTrue result ↔ IsOfRole self.now.protocol self.now.role kind message }
+        ensures sound { IsSound self.now }
     {
         let messages = &self.admitted.expanded().messages;
         if message as usize >= messages.len() {

@@ -11,7 +11,7 @@ ghost use Rattle.local_store.specs.Emission.{chosen_params, IsEmission};
 ghost use Rattle.local_store.specs.Reception.{AllAgree};
 ghost use Rattle.local_store.specs.State.{acts_of, key_at};
 ghost use Rattle.local_store.specs.inner.Difference.{NamesDifference};
-ghost use Rattle.local_store.specs.inner.Kept.{HasEvent};
+ghost use Rattle.local_store.specs.inner.Kept.{HasEvent, IsSound};
 
 use super::blocking::first_block;
 use super::difference::first_difference;
@@ -24,8 +24,9 @@ use role_knowledge::Block;
 impl Store {
     /// The row of the key, if it is held.
     pub(crate) fn row_of(&self, key: &Key) -> Option<usize>
-        ensures { MatchOption result (¬ Contains self.now.keys key.now)
+        ensures found { MatchOption result (¬ Contains self.now.keys key.now)
             (λ row. slice_get self.now.keys row ≡ Some key.now) }
+        ensures sound { IsSound self.now }
     {
         self.keys.find(key)
     }
@@ -80,7 +81,8 @@ impl Store {
     /// The row of a held key.
     pub(crate) fn held_row(&self, key: &Key) -> usize
         requires { Contains self.now.keys key.now }
-        ensures { slice_get self.now.keys result ≡ Some key.now }
+        ensures row { slice_get self.now.keys result ≡ Some key.now }
+        ensures sound { IsSound self.now }
     {
         self.row_of(key).unwrap()
     }

@@ -65,6 +65,12 @@ pub record IsKept (x : Expanded) (role : ℕ) (rows : Rows) (log : ActsState) (c
   pub local : IsLocal x role (entries_in x rows log.acts)
   pub clock_is : clock ≡ last_stamp (entries_in x rows log.acts)
 
+-- the protocol is admitted, and the entries are a local history under keys that are held
+pub record IsSound (s : StoreState) : Type 0 where
+  pub admitted : IsAdmitted s.protocol
+  pub held : All (λ e. Contains s.keys (instance_of e.event).key) s.entries
+  pub local : IsLocal s.protocol s.role s.entries
+
 -- the grids have a row for each key at least
 pub record HaveRows (x : Expanded) (keys : List (List Value)) (cell_width cell_rows : ℕ)
     (mark_width mark_rows : ℕ) : Type 0 where
