@@ -9,3 +9,6 @@ pub mod KnownLemmas
 pub mod BlockLemmas
 pub mod TableLemmas
 pub mod SoundLemmas
+pub mod DifferenceLemmas
+pub mod ReceiptLemmas
+pub mod EmissionLemmas

@@ -16,11 +16,10 @@ impl Store {
             (¬ IsKnown self.now.protocol (acts_of self.now) key.now param)
             (Knows self.now.protocol (acts_of self.now) key.now param) }
     {
-        let row = self.row_of(key)?;
-        if param as usize >= self.cells.width {
-            return None;
+        match self.row_of(key) {
+            Some(row) if (param as usize) < self.cells.width => self.known_at(row, param),
+            _ => None,
         }
-        self.known_at(row, param)
     }
 
     /// Whether the message was emitted under the key.

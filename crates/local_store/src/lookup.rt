@@ -59,6 +59,8 @@ impl Store {
             (AllAgree self.now.protocol (acts_of self.now) i.now)
             (NamesDifference self.now.protocol (acts_of self.now) i.now) }
     {
+        // law: values that the test finds equal are one value
+        equal_values_are_one();
         let carried = self.carried(i.message);
         first_difference(&self.cells, row, carried, i.values.as_slice())
     }
@@ -82,6 +84,8 @@ impl Store {
     pub(crate) fn held_row(&self, key: &Key) -> usize
         requires { Contains self.now.keys key.now }
         ensures row { slice_get self.now.keys result ≡ Some key.now }
+        ensures within { result < length self.now.keys }
+        ensures key { key_at self.now result ≡ key.now }
         ensures sound { IsSound self.now }
     {
         self.row_of(key).unwrap()
