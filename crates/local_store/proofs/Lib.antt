@@ -12,3 +12,4 @@ pub mod SoundLemmas
 pub mod DifferenceLemmas
 pub mod ReceiptLemmas
 pub mod EmissionLemmas
+pub mod RoleLemmas

@@ -37,7 +37,7 @@ same_values (c ∷ cs) (v ∷ vs) (w ∷ ws) first second each =
     λ i. each c v w (here (c, v) (zip cs vs)) (here (c, w) (zip cs ws)) i ∷ same_values cs vs ws fewer fewer_too (λ d u t one other. each d u t (there (c, v) (zip cs vs) (d, u) one) (there (c, w) (zip cs ws) (d, t) other)) i
 
 -- the sender and the receiver of a message are two roles
-two_roles : (s : StoreState) → IsSound s → (m : ℕ) → m < length s.protocol.messages → (message_of s.protocol m).sender ≢ (message_of s.protocol m).receiver
+pub two_roles : (s : StoreState) → IsSound s → (m : ℕ) → m < length s.protocol.messages → (message_of s.protocol m).sender ≢ (message_of s.protocol m).receiver
 two_roles s sound m known = (All-get_or (IsAdmittedMessage s.protocol.keys) s.protocol.messages m no_message known sound.admitted.each_message).two_roles
 
 -- an event of the message is its receipt, and has the instance's values
