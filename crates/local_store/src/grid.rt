@@ -1,4 +1,4 @@
-ghost use Rattle.std.specs.Prelude.{◌≡◌, ◌+◌, ◌*◌, ◌<◌, ◌++◌, [], length, slice_get, slice_set};
+ghost use Rattle.std.specs.Prelude.{◌≡◌, ◌+◌, ◌*◌, ◌<◌, ◌≤◌, ◌++◌, ◌⊎◌, [], length, slice_get, slice_set};
 ghost use Rattle.std.specs.Prelude.{Some, OnOk, OnErr};
 
 use list_base::{NoMemory, Seq};
@@ -58,6 +58,23 @@ impl<T: Copy> Grid<T> {
     {
         let index = self.index_of(row, column);
         let _replaced = self.items.replace(index, item);
+    }
+
+    /// Makes sure that there are this many rows, by a blank one at the end if there are not.
+    pub fn cover(&mut self, rows: usize, blank: &[T]) -> Result<(), NoMemory>
+        requires row { length blank.now ≡ self.old.width }
+        requires next { rows ≤ self.old.rows + 1 }
+        requires few { self.old.rows < 4294967295 }
+        ensures items { (self.new.items ≡ self.old.items) ⊎
+            (self.new.items ≡ self.old.items ++ blank.now) }
+        ensures width { self.new.width ≡ self.old.width }
+        ensures rows { OnOk result (rows ≤ self.new.rows) }
+        ensures kept { self.old.rows ≤ self.new.rows }
+    {
+        if self.rows < rows {
+            self.add_row(blank)?;
+        }
+        Ok(())
     }
 
     /// Puts a row at the end.

@@ -16,10 +16,13 @@ impl Store {
             (¬ IsKnown self.now.protocol (acts_of self.now) key.now param)
             (Knows self.now.protocol (acts_of self.now) key.now param) }
     {
-        match self.row_of(key) {
-            Some(row) if (param as usize) < self.cells.width => self.known_at(row, param),
-            _ => None,
+        let Some(row) = self.row_of(key) else {
+            return None;
+        };
+        if param as usize >= self.cells.width {
+            return None;
         }
+        self.known_at(row, param)
     }
 
     /// Whether the message was emitted under the key.

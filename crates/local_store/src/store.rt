@@ -83,15 +83,11 @@ impl Store {
         if self.holds(key) {
             return Ok(());
         }
-        let held = self.keys.len();
-        if self.cells.rows <= held {
-            let width = self.cells.width;
-            self.cells.add_row(&[None; PARAM_LIMIT][..width])?;
-        }
-        if self.marks.rows <= held {
-            let width = self.marks.width;
-            self.marks.add_row(&[false; MESSAGE_LIMIT][..width])?;
-        }
+        let rows = self.keys.len() + 1;
+        let params = self.cells.width;
+        let messages = self.marks.width;
+        self.cells.cover(rows, &[None; PARAM_LIMIT][..params])?;
+        self.marks.cover(rows, &[false; MESSAGE_LIMIT][..messages])?;
         self.keys.add(key)
     }
 

@@ -1,5 +1,6 @@
 -- An event of a message that is the role's is what is asked for.
-use Rattle.std.proofs.Common.{refl}
+use Rattle.std.proofs.Common.{refl, sym, ◌∙◌}
+use Rattle.std.proofs.lemmas.Bool.{true≢false}
 use Rattle.local_store.proofs.RoleLemmas.{emitted_if, emitted_of}
 use Rattle.local_store.proofs.store.Store.emitted.Goals as goal
 
@@ -12,4 +13,4 @@ returns-then-is_of_role c =
 pub returns-else-is_of_role : goal.returns-else-is_of_role
 returns-else-is_of_role c =
     let s = c.args.self.now in
-    (λ yes. ?, λ is. c.is_of_role.ensures.exact.1 (emitted_of s c.args.key.now c.args.message c.is_of_role.ensures.sound is))
+    (λ yes. absurd (true≢false (sym yes ∙ c.if-is_of_role.false)), λ is. c.is_of_role.ensures.exact.1 (emitted_of s c.args.key.now c.args.message c.is_of_role.ensures.sound is))

@@ -1,7 +1,8 @@
 -- The event that an act stands for is rebuilt from its row.
-use Rattle.std.proofs.Common.{◌≡◌, ◌<◌, ◌≤◌, List, [], length, map, Some, ap, subst, sym, ◌∙◌, arith}
+use Rattle.std.proofs.Common.{◌≡◌, ◌<◌, ◌≤◌, ℕ, List, [], length, map, Some, ap, subst, sym, ◌∙◌, arith}
 use Rattle.std.specs.Prelude.{slice_get, option_map}
 use Rattle.std.proofs.lemmas.Option.{get_or_from_slice_get, slice_get-map}
+use Rattle.bspl_types.specs.declared.event.Event.{Event}
 use Rattle.bspl_types.specs.declared.protocol.Carried.{Carried}
 use Rattle.bspl_types.specs.Adornment.{valued}
 use Rattle.bspl_types.specs.Expansion.{message_of}
@@ -35,7 +36,7 @@ returns c =
     let rows = rows_of s.admitted s.keys s.cells.items s.marks.items in
     let a = c.at-act.result in
     let entry = entry_in s.admitted rows in
-    let pair = λ (e : Entry). (e.event, e.stamp) in
+    let pair : Entry → Event × ℕ = λ e. (e.event, e.stamp) in
     let carried = c.carried-carried.ensures.carried ∙ sym (ap (λ t. (message_of t.protocol a.message).carried) c.self.view_is) in
     let values = c.read_values.ensures ∙ (λ j. map (λ (d : Carried). value_in (cell_at (c.self.invariant.1.params j) s.cells.items a.row d.param)) (valued (carried j))) in
     let key = sym (get_or_from_slice_get s.keys a.row c.at.result [] c.at.ensures) in
