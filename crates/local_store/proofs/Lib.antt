@@ -13,3 +13,4 @@ pub mod DifferenceLemmas
 pub mod ReceiptLemmas
 pub mod EmissionLemmas
 pub mod RoleLemmas
+pub mod KeyLemmas

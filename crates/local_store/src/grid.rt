@@ -64,7 +64,7 @@ impl<T: Copy> Grid<T> {
     pub fn cover(&mut self, rows: usize, blank: &[T]) -> Result<(), NoMemory>
         requires row { length blank.now ≡ self.old.width }
         requires next { rows ≤ self.old.rows + 1 }
-        requires few { self.old.rows < 4294967295 }
+        requires few { rows < 4294967296 }
         ensures items { (self.new.items ≡ self.old.items) ⊎
             (self.new.items ≡ self.old.items ++ blank.now) }
         ensures width { self.new.width ≡ self.old.width }
