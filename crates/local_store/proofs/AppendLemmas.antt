@@ -61,8 +61,8 @@ takes_in law x role clock keys cells marks cell_rows mark_rows row log kind i ke
     let mark = row * n + i.message in
     let mark_room : mark < length marks = omega (arith, mark_size, mul-add-lt row n i.message mark_rows mark_row fits.known) in
     let one = λ (pair other : Carried × Value) (first : Contains (pairs x i) pair) (second : Contains (pairs x i) other) (same : row * w + pair.0.param ≡ row * w + other.0.param). one_pair law x kept.admitted (event_as kind i) pair.0 other.0 pair.1 other.1
-        (subst (λ j. Contains (pairs x j) pair) (sym (instance_as kind i)) first) (subst (λ j. Contains (pairs x j) other) (sym (instance_as kind i)) second)
-        (same_place w row pair.0.param row other.0.param (exists pair first) (exists other second) same).1 in
+    (subst (λ j. Contains (pairs x j) pair) (sym (instance_as kind i)) first) (subst (λ j. Contains (pairs x j) other) (sym (instance_as kind i)) second)
+    (same_place w row pair.0.param row other.0.param (exists pair first) (exists other second) same).1 in
     record {
       keys = refl;
       from = λ s p v less is. elim (bound_from w row (pairs x i) cells s p v within is) [
@@ -86,9 +86,9 @@ takes_in law x role clock keys cells marks cell_rows mark_rows row log kind i ke
         | inr other ↦ inl (sym (get_or-set_other marks mark (s * n + m) true false other) ∙ is)
       ];
     }
-    where
-      within_cells : (row w rows : ℕ) (cells : List (Option Value)) → row < rows → length cells ≡ rows * w → (pair : Carried × Value) → pair.0.param < w → row * w + pair.0.param < length cells
-      within_cells row w rows cells less size pair exists = omega (arith, size, mul-add-lt row w pair.0.param rows less exists)
+  where
+    within_cells : (row w rows : ℕ) (cells : List (Option Value)) → row < rows → length cells ≡ rows * w → (pair : Carried × Value) → pair.0.param < w → row * w + pair.0.param < length cells
+    within_cells row w rows cells less size pair exists = omega (arith, size, mul-add-lt row w pair.0.param rows less exists)
 
 -- the entry is the last one, and the store keeps what it has to keep
 pub record Appended (x : Expanded) (role : ℕ) (old new : Rows) (log : ActsState) (act : Act) (e : Entry) : Type 0 where
@@ -104,9 +104,9 @@ appended law x role clock old new log kind i row stamp number kept at fits own f
     let row_within = slice_get_within old.keys row i.key at in
     let same_keys = takes.keys in
     let stays = entries_stay x old new log.acts (λ a among. ap (λ keys. get_or keys a.row []) same_keys)
-        (λ a c among carried.
-            let has = act_has x old log.acts kept.within kept.index a c among carried in
-            takes.stay a.row c.param (value_in (old.cell a.row c.param)) (params_exist x a.message c (filtered_member (λ d. has_value d.adornment) (message_of x a.message).carried c carried).0) has ∙ sym has) in
+    (λ a c among carried.
+    let has = act_has x old log.acts kept.within kept.index a c among carried in
+    takes.stay a.row c.param (value_in (old.cell a.row c.param)) (params_exist x a.message c (filtered_member (λ d. has_value d.adornment) (message_of x a.message).carried c carried).0) has ∙ sym has) in
     let last = entry_is x new kind i row stamp number (ap (λ keys. get_or keys row []) same_keys ∙ get_or_from_slice_get old.keys row i.key [] at) fits.each_value takes.has in
     let entries = map_push (entry_in x new) log.acts act ∙ (λ j. stays j ++ last j ∷ []) in
     let local = local_more law x role olds e kept.admitted kept.local (subst (Fits x) (sym is) fits) own follows (subst (AllAgree x (events_of olds)) (sym is) agree) in

@@ -18,7 +18,6 @@ same_place w r p s q p_within q_within same = (
   sym (mod-mul-add r w p p_within) ∙ ap (λ n. n % w) same ∙ mod-mul-add s w q q_within,
 )
 
-
 -- a value stays that is not overwritten by another one
 pub bound_keeps : (w row : ℕ) (pairs : List (Carried × Value)) (cells : List (Option Value)) (s q : ℕ) (v : Value) → All (λ pair. row * w + pair.0.param < length cells) pairs → ((pair : Carried × Value) → Contains pairs pair → row * w + pair.0.param ≡ s * w + q → pair.1 ≡ v) → cell_at w cells s q ≡ Some v → cell_at w (bound w row cells pairs) s q ≡ Some v
 bound_keeps w row [] cells s q v within agree is = is

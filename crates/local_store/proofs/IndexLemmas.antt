@@ -82,9 +82,9 @@ index_more x old new history e row distinct at takes index =
         | inr blank ↦ blank
       ];
     }
-    where
-      same_key : (keys : List (List Value)) (s r : ℕ) (key other : List Value) → slice_get keys s ≡ Some key → slice_get keys r ≡ Some other → s ≡ r → other ≡ key
-      same_key keys s r key other there is same = same_Some other key (sym is ∙ ap (slice_get keys) (sym same) ∙ there)
+  where
+    same_key : (keys : List (List Value)) (s r : ℕ) (key other : List Value) → slice_get keys s ≡ Some key → slice_get keys r ≡ Some other → s ≡ r → other ≡ key
+    same_key keys s r key other there is same = same_Some other key (sym is ∙ ap (slice_get keys) (sym same) ∙ there)
 
-      beyond : (keys : List (List Value)) (s r : ℕ) (key : List Value) → slice_get keys r ≡ Some key → length keys ≤ s → s ≡ r → ⊥
-      beyond keys s r key there past same = omega (arith, slice_get_within keys r key there, past, same)
+    beyond : (keys : List (List Value)) (s r : ℕ) (key : List Value) → slice_get keys r ≡ Some key → length keys ≤ s → s ≡ r → ⊥
+    beyond keys s r key there past same = omega (arith, slice_get_within keys r key there, past, same)

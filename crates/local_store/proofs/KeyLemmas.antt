@@ -1,6 +1,6 @@
 -- One more key, with a blank row.
-use Rattle.std.proofs.Common.{◌≡◌, ◌≢◌, ℕ, ◌+◌, ◌-◌, ◌*◌, ◌<◌, ◌≤◌, ◌⊎◌, Bool, true, false, List, [], ◌∷◌, ◌++◌, length, get_or, Option, None, Some, inl, inr, refl, sym, ap, ◌∙◌, subst, arith, length-append}
-use Rattle.std.specs.Prelude.{slice_get}
+use Rattle.std.proofs.Common.{◌≡◌, ◌≢◌, ℕ, ◌+◌, ◌-◌, ◌*◌, ◌<◌, ◌≤◌, ◌⊎◌, Bool, true, false, List, [], ◌∷◌, ◌++◌, length, get_or, Option, None, Some, Result, Ok, Err, inl, inr, refl, sym, ap, ◌∙◌, subst, arith, length-append}
+use Rattle.std.specs.Prelude.{slice_get, OnOk, OnErr}
 use Rattle.std.specs.List.{All, AllPairs, Contains}
 use Rattle.std.proofs.lemmas.Bool.{cases_lt, true≢false}
 use Rattle.std.proofs.lemmas.List.{get_or-append_right, get_or_append_left, get_or_past, length_push}
@@ -69,16 +69,16 @@ kept_key x role clock rows log key kept whole fresh few =
       knows = λ row k p v at exists. elim (key_cases rows.keys key k row at) [
         | inl old ↦ kept.index.knows row k p v old exists
         | inr (is, new) ↦ (
-            λ cell. absurd (none-some v (sym (kept.index.blank_cells row p (omega (arith, is)) exists) ∙ cell)),
-            λ known. absurd (nothing_known s k p is_sound (subst (λ q. ¬ Contains rows.keys q) new fresh) (v, known)),
-          )
+          λ cell. absurd (none-some v (sym (kept.index.blank_cells row p (omega (arith, is)) exists) ∙ cell)),
+          λ known. absurd (nothing_known s k p is_sound (subst (λ q. ¬ Contains rows.keys q) new fresh) (v, known)),
+        )
       ];
       happened = λ row k m at exists. elim (key_cases rows.keys key k row at) [
         | inl old ↦ kept.index.happened row k m old exists
         | inr (is, new) ↦ (
-            λ mark. absurd (true≢false (sym mark ∙ kept.index.blank_marks row m (omega (arith, is)) exists)),
-            λ has. absurd (no_event s k m is_sound (subst (λ q. ¬ Contains rows.keys q) new fresh) has),
-          )
+          λ mark. absurd (true≢false (sym mark ∙ kept.index.blank_marks row m (omega (arith, is)) exists)),
+          λ has. absurd (no_event s k m is_sound (subst (λ q. ¬ Contains rows.keys q) new fresh) has),
+        )
       ];
       blank_cells = λ row p past exists. kept.index.blank_cells row p (omega (arith, past, longer)) exists;
       blank_marks = λ row m past exists. kept.index.blank_marks row m (omega (arith, past, longer)) exists;
@@ -104,3 +104,24 @@ rows_same x keys cells cells' marks marks' cell mark = λ j. record {
   cell = λ row p. cell (row * length x.params + p) j;
   mark = λ row m. mark (row * length x.messages + m) j;
 }
+
+-- one of the two cases
+pub either_case : {A E : Type 0} (r : Result A E) (P Q : Type 0) → OnOk r P → OnErr r Q → P ⊎ Q
+either_case (Ok a) P Q ok err = inl ok
+either_case (Err e) P Q ok err = inr err
+
+pub on_err_of : {A E : Type 0} (r : Result A E) (P : Type 0) → P → OnErr r P
+on_err_of (Ok a) P p = tt
+on_err_of (Err e) P p = p
+
+pub on_err_then : {A E : Type 0} (r : Result A E) (P Q : Type 0) → OnErr r P → (P → Q) → OnErr r Q
+on_err_then (Ok a) P Q err then_q = tt
+on_err_then (Err e) P Q err then_q = then_q err
+
+pub on_ok_then : {A E : Type 0} (r : Result A E) (P Q : Type 0) → OnOk r P → (P → Q) → OnOk r Q
+on_ok_then (Ok a) P Q ok then_q = then_q ok
+on_ok_then (Err e) P Q ok then_q = tt
+
+-- what contracts see of a store with one more key
+pub state_key : (x : Expanded) (role clock : ℕ) (rows : Rows) (log : ActsState) (key : List Value) → IsKept x role rows log clock → state_of x role (with_key rows key) log ≡ record (state_of x role rows log) { keys = rows.keys ++ key ∷ [] }
+state_key x role clock rows log key kept = λ j. record { protocol = x; role = role; keys = rows.keys ++ key ∷ []; entries = entries_same x role clock rows log key kept j; spare = log.spare }

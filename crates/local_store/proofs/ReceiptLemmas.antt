@@ -51,8 +51,8 @@ is_received s i sound fits own agree (Receive j) among under message =
     let cs = valued (message_of x i.message).carried in
     let same_zip = ap (λ m. zip (valued (message_of x m).carried) j.values) message in
     let values = same_values cs j.values i.values (fits_j.each_value ∙ ap (λ m. length (valued (message_of x m).carried)) message) fits.each_value
-        (λ c v w one other. All-contains (Agrees x (acts_of s) i.key) (pairs x i) (c, w) agree other v
-        (knows_own x (acts_of s) (Receive j) i.key c v among under (subst (λ ps. Contains ps (c, v)) (sym same_zip) one))) in
+    (λ c v w one other. All-contains (Agrees x (acts_of s) i.key) (pairs x i) (c, w) agree other v
+    (knows_own x (acts_of s) (Receive j) i.key c v among under (subst (λ ps. Contains ps (c, v)) (sym same_zip) one))) in
     subst (Contains (acts_of s)) (λ k. Receive (record { message = message k; key = under k; values = values k })) among
 
 pub repeats : (s : StoreState) (i : Instance) → IsSound s → Fits s.protocol i → (message_of s.protocol i.message).receiver ≡ s.role → AllAgree s.protocol (acts_of s) i → HasEvent (acts_of s) i.key i.message → Contains (acts_of s) (Receive i)
@@ -68,8 +68,7 @@ differs_receipt s m sound Fresh names = absurd names
 differs_receipt s m sound Repeat names = absurd names
 differs_receipt s m sound (Differs p kept arrived) first =
     let x = s.protocol in
-    let i = m.instance in
-    (
+    let i = m.instance in (
       λ received.
           let pair = subst (λ ps. Contains ps first.differing) (sym first.split) (Contains-append_right first.before (first.differing ∷ first.after) first.differing (here first.differing first.after)) in
           let own = knows_own x (acts_of s) (Receive i) i.key first.differing.0 first.differing.1 received refl pair in

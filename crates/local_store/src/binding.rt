@@ -7,12 +7,7 @@ use super::grid::Grid;
 use bspl_types::{Carried, Value};
 
 /// Puts the value of each parameter adorned `in` or `out` into its cell of the row.
-pub fn bind_all(
-    cells: &mut Grid<Option<Value>>,
-    row: usize,
-    carried: &[Carried],
-    values: &[Value],
-)
+pub fn bind_all(cells: &mut Grid<Option<Value>>, row: usize, carried: &[Carried], values: &[Value])
     requires row { row < cells.old.rows }
     requires params { All (λ c. c.param < cells.old.width) carried.now }
     ensures items { cells.new.items ≡

@@ -27,7 +27,7 @@ abbrev pub filled : (ℕ → Value) → (ℕ → Option Value) → List Value �
 filled known of_key outs [] used = []
 filled known of_key outs (c ∷ carried) used =
     let next = filling c.adornment (known c.param) (of_key c.param)
-        (slice_index_or outs used (Number 0)) in
+    (slice_index_or outs used (Number 0)) in
     if has_value c.adornment
     then next.0 ∷ filled known of_key outs carried (used + next.1)
     else filled known of_key outs carried used

@@ -31,8 +31,8 @@ loop-c-preserved c =
             filled = rw (w.count-is, w.values-is, w.used-is) (filled_more known of_key c.args.outs.now c.args.carried.now c.loop-c.c-index blank c.loop-c.values c.loop-c.count c.loop-c.used w.filling-next.result whole c.loop-c-test.true (sym w.if-has_value.ensures) room next inv.filled);
           }
       | else-has_value w ↦ record {
-          few = omega (arith, w.count-is);
-          fewer = omega (arith, w.used-is);
-          filled = rw (w.count-is, w.values-is, w.used-is) (filled_same known of_key c.args.outs.now c.args.carried.now c.loop-c.c-index blank (take c.loop-c.count c.loop-c.values) c.loop-c.used whole c.loop-c-test.true (sym w.if-has_value.ensures) inv.filled);
-        }
+        few = omega (arith, w.count-is);
+        fewer = omega (arith, w.used-is);
+        filled = rw (w.count-is, w.values-is, w.used-is) (filled_same known of_key c.args.outs.now c.args.carried.now c.loop-c.c-index blank (take c.loop-c.count c.loop-c.values) c.loop-c.used whole c.loop-c-test.true (sym w.if-has_value.ensures) inv.filled);
+      }
     ]

@@ -26,7 +26,7 @@ loop-c-preserved c =
             read = rw (w.count-is, w.values-is) (read_more g c.args.carried.now c.loop-c.c-index blank c.loop-c.values c.loop-c.count w.value_in.result c.loop-c-test.true (sym w.if-has_value.ensures) room (w.value_in.ensures ∙ ap value_in (sym cell)) inv.read);
           }
       | else-has_value w ↦ record {
-          few = omega (arith, w.count-is);
-          read = rw (w.count-is, w.values-is) (read_same g c.args.carried.now c.loop-c.c-index blank (take c.loop-c.count c.loop-c.values) (map g (valued c.args.carried.now)) c.loop-c-test.true (sym w.if-has_value.ensures) inv.read);
-        }
+        few = omega (arith, w.count-is);
+        read = rw (w.count-is, w.values-is) (read_same g c.args.carried.now c.loop-c.c-index blank (take c.loop-c.count c.loop-c.values) (map g (valued c.args.carried.now)) c.loop-c-test.true (sym w.if-has_value.ensures) inv.read);
+      }
     ]

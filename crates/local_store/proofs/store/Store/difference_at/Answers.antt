@@ -25,8 +25,8 @@ returns c =
     let cell = cell_at s.cells.width s.cells.items c.args.row in
     let one = subst (λ u. KnowsOneValue u.protocol (acts_of u)) c.self.view_is c.self.invariant.0.local.one_value in
     let all = differs_or_agrees c.equal_values_are_one.ensures.values t.protocol (acts_of t) i one cell
-        (λ d v among. subst (λ k. Reads t.protocol (acts_of t) k d.param (cell d.param)) key
-        (subst (λ n. Reads t.protocol (acts_of t) (key_at t c.args.row) d.param (cell_at n s.cells.items c.args.row d.param)) (sym c.self.invariant.1.params)
-        (reads_cell s.admitted s.role s.clock s.keys s.cells.items s.marks.items s.log t c.args.row d.param c.self.invariant.0 c.self.view_is within (pair_exists t.protocol i d v among)))) in
+    (λ d v among. subst (λ k. Reads t.protocol (acts_of t) k d.param (cell d.param)) key
+    (subst (λ n. Reads t.protocol (acts_of t) (key_at t c.args.row) d.param (cell_at n s.cells.items c.args.row d.param)) (sym c.self.invariant.1.params)
+    (reads_cell s.admitted s.role s.clock s.keys s.cells.items s.marks.items s.log t c.args.row d.param c.self.invariant.0 c.self.view_is within (pair_exists t.protocol i d v among)))) in
     subst (λ o. MatchOption o (AllAgree t.protocol (acts_of t) i) (NamesDifference t.protocol (acts_of t) i))
     (sym (c.first_difference.ensures ∙ (λ j. first_difference cell (zip (valued (c.carried-carried.ensures.carried j)) (c.as_slice.ensures.values j))))) all

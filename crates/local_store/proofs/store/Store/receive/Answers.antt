@@ -15,7 +15,7 @@ returns-then-has_event c =
     let s = c.args.self.now in
     let i = c.args.m.now.instance in (
       repeats s i c.held_row-row.ensures.sound c.requires.fits c.requires.own c.in_default.ensures
-      (subst (λ key. HasEvent (acts_of s) key i.message) c.held_row-row.ensures.key (c.if-has_event.ensures.0 refl)),
+          (subst (λ key. HasEvent (acts_of s) key i.message) c.held_row-row.ensures.key (c.if-has_event.ensures.0 refl)),
       refl,
     )
 
