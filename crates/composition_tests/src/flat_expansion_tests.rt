@@ -1,43 +1,8 @@
 use bspl_parser::{Declaration, Document, parse, print};
-use bspl_types::{Adornment, Bytes, Expanded, Message, NoMemory, Seq};
+use bspl_types::{Bytes, Expanded, NoMemory, Seq};
 use flat_expansion::{declaration_of, expansion_of};
 use std::alloc::Global;
 use std::test::Fail;
-
-/// The name of a message, its sender, its receiver, and its parameters by index.
-type Sent<'a> = (&'a [u8], u32, u32, &'a [(u32, Adornment)]);
-
-/// Texts, the number of their parameters, and their messages.
-const EXPANDED: [(&[u8], usize, &[Sent]); 4] = [
-    (
-        b"Ping { roles A, B parameters out ID key A -> B: ping[out ID] }",
-        1,
-        &[(b"ping", 0, 1, &[(0, Adornment::Out)])],
-    ),
-    (
-        b"Lone { roles A, B parameters out ID key, out x private z A -> B: m[out ID, in z, out x] }",
-        3,
-        &[(
-            b"m",
-            0,
-            1,
-            &[(0, Adornment::Out), (2, Adornment::In), (1, Adornment::Out)],
-        )],
-    ),
-    (
-        b"Twin { roles A, B parameters out ID key A -> B: m[out ID] B -> A: n[out ID] }",
-        1,
-        &[
-            (b"m", 0, 1, &[(0, Adornment::Out)]),
-            (b"n", 1, 0, &[(0, Adornment::Out)]),
-        ],
-    ),
-    (
-        b"P{roles A-1,B parameters out ID key private x B->A-1:m[in ID key, nil x]}",
-        2,
-        &[(b"m", 1, 0, &[(0, Adornment::In), (1, Adornment::Nil)])],
-    ),
-];
 
 /// Texts without an expansion: one name, one adornment or one item is at fault.
 const NOT_EXPANDED: [&[u8]; 15] = [
@@ -67,31 +32,6 @@ fn declaration(alloc: Global, text: &[u8]) -> Result<Declaration, Fail> {
 /// Its expansion.
 fn expansion(alloc: Global, d: &Declaration) -> Result<Option<Expanded>, Fail> {
     Ok(expansion_of(alloc, d).ok().ok_or("there is memory")?)
-}
-
-/// Whether the message is the one of the table.
-fn is_sent(m: &Message, sent: &Sent) -> bool {
-    let (name, sender, receiver, carried) = *sent;
-    m.name.as_slice() == name
-        && m.sender == sender
-        && m.receiver == receiver
-        && m.carried.len() == carried.len()
-        && m.carried.as_slice().iter().zip(carried).all(|pair| pair.0.param == pair.1.0
-            && pair.0.adornment == pair.1.1)
-}
-
-#[test]
-fn names_become_indices(rt: HostRuntime) -> Result<(), Fail> {
-    for (text, params, messages) in EXPANDED {
-        let d = declaration(rt.alloc(), text)?;
-        let x = expansion(rt.alloc(), &d)?.ok_or("it has an expansion")?;
-        assert_eq!(rt; x.params.len(), params);
-        assert_eq!(rt; x.messages.len(), messages.len());
-        for (m, sent) in x.messages.as_slice().iter().zip(messages) {
-            assert!(rt; is_sent(m, sent));
-        }
-    }
-    Ok(())
 }
 
 #[test]

@@ -6,8 +6,6 @@ mod flat_expansion_tests;
 #[cfg(test)]
 mod flat_limit_tests;
 #[cfg(test)]
-mod protocol_expand_tests;
-#[cfg(test)]
 mod protocol_limits_tests;
 #[cfg(test)]
 mod protocol_paths_tests;

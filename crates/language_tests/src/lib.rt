@@ -2,11 +2,7 @@
 #![tactic(auto)]
 
 #[cfg(test)]
-mod adornment_check_tests;
-#[cfg(test)]
 mod bspl_io_tests;
-#[cfg(test)]
-mod bspl_parser_refusal_tests;
 #[cfg(test)]
 mod bspl_parser_tests;
 #[cfg(test)]
@@ -15,8 +11,6 @@ mod bspl_types_tests;
 mod enactment_model_tests;
 #[cfg(test)]
 mod expanded_tests;
-#[cfg(test)]
-mod fault_texts;
 #[cfg(test)]
 mod list_base_tests;
 #[cfg(test)]

@@ -1,4 +1,3 @@
-use super::fault_texts::{FAULTLESS, FAULTY};
 use bspl_parser::{Document, parse};
 use protocol_names::{DocumentFault, FaultKind, NameTable, first_fault};
 use std::alloc::Global;
@@ -7,24 +6,6 @@ use std::test::Fail;
 /// The document of the text.
 fn read(alloc: Global, text: &[u8]) -> Result<Document, Fail> {
     Ok(parse(alloc, text).ok().ok_or("this is a text")?)
-}
-
-/// The first fault of the text.
-fn fault_of(alloc: Global, text: &[u8]) -> Result<Option<DocumentFault>, Fail> {
-    let document = read(alloc, text)?;
-    Ok(first_fault(alloc, &document).ok().ok_or("there is memory")?)
-}
-
-#[test]
-fn the_first_fault_is_found(rt: HostRuntime) -> Result<(), Fail> {
-    for (kind, offset, text) in FAULTY {
-        let expected = DocumentFault { kind, offset };
-        assert_eq!(rt; fault_of(rt.alloc(), text)?, Some(expected));
-    }
-    for text in FAULTLESS {
-        assert_eq!(rt; fault_of(rt.alloc(), text)?, None);
-    }
-    Ok(())
 }
 
 /// No text has two faults at one offset, so one is moved there.

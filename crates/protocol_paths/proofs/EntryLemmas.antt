@@ -1,5 +1,5 @@
 -- The private parameters at the ends of paths, by the references of a body.
-use Rattle.std.proofs.Common.{◌≡◌, ℕ, zero, suc, ◌+◌, ◌-◌, ◌<◌, ◌≤◌, List, [], ◌∷◌, ◌++◌, length, get_or, map, take, refl, sym, ap, ◌∙◌, arith}
+use Rattle.std.proofs.Common.{◌≡◌, ℕ, zero, suc, ◌+◌, ◌-◌, ◌<◌, ◌≤◌, List, [], ◌∷◌, ◌++◌, length, get_or, map, take, Some, refl, sym, ap, ◌∙◌, arith}
 use Rattle.std.specs.List.{enumerate_from, flat_map}
 use Rattle.std.proofs.lemmas.List.{append-nil, append_assoc}
 use Rattle.bspl_parser.specs.declared.document.Declaration.{Declaration}
@@ -7,6 +7,7 @@ use Rattle.bspl_parser.specs.declared.document.Item.{Item}
 use Rattle.bspl_parser.specs.declared.document.Item.TheVariants.{Reference}
 use Rattle.bspl_parser.specs.declared.document.Reference.{Reference as SpecReference}
 use Rattle.bspl_parser.specs.declared.word.Word.{Word}
+use Rattle.protocol_names.specs.Names.{protocol_of}
 use Rattle.protocol_paths.specs.declared.skippable.Skippable.{Skippable}
 use Rattle.protocol_paths.specs.Flat.{private_entries, privates_at}
 use Rattle.protocol_paths.specs.inner.AddsEach.{entries_after}
@@ -15,7 +16,7 @@ use Rattle.protocol_paths.specs.Path.{Step, end_of, numbered, paths, private_wor
 use Rattle.protocol_paths.specs.Scope.{Scope, after, scope_at}
 use Rattle.protocol_paths.proofs.EmptyBelow.{fewer_words, flat_map-flat_map, flat_map-map, flat_map-same, flat_map_empty}
 use Rattle.protocol_paths.proofs.Numbered.{made_all, made_more}
-use Rattle.protocol_paths.proofs.ReferenceLemmas.{no_step, step_by}
+use Rattle.protocol_paths.proofs.ReferenceLemmas.{no_step, one_step, step_by}
 
 -- a name and an offset
 abbrev Entry : Type 0
@@ -67,3 +68,11 @@ pub entries_skipped : (n : ℕ) (protocols : List Declaration) (skippable : Skip
 entries_skipped n protocols skippable scope position r within allowed skipped =
     no_step (λ s. private_entries n protocols (after scope s)) protocols position r
     (λ q found. no_entries n protocols (after scope (step_by position r q)) (fewer_words n (length protocols) protocols q within (allowed.privates q (skipped q found))))
+
+-- those through a reference that is followed
+pub entries_through : (n : ℕ) (protocols : List Declaration) (scope next : Scope) (position : ℕ) (r : SpecReference) (q : Declaration) (i : Item) → i ≡ Reference r → protocol_of protocols r.protocol.text ≡ Some q → next ≡ after scope (step_by position r q) → private_entries n protocols next ≡ entries_after n protocols scope (position, i)
+entries_through n protocols scope next position r q i is found leads =
+    ap (private_entries n protocols) leads
+    ∙ sym (append-nil (private_entries n protocols (after scope (step_by position r q))))
+    ∙ sym (ap (flat_map (λ s. private_entries n protocols (after scope s))) (one_step protocols position r q found))
+    ∙ ap (λ (j : Item). entries_after n protocols scope (position, j)) (sym is)

@@ -10,4 +10,5 @@ pub mod PlainLemmas
 pub mod PositionLemmas
 pub mod PrefixLemmas
 pub mod ReferenceLemmas
-pub mod SubstitutionLemmas
+pub mod ResolutionLemmas
+pub mod TableLemmas

@@ -12,6 +12,8 @@ use Rattle.bspl_parser.specs.declared.document.Schema.{Schema}
 use Rattle.protocol_names.specs.Names.{protocol_of}
 use Rattle.protocol_paths.specs.declared.skippable.Skippable.{Skippable}
 use Rattle.protocol_paths.specs.inner.AddsEach.{AddsEach}
+use Rattle.protocol_paths.specs.inner.Links.{IsLinkBy, step_of}
+use Rattle.protocol_paths.specs.declared.link.Link.{Link}
 use Rattle.protocol_paths.specs.Flat.{IsImageItem}
 use Rattle.protocol_paths.specs.Skippable.{AreSkippable, IsSkipped}
 use Rattle.protocol_paths.specs.Path.{Step, through, item_messages, message_paths, steps_at}
@@ -22,6 +24,10 @@ use Rattle.protocol_paths.proofs.EmptyBelow.{fewer_messages}
 -- the step by a reference to a protocol
 abbrev pub step_by : ℕ → SpecReference → Declaration → Step
 step_by position r q = record { position = position; reference = r; target = q }
+
+-- the step of the link by a reference
+pub link_step : (protocols : List Declaration) (position : ℕ) (r : SpecReference) (l : Link) → IsLinkBy protocols position r l → step_of l ≡ step_by position r l.target.now
+link_step protocols position r l by = λ i. record { position = by.at i; reference = by.gives i; target = l.target.now }
 
 -- there is one step to the protocol that was found
 pub one_step : (protocols : List Declaration) (position : ℕ) (r : SpecReference) (q : Declaration) → protocol_of protocols r.protocol.text ≡ Some q → steps_at protocols (position, Reference r) ≡ step_by position r q ∷ []

@@ -1,3 +1,5 @@
 -- What private functions alone cite.
 pub mod AddsEach
+pub mod Tables
+pub mod Links
 pub mod ScopeOf

@@ -1,9 +1,12 @@
-ghost use Rattle.std.specs.Prelude.{◌≡◌, ◌↔◌, false, slice_get, IsTrue, MatchOption, Some};
-ghost use Rattle.protocol_names.specs.Names.{protocol_of};
+ghost use Rattle.std.specs.Prelude.{◌≡◌, ◌↔◌, ◌<◌, false, slice_get, IsTrue, MatchOption, Some};
 ghost use Rattle.protocol_paths.specs.Skippable.{IsSkipped};
+ghost use Rattle.protocol_paths.specs.inner.Links.{IsLinkBy};
+ghost use Rattle.protocol_paths.specs.inner.ScopeOf.{HasTables, protocols_of};
 
+use super::link::Link;
+use super::name_tables::NameTables;
 use super::skippable::Skippable;
-use bspl_parser::{Declaration, Reference};
+use bspl_parser::Reference;
 use protocol_names::{ProtocolTable, names_find_protocols};
 use std::alloc::Global;
 
@@ -14,28 +17,38 @@ pub(crate) struct Context<'a> {
     pub alloc: Global,
     /// The protocols, by name.
     pub table: &'a ProtocolTable<'a>,
+    /// The names that each protocol declares, or nothing where no reference is followed.
+    pub names: &'a [NameTables],
     /// The protocols that need not be followed.
     pub skippable: &'a Skippable<'a>,
 }
 
-/// The protocol that a reference leads to, unless it is skipped.
-pub(crate) fn kept_target<'a>(
-    table: &ProtocolTable<'a>,
+/// The link of the reference at the position, unless the protocol that it leads to is skipped.
+pub(crate) fn kept_link<'a>(
+    context: &Context<'a>,
     flags: &[bool],
-    reference: &Reference,
-) -> Option<&'a Declaration>
+    position: usize,
+    reference: &'a Reference,
+) -> Option<Link<'a>>
+    requires counted { 0 < position }
+    requires tables { HasTables context.now }
     ensures { MatchOption result
-        (IsSkipped table.now.protocols.now flags.now reference.now.protocol.text)
-        (λ q. protocol_of table.now.protocols.now reference.now.protocol.text ≡ Some q.now) }
+        (IsSkipped (protocols_of context.now) flags.now reference.now.protocol.text)
+        (IsLinkBy (protocols_of context.now) position reference.now) }
 {
     // law: the first protocol of a name is at the first index of the name
     names_find_protocols();
     let name = reference.protocol.text.as_slice();
-    let number = table.names.index(name)?;
+    let number = context.table.names.index(name)?;
     if is_skipped(flags, number) {
         return None;
     }
-    table.protocol(name)
+    Some(Link {
+        position,
+        reference,
+        target: &context.table.protocols[number],
+        names: &context.names[number],
+    })
 }
 
 /// Whether the protocol of the number is skipped.

@@ -1,9 +1,7 @@
 ghost use Rattle.std.specs.Prelude.{◌≡◌, IfOk};
-ghost use Rattle.protocol_names.specs.Names.{param_words, texts};
 
-use bspl_parser::{Declaration, Formal, FormalList, Word, WordList};
+use bspl_parser::{Formal, FormalList, Word, WordList};
 use bspl_types::{NoMemory, Seq, TryClone};
-use protocol_names::NameTable;
 use std::alloc::Global;
 
 /// A copy of the word.
@@ -48,29 +46,4 @@ pub(crate) fn copied_formals(alloc: Global, formals: &[Formal]) -> Result<Formal
         copies.push(copied_formal(formal)?)?;
     }
     Ok(copies)
-}
-
-/// The parameters that the protocol declares, the public ones first.
-pub(crate) fn declared_params(alloc: Global, p: &Declaration) -> Result<WordList, NoMemory>
-    ensures { IfOk result (λ ws. ws ≡ param_words p.now) }
-{
-    let mut words = Seq::new(alloc);
-    for formal in p.public.as_slice() {
-        words.push(copied_word(&formal.name)?)?;
-    }
-    for word in p.private.as_slice() {
-        words.push(copied_word(word)?)?;
-    }
-    Ok(words)
-}
-
-/// A table of the words' names, in order.
-pub(crate) fn name_table_of(alloc: Global, words: &[Word]) -> Result<NameTable, NoMemory>
-    ensures { IfOk result (λ names. names ≡ texts words.now) }
-{
-    let mut names = NameTable::new(alloc);
-    for word in words {
-        names.push(word.text.as_slice())?;
-    }
-    Ok(names)
 }

@@ -3,6 +3,7 @@ ghost use Rattle.std.specs.List.{AllZip};
 ghost use Rattle.protocol_paths.specs.Flat.{IsImage, IsImageFormal};
 ghost use Rattle.protocol_paths.specs.inner.ScopeOf.{scope_of};
 
+use super::prefix::prefix_of;
 use super::scope::Scope;
 use super::substitution::{param_word, role_word};
 use bspl_parser::{Formal, FormalList, Schema};
@@ -13,10 +14,11 @@ use std::alloc::Global;
 pub(crate) fn image_of(alloc: Global, scope: &Scope, schema: &Schema) -> Result<Schema, NoMemory>
     ensures { IfOk result (IsImage (scope_of scope.now) schema.now) }
 {
+    let prefix = prefix_of(alloc, scope)?;
     Ok(Schema {
         sender: role_word(scope, &schema.sender)?,
         receiver: role_word(scope, &schema.receiver)?,
-        name: scope.prefix.word(&schema.name)?,
+        name: prefix.word(&schema.name)?,
         params: image_formals(alloc, scope, schema.params.as_slice())?,
     })
 }
@@ -27,19 +29,19 @@ fn image_formals(alloc: Global, scope: &Scope, formals: &[Formal]) -> Result<For
 {
     let mut images = Seq::new(alloc);
     for formal in formals {
-        images.push(image_formal(scope, formal)?)?;
+        images.push(image_formal(alloc, scope, formal)?)?;
     }
     Ok(images)
 }
 
 /// The image of one parameter.
-fn image_formal(scope: &Scope, formal: &Formal) -> Result<Formal, NoMemory>
+fn image_formal(alloc: Global, scope: &Scope, formal: &Formal) -> Result<Formal, NoMemory>
     ensures { IfOk result (IsImageFormal (scope_of scope.now) formal.now) }
 {
     Ok(Formal {
         adorn: formal.adorn,
         offset: formal.offset,
-        name: param_word(scope, &formal.name)?,
+        name: param_word(alloc, scope, &formal.name)?,
         key: None,
     })
 }

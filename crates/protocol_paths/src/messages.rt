@@ -3,9 +3,9 @@ ghost use Rattle.protocol_paths.specs.inner.AddsEach.{AddsEach};
 ghost use Rattle.protocol_paths.specs.Flat.{IsImageItem};
 ghost use Rattle.protocol_paths.specs.Skippable.{AreSkippable};
 ghost use Rattle.protocol_paths.specs.Path.{item_messages, message_paths};
-ghost use Rattle.protocol_paths.specs.inner.ScopeOf.{protocols_of, scope_of};
+ghost use Rattle.protocol_paths.specs.inner.ScopeOf.{HasTables, protocols_of, scope_of};
 
-use super::context::{Context, kept_target};
+use super::context::{Context, kept_link};
 use super::descent::next_scope;
 use super::image::image_of;
 use super::scope::Scope;
@@ -14,14 +14,15 @@ use bspl_types::NoMemory;
 
 /// Adds the messages at the ends of the paths of at most `limit` references.
 #[cycle(messages)]
-pub(crate) fn add_messages(
-    context: &Context,
+pub(crate) fn add_messages<'a>(
+    context: &Context<'a>,
     limit: usize,
-    scope: &Scope,
+    scope: &Scope<'a>,
     body: &mut ItemList,
 ) -> Result<(), NoMemory>
     requires within { limit ≤ length (protocols_of context.now) }
     requires skippable { AreSkippable (protocols_of context.now) context.now.skippable.now }
+    requires tables { 0 < limit → HasTables context.now }
     ensures { OnOk result (AddsEach (IsImageItem (scope_of scope.now))
         (message_paths limit (protocols_of context.now) scope.now.protocol.now) body.old body.new) }
 {
@@ -34,17 +35,18 @@ pub(crate) fn add_messages(
 
 /// Adds a message of the body, or those that a reference leads to.
 #[cycle(messages)]
-fn add_item(
-    context: &Context,
+fn add_item<'a>(
+    context: &Context<'a>,
     limit: usize,
-    scope: &Scope,
+    scope: &Scope<'a>,
     position: usize,
-    item: &Item,
+    item: &'a Item,
     body: &mut ItemList,
 ) -> Result<(), NoMemory>
     requires counted { 0 < position }
     requires within { limit ≤ length (protocols_of context.now) }
     requires skippable { AreSkippable (protocols_of context.now) context.now.skippable.now }
+    requires tables { 0 < limit → HasTables context.now }
     ensures { OnOk result (AddsEach (IsImageItem (scope_of scope.now))
         (item_messages limit (protocols_of context.now) (position, item.now)) body.old body.new) }
 {
@@ -58,10 +60,10 @@ fn add_item(
                 return Ok(());
             }
             let flags = context.skippable.messages;
-            let Some(target) = kept_target(context.table, flags, reference) else {
+            let Some(link) = kept_link(context, flags, position, reference) else {
                 return Ok(());
             };
-            let next = next_scope(context.alloc, scope, position, reference, target)?;
+            let next = next_scope(context.alloc, scope, &link)?;
             add_messages(context, limit - 1, &next, body)
         }
     }

@@ -1,7 +1,12 @@
 ghost use Rattle.std.specs.Prelude.{◌≡◌, ◌<◌, ◌++◌, [], IfOk};
+ghost use Rattle.bspl_parser.specs.declared.document.Declaration.{Declaration as SpecDeclaration};
 ghost use Rattle.protocol_paths.specs.Prefix.{IsPrefix, numbered_name};
 ghost use Rattle.protocol_paths.specs.Substituted.{IsSubstituted};
+ghost use Rattle.protocol_paths.specs.inner.Links.{scope_along};
+ghost use Rattle.protocol_paths.specs.inner.ScopeOf.{scope_of};
 
+use super::link::Link;
+use super::scope::Scope;
 use bspl_parser::Word;
 use bspl_types::{Bytes, NoMemory, Seq, TryClone};
 use std::alloc::Global;
@@ -16,7 +21,7 @@ pub(crate) struct Prefix {
 
 impl Prefix {
     /// The prefix of the top protocol.
-    pub fn none(alloc: Global) -> Prefix
+    fn none(alloc: Global) -> Prefix
         ensures { result.text ≡ [] }
     {
         Prefix {
@@ -25,13 +30,13 @@ impl Prefix {
     }
 
     /// The prefix after one more reference, at the position, to the target.
-    pub fn longer(&self, alloc: Global, target: &Word, position: usize) -> Result<Prefix, NoMemory>
+    fn longer(self, alloc: Global, target: &Word, position: usize) -> Result<Prefix, NoMemory>
         requires { 0 < position }
         ensures { IfOk result (λ p.
-            p.text ≡ self.now.text ++ numbered_name target.now.text position) }
+            p.text ≡ self.text ++ numbered_name target.now.text position) }
     {
         let number = position.to_string(alloc)?;
-        let mut text = self.text.try_clone()?;
+        let mut text = self.text;
         text.append(target.text.as_slice())?;
         text.append(b"#")?;
         text.append(number.as_bytes())?;
@@ -50,4 +55,23 @@ impl Prefix {
             offset: word.offset,
         })
     }
+}
+
+/// The prefix of the scope.
+pub(crate) fn prefix_of(alloc: Global, scope: &Scope) -> Result<Prefix, NoMemory>
+    ensures { IfOk result (λ p. p.text ≡ (scope_of scope.now).prefix) }
+{
+    prefix_along(alloc, scope.links.as_slice())
+}
+
+/// The prefix at the end of the links.
+pub(crate) fn prefix_along(alloc: Global, links: &[Link]) -> Result<Prefix, NoMemory>
+    ensures { (top : SpecDeclaration) →
+        IfOk result (λ p. p.text ≡ (scope_along top links.now).prefix) }
+{
+    let mut prefix = Prefix::none(alloc);
+    for link in links {
+        prefix = prefix.longer(alloc, &link.target.name, link.position)?;
+    }
+    Ok(prefix)
 }

@@ -2,29 +2,31 @@ ghost use Rattle.std.specs.Prelude.{◌≡◌, ◌<◌, ◌≤◌, ◌++◌, len
 ghost use Rattle.protocol_paths.specs.Flat.{entry, private_entries};
 ghost use Rattle.protocol_paths.specs.Skippable.{AreSkippable};
 ghost use Rattle.protocol_paths.specs.inner.AddsEach.{entries_after};
-ghost use Rattle.protocol_paths.specs.inner.ScopeOf.{protocols_of, scope_of};
+ghost use Rattle.protocol_paths.specs.inner.ScopeOf.{HasTables, protocols_of, scope_of};
 
-use super::context::{Context, kept_target};
+use super::context::{Context, kept_link};
 use super::descent::next_scope;
-use super::prefix::Prefix;
+use super::prefix::{Prefix, prefix_of};
 use super::scope::Scope;
 use bspl_parser::{Item, Word, WordList};
 use bspl_types::NoMemory;
 
 /// Adds the private parameters at the ends of the paths of at most `limit` references.
 #[cycle(privates)]
-pub(crate) fn add_privates(
-    context: &Context,
+pub(crate) fn add_privates<'a>(
+    context: &Context<'a>,
     limit: usize,
-    scope: &Scope,
+    scope: &Scope<'a>,
     private: &mut WordList,
 ) -> Result<(), NoMemory>
     requires within { limit ≤ length (protocols_of context.now) }
     requires skippable { AreSkippable (protocols_of context.now) context.now.skippable.now }
+    requires tables { 0 < limit → HasTables context.now }
     ensures { OnOk result (map entry private.new ≡ map entry private.old
         ++ private_entries limit (protocols_of context.now) (scope_of scope.now)) }
 {
-    add_own(&scope.prefix, scope.protocol.private.as_slice(), private)?;
+    let prefix = prefix_of(context.alloc, scope)?;
+    add_own(&prefix, scope.protocol.private.as_slice(), private)?;
     if limit == 0 {
         return Ok(());
     }
@@ -37,17 +39,18 @@ pub(crate) fn add_privates(
 
 /// Adds the private parameters to which a reference leads, by at most `limit` further references.
 #[cycle(privates)]
-fn add_after(
-    context: &Context,
+fn add_after<'a>(
+    context: &Context<'a>,
     limit: usize,
-    scope: &Scope,
+    scope: &Scope<'a>,
     position: usize,
-    item: &Item,
+    item: &'a Item,
     private: &mut WordList,
 ) -> Result<(), NoMemory>
     requires counted { 0 < position }
     requires within { limit ≤ length (protocols_of context.now) }
     requires skippable { AreSkippable (protocols_of context.now) context.now.skippable.now }
+    requires tables { HasTables context.now }
     ensures { OnOk result (map entry private.new ≡ map entry private.old
         ++ entries_after limit (protocols_of context.now) (scope_of scope.now)
         (position, item.now)) }
@@ -55,10 +58,11 @@ fn add_after(
     let Item::Reference(reference) = item else {
         return Ok(());
     };
-    let Some(target) = kept_target(context.table, context.skippable.privates, reference) else {
+    let flags = context.skippable.privates;
+    let Some(link) = kept_link(context, flags, position, reference) else {
         return Ok(());
     };
-    let next = next_scope(context.alloc, scope, position, reference, target)?;
+    let next = next_scope(context.alloc, scope, &link)?;
     add_privates(context, limit, &next, private)
 }
 

@@ -1,25 +1,20 @@
-ghost use Rattle.std.specs.Prelude.{◌≡◌};
-ghost use Rattle.protocol_names.specs.Names.{param_words, texts};
+ghost use Rattle.std.specs.Prelude.{◌≡◌, map};
+ghost use Rattle.protocol_paths.specs.Path.{end_of};
+ghost use Rattle.protocol_paths.specs.inner.Links.{step_of};
 
-use super::prefix::Prefix;
-use bspl_parser::{Declaration, WordList};
-use protocol_names::NameTable;
+use super::link::Link;
+use bspl_parser::Declaration;
+use bspl_types::Seq;
 
-/// What a path makes of the names of the protocol at its end.
+/// The protocol at the end of a path, and the references of the path. What becomes of its names is
+/// found along these when it is asked for.
 #[derive(Drop)]
 pub(crate) struct Scope<'a> {
+    /// The protocol where the path begins.
+    pub top: &'a Declaration,
+    /// The references, from the first on.
+    pub links: Seq<Link<'a>>,
     /// The protocol at the end of the path.
     pub protocol: &'a Declaration,
-    /// What its private names and message names begin with.
-    pub prefix: Prefix,
-    /// The declared roles.
-    pub role_names: NameTable,
-    /// The declared parameters, the public ones first.
-    pub param_names: NameTable,
-    /// What is substituted for each role, in declared order.
-    pub roles: WordList,
-    /// What is substituted for each parameter, in declared order.
-    pub params: WordList,
-    pub ghost role_order: { role_names ≡ texts protocol.now.roles },
-    pub ghost param_order: { param_names ≡ texts (param_words protocol.now) },
+    pub ghost at_end: { protocol.now ≡ end_of top.now (map step_of links) },
 }

@@ -1,46 +1,75 @@
 ghost use Rattle.std.specs.Prelude.{◌≡◌, IfOk};
-ghost use Rattle.protocol_names.specs.Names.{texts};
-ghost use Rattle.protocol_paths.specs.Scope.{param_at, role_at, substituted};
+ghost use Rattle.bspl_parser.specs.declared.document.Declaration.{Declaration as SpecDeclaration};
+ghost use Rattle.protocol_paths.specs.Scope.{param_at, role_at};
 ghost use Rattle.protocol_paths.specs.Substituted.{IsSubstituted};
+ghost use Rattle.protocol_paths.specs.inner.Links.{scope_along};
 ghost use Rattle.protocol_paths.specs.inner.ScopeOf.{scope_of};
 
+use super::copies::copied_word;
+use super::link::Link;
+use super::prefix::prefix_along;
 use super::scope::Scope;
 use bspl_parser::Word;
 use bspl_types::{NoMemory, TryClone};
-use protocol_names::NameTable;
+use std::alloc::Global;
 
 /// The role's word, under the name that is substituted for it in the scope.
 pub(crate) fn role_word(scope: &Scope, role: &Word) -> Result<Word, NoMemory>
     ensures { IfOk result (IsSubstituted (role_at (scope_of scope.now) role.now.text) role.now) }
 {
-    let other = substitute(&scope.role_names, scope.roles.as_slice(), role);
-    with_text(other, role)
+    let given = given_role(scope.links.as_slice(), role);
+    Ok(Word {
+        text: given.text.try_clone()?,
+        offset: role.offset,
+    })
+}
+
+/// The word that the references of a path give for a role.
+fn given_role<'w>(links: &'w [Link<'w>], role: &'w Word) -> &'w Word
+    ensures { (top : SpecDeclaration) →
+        result.now.text ≡ role_at (scope_along top links.now) role.now.text }
+{
+    let Some((link, outer)) = links.split_last() else {
+        return role;
+    };
+    let Some(index) = link.names.roles.index(role.text.as_slice()) else {
+        return role;
+    };
+    match link.reference.roles.as_slice().get(index) {
+        Some(given) => given_role(outer, given),
+        None => role,
+    }
 }
 
 /// The parameter's word, under the name that is substituted for it in the scope.
-pub(crate) fn param_word(scope: &Scope, param: &Word) -> Result<Word, NoMemory>
+pub(crate) fn param_word(alloc: Global, scope: &Scope, param: &Word) -> Result<Word, NoMemory>
     ensures { IfOk result (IsSubstituted (param_at (scope_of scope.now) param.now.text) param.now) }
 {
-    let other = substitute(&scope.param_names, scope.params.as_slice(), param);
-    with_text(other, param)
-}
-
-/// The word at the index of a declared name, or the word itself.
-fn substitute<'w>(declared: &NameTable, words: &'w [Word], word: &'w Word) -> &'w Word
-    ensures { result.now.text ≡ substituted declared.now (texts words.now) word.now.text }
-{
-    let Some(index) = declared.index(word.text.as_slice()) else {
-        return word;
-    };
-    words.get(index).unwrap_or(word)
-}
-
-/// The second word, with the text of the first.
-fn with_text(other: &Word, word: &Word) -> Result<Word, NoMemory>
-    ensures { IfOk result (IsSubstituted other.now.text word.now) }
-{
+    let given = given_param(alloc, scope.links.as_slice(), param)?;
     Ok(Word {
-        text: other.text.try_clone()?,
-        offset: word.offset,
+        text: given.text,
+        offset: param.offset,
     })
+}
+
+/// The word that the references of a path give for a parameter. A private one has the prefix of
+/// the protocol that declares it.
+fn given_param(alloc: Global, links: &[Link], param: &Word) -> Result<Word, NoMemory>
+    ensures { (top : SpecDeclaration) → IfOk result (λ w.
+        w.text ≡ param_at (scope_along top links.now) param.now.text) }
+{
+    let Some((link, outer)) = links.split_last() else {
+        return copied_word(param);
+    };
+    let Some(index) = link.names.params.index(param.text.as_slice()) else {
+        return copied_word(param);
+    };
+    let given = link.reference.params.as_slice();
+    if let Some(formal) = given.get(index) {
+        return given_param(alloc, outer, &formal.name);
+    }
+    match link.target.private.as_slice().get(index - given.len()) {
+        Some(own) => prefix_along(alloc, links)?.word(own),
+        None => copied_word(param),
+    }
 }

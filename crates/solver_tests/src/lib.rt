@@ -6,8 +6,6 @@ mod checker_tests;
 #[cfg(test)]
 mod clause_tests;
 #[cfg(test)]
-mod dimacs_tests;
-#[cfg(test)]
 mod formulas;
 #[cfg(test)]
 mod log_tests;

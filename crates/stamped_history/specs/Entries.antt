@@ -1,5 +1,5 @@
 -- The events and the clock of a stamped history.
-use Rattle.std.specs.Prelude.{ℕ, List, [], ◌∷◌, map}
+use Rattle.std.specs.Prelude.{ℕ, ◌<◌, List, [], ◌∷◌, map, AllPairs}
 use Rattle.bspl_types.specs.declared.event.Event.{Event}
 use Rattle.stamped_history.specs.declared.entry.Entry.{Entry}
 
@@ -12,3 +12,7 @@ abbrev pub last_stamp : List Entry → ℕ
 last_stamp [] = 0
 last_stamp (e ∷ []) = e.stamp
 last_stamp (e ∷ (f ∷ rest)) = last_stamp (f ∷ rest)
+
+-- each entry has a higher stamp than those before it
+abbrev pub StampsRise : List Entry → Type 0
+StampsRise entries = AllPairs (λ e f. e.stamp < f.stamp) entries

@@ -9,8 +9,9 @@ use Rattle.bspl_types.specs.Knowledge.{Knows}
 use Rattle.enactment_model.specs.Legal.{IsLegalRun}
 use Rattle.enactment_model.specs.Safety.{SafeProtocol}
 use Rattle.stamped_history.specs.declared.entry.Entry.{Entry}
-use Rattle.stamped_history.specs.Entries.{events_of}
+use Rattle.stamped_history.specs.Entries.{events_of, StampsRise}
 use Rattle.stamped_history.specs.Explained.{history_at, AreLocal, AreExplained}
+use Rattle.stamped_history.specs.Local.{IsLocal}
 use Rattle.stamped_history.specs.Merged.{IsMerged}
 
 -- a legal run, in which each role's history is its own, and that has as many events as the greatest
@@ -38,3 +39,8 @@ StoresAgree = (x : Expanded) (histories : List (List Entry)) (run : List Event) 
     (role other : ℕ) (key : List Value) (p : ℕ) (v w : Value) →
     Knows x (events_of (history_at histories role)) key p v →
     Knows x (events_of (history_at histories other)) key p w → v ≡ w
+
+-- the stamps of a local history rise
+abbrev pub LocalStampsRise : Type 0
+LocalStampsRise =
+    (x : Expanded) (role : ℕ) (entries : List Entry) → IsLocal x role entries → StampsRise entries

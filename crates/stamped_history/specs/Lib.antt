@@ -3,4 +3,5 @@ pub mod Entries
 pub mod Local
 pub mod Explained
 pub mod Merged
+pub mod Extended
 pub mod Laws

@@ -2,14 +2,10 @@
 use Rattle.std.specs.Prelude.{◌≡◌, ℕ, ◌<◌, ◌==◌, ◌⊎◌, List, map, filter, AllPairs}
 use Rattle.bspl_types.specs.declared.event.Event.{Event}
 use Rattle.stamped_history.specs.declared.entry.Entry.{Entry}
+use Rattle.stamped_history.specs.declared.entry.RoleEntry.{RoleEntry}
 use Rattle.stamped_history.specs.Explained.{history_at}
 
--- an entry of a role's history
-pub record RoleEntry : Type 0 where
-  pub role : ℕ
-  pub entry : Entry
-
--- its stamp is lower, or it is the same and its role is lower
+-- the first entry's stamp is lower, or the stamps are equal and its role is lower
 abbrev pub ComesBefore : RoleEntry → RoleEntry → Type 0
 ComesBefore a b = (a.entry.stamp < b.entry.stamp) ⊎
     ((a.entry.stamp ≡ b.entry.stamp) × (a.role < b.role))

@@ -10,3 +10,12 @@ pub struct Entry {
     /// Of an emission its own index in the history, of a receipt the index of its emission in the sender's.
     pub number: u32,
 }
+
+/// An entry of a role's history, among those of all roles.
+#[derive(Clone, Copy, Debug)]
+pub struct RoleEntry {
+    /// The role, by its index in the protocol's roles.
+    pub role: usize,
+    /// The entry.
+    pub entry: Entry,
+}

@@ -1,4 +1,6 @@
-ghost use Rattle.stamped_history.specs.Laws.{HistoriesMerge, MergedRunsAreOne, StoresAgree};
+ghost use Rattle.stamped_history.specs.Extended.{EmissionKeepsExplained, ReceiptKeepsExplained};
+ghost use Rattle.stamped_history.specs.Laws.{HistoriesMerge, LocalStampsRise};
+ghost use Rattle.stamped_history.specs.Laws.{MergedRunsAreOne, StoresAgree};
 
 /// Local histories whose receipts are all explained merge into a legal run, in which each role has its own
 /// history (Lamport 1978: an order by logical clocks extends the order of cause and effect).
@@ -14,4 +16,15 @@ pub fn merged_runs_are_one()
 /// What two roles of a safe protocol know of one parameter under one key is one value.
 pub fn stores_agree()
     ensures { StoresAgree }
+{}
+
+/// The stamps of a local history rise: each is greater than those before it (Lamport 1978).
+pub fn local_stamps_rise()
+    ensures { LocalStampsRise }
+{}
+
+/// One entry more leaves all receipts explained: an emission, or a receipt that is explained itself.
+pub fn extended_stay_explained()
+    ensures emission { EmissionKeepsExplained }
+    ensures receipt { ReceiptKeepsExplained }
 {}

@@ -39,12 +39,6 @@ pub fn is_answer(alloc: Global, text: &str, wanted: CommandLine<'_>) -> Result<b
     Ok(command_line(alloc, args.as_slice())? == Some(wanted))
 }
 
-/// Whether the arguments are no command line.
-pub fn is_refused(alloc: Global, text: &str) -> Result<bool, Fail> {
-    let args = args_of(alloc, text)?;
-    Ok(command_line(alloc, args.as_slice())?.is_none())
-}
-
 #[test]
 fn reads_commands_and_flags(rt: HostRuntime) -> Result<(), Fail> {
     let verify = on(Command::Verify, "P");
@@ -110,63 +104,5 @@ fn reads_commands_and_flags(rt: HostRuntime) -> Result<(), Fail> {
     for (text, wanted) in rows {
         assert!(rt; is_answer(rt.alloc(), text, wanted)?, "{text}");
     }
-    Ok(())
-}
-
-#[test]
-fn refuses_positional_arguments(rt: HostRuntime) -> Result<(), Fail> {
-    let rows = [
-        "",
-        " ",
-        "verify",
-        "P",
-        "verify P Q",
-        "verify P ",
-        " verify P",
-        "verify ",
-        " P",
-        "Verify P",
-        "verif P",
-        "verifyy P",
-        "P verify",
-        "help verify",
-        "verify role",
-        "verify key",
-        "run nil",
-        "verify 1P",
-        "verify P.Q",
-        "verify P#",
-        "verify P#0.Q",
-        "verify P#01.Q",
-        "verify P#1",
-        "verify P-",
-        "verify 7",
-        "generate P",
-        "generate 0",
-        "generate 17",
-        "generate 01",
-        "generate 1x",
-        "generate +1",
-        "generate 18446744073709551617",
-        "generate 115792089237316195423570985008687907853269984665640564039457584007913129639937",
-        "- P",
-        "verify -",
-        "verify - P",
-        "--",
-        "-- verify",
-        "verify --",
-        "verify -- P Q",
-        "verify P -- --brief",
-        "verify -- --brief",
-        "-- --brief verify P",
-        "verify P -- --",
-        "verify -- -- P",
-        "-- -- verify P",
-    ];
-    for text in rows {
-        assert!(rt; is_refused(rt.alloc(), text)?, "{text}");
-    }
-    let none: Vec<String> = Vec::new(rt.alloc());
-    assert!(rt; command_line(rt.alloc(), none.as_slice())?.is_none());
     Ok(())
 }

@@ -4,38 +4,17 @@ use bspl_types::{Bytes, NumberList};
 use std::alloc::{AllocError, Global};
 use std::test::Fail;
 
-pub const PING: &[u8] = b"Ping { roles A, B parameters out ID key A -> B: ping[out ID] }";
+const PING: &[u8] = b"Ping { roles A, B parameters out ID key A -> B: ping[out ID] }";
 
 const NOT_BUILT: &[u8] = b"refused N1\n";
 
 /// The arguments of a row, with blanks between them.
-pub fn args_of(alloc: Global, text: &str) -> Result<Vec<String>, AllocError> {
+fn args_of(alloc: Global, text: &str) -> Result<Vec<String>, AllocError> {
     let mut args = Vec::new(alloc);
     for arg in text.split_whitespace() {
         args.push(arg.to_string(alloc)?)?;
     }
     Ok(args)
-}
-
-/// The status and the text that the arguments and the input give.
-pub fn answer_to(alloc: Global, args: &str, text: &[u8]) -> Result<(Status, Bytes), Fail> {
-    let args = args_of(alloc, args)?;
-    let mut input = PlainSource::new(Bytes::from_slice(alloc, text)?);
-    let mut output = PlainSink::new(alloc);
-    let given = bspl(alloc, args.as_slice(), &mut input, &mut output);
-    Ok((given, Bytes::from_slice(alloc, output.written())?))
-}
-
-/// Whether the arguments and the input give that text and that status.
-pub fn answers(
-    alloc: Global,
-    args: &str,
-    text: &[u8],
-    wanted: &[u8],
-    status: Status,
-) -> Result<bool, Fail> {
-    let (given, output) = answer_to(alloc, args, text)?;
-    Ok(given == status && output.as_slice() == wanted)
 }
 
 #[test]

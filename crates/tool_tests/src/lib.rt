@@ -6,18 +6,8 @@ mod argument_tests;
 #[cfg(test)]
 mod call_tests;
 #[cfg(test)]
-mod expansion_tests;
-#[cfg(test)]
-mod formula_tests;
-#[cfg(test)]
 mod option_tests;
 #[cfg(test)]
 mod program_args_tests;
 #[cfg(test)]
-mod protocol_texts;
-#[cfg(test)]
 mod rejection_tests;
-#[cfg(test)]
-mod text_tests;
-#[cfg(test)]
-mod verdict_tests;

@@ -1,7 +1,10 @@
-//! Gives each worked row on standard input to the tool, and prints those that are answered otherwise.
+//! Gives each worked row on standard input to its program, and prints those that are answered otherwise.
 #![tactic(auto)]
 
+mod answer;
+mod evidence;
 mod row;
+mod spelling;
 mod tally;
 
 use bspl_io::{ReadRefusal, Sink, Source, StdSink, StdSource, WriteRefusal, read_all, write_all};

@@ -1,53 +1,63 @@
-use bspl_io::{PlainSink, PlainSource};
-use bspl_tool::bspl;
-use list_base::{Bytes, NoMemory, TryClone};
+use super::answer::{Answer, answer_to};
+use super::evidence::without_evidence;
+use super::spelling::append_line;
+use list_base::{Bytes, NoMemory};
 use std::alloc::Global;
 
-/// Arguments and an input, with the status and the output that are wanted.
+/// A command and an input, with the status and the output that are wanted.
 #[derive(Drop)]
 pub(crate) struct Row {
-    pub args: Bytes,
-    pub input: Bytes,
-    pub status: Option<Bytes>,
-    pub output: Bytes,
+    pub command: Bytes,
+    input: Bytes,
+    status: Option<Bytes>,
+    /// Whether the evidence of verdicts is tried in place of being wanted as it stands.
+    is_tried: bool,
+    output: Bytes,
 }
 
 impl Row {
-    /// A row with these arguments, one blank between two of them.
-    pub(crate) fn of(alloc: Global, args: &[u8]) -> Result<Row, NoMemory> {
+    /// A row with this command, a program's name and its arguments.
+    pub(crate) fn of(alloc: Global, command: &[u8]) -> Result<Row, NoMemory> {
         Ok(Row {
-            args: Bytes::from_slice(alloc, args)?,
+            command: Bytes::from_slice(alloc, command)?,
             input: Bytes::new(alloc),
             status: None,
+            is_tried: false,
             output: Bytes::new(alloc),
         })
     }
 
-    /// Puts a line to the input, or to the output once the status is known. A backslash at the end of a
-    /// line of the input takes its LF away.
-    pub(crate) fn push_line(&mut self, line: &[u8]) -> Result<(), NoMemory> {
+    /// Ends the input with the status that is wanted.
+    pub(crate) fn want(
+        &mut self,
+        alloc: Global,
+        status: &[u8],
+        is_tried: bool,
+    ) -> Result<(), NoMemory> {
+        self.status = Some(Bytes::from_slice(alloc, status)?);
+        self.is_tried = is_tried;
+        Ok(())
+    }
+
+    /// Puts a line to the input, or to the output once the status is known.
+    pub(crate) fn push_line(&mut self, alloc: Global, line: &[u8]) -> Result<(), NoMemory> {
         if self.status.is_some() {
-            self.output.append(line)?;
-            return self.output.push(b'\n');
-        }
-        match line.split_last() {
-            Some((b'\\', kept)) => self.input.append(kept),
-            _ => {
-                self.input.append(line)?;
-                self.input.push(b'\n')
-            }
+            append_line(alloc, &mut self.output, line)
+        } else {
+            append_line(alloc, &mut self.input, line)
         }
     }
 
-    /// What the tool gives for the arguments and the input.
+    /// What the program gives for the command and the input.
     pub(crate) fn answer(&self, alloc: Global) -> Result<Answer, NoMemory> {
-        let args = args_of(alloc, self.args.as_slice())?;
-        let mut input = PlainSource::new(self.input.try_clone()?);
-        let mut output = PlainSink::new(alloc);
-        let status = bspl(alloc, args.as_slice(), &mut input, &mut output);
+        let input = self.input.as_slice();
+        let answer = answer_to(alloc, self.command.as_slice(), input)?;
+        if !self.is_tried {
+            return Ok(answer);
+        }
         Ok(Answer {
-            status: status.number().to_string(alloc)?,
-            output: Bytes::from_slice(alloc, output.written())?,
+            output: without_evidence(alloc, input, answer.output.as_slice())?,
+            status: answer.status,
         })
     }
 
@@ -59,23 +69,4 @@ impl Row {
         status.as_slice() == answer.status.as_bytes()
             && self.output.as_slice() == answer.output.as_slice()
     }
-}
-
-/// An exit status and an output.
-#[derive(Drop)]
-pub(crate) struct Answer {
-    pub status: String,
-    pub output: Bytes,
-}
-
-/// The arguments, which are text.
-fn args_of(alloc: Global, text: &[u8]) -> Result<Vec<String>, NoMemory> {
-    let mut args = Vec::new(alloc);
-    let Ok(text) = str::from_utf8(text) else {
-        return Ok(args);
-    };
-    for arg in text.split_whitespace() {
-        args.push(arg.to_string(alloc)?)?;
-    }
-    Ok(args)
 }

@@ -11,7 +11,7 @@ struct Tally {
 }
 
 impl Tally {
-    /// Counts the row. If it is answered otherwise, its number, its arguments and the answer are reported.
+    /// Counts the row. If it is answered otherwise, its number, its command and the answer are reported.
     fn count(&mut self, alloc: Global, row: &Row) -> Result<(), NoMemory> {
         self.rows = self.rows.saturating_add(1);
         let answer = row.answer(alloc)?;
@@ -22,7 +22,7 @@ impl Tally {
         self.report.append(b"row ")?;
         self.report.append(self.rows.to_string(alloc)?.as_bytes())?;
         self.report.append(b" is answered otherwise\n$")?;
-        self.report.append(row.args.as_slice())?;
+        self.report.append(row.command.as_slice())?;
         self.report.append(b"\n= ")?;
         self.report.append(answer.status.as_bytes())?;
         self.report.push(b'\n')?;
@@ -30,9 +30,9 @@ impl Tally {
     }
 }
 
-/// The report on the rows. A line `$ ARGUMENTS` begins a row, the lines after it are the input, a line
-/// `= STATUS` ends the input, and the lines after that are the output. A line that begins with `# ` is
-/// passed over.
+/// The report on the rows. A line `$ PROGRAM ARGUMENTS` begins a row, the lines after it are the input, a
+/// line `= STATUS` or `~ STATUS` ends the input, and the lines after that are the output. A line that
+/// begins with `# ` is passed over.
 pub(crate) fn report_on(alloc: Global, rows: &[u8]) -> Result<Bytes, NoMemory> {
     let mut tally = Tally {
         rows: 0,
@@ -80,9 +80,12 @@ fn take_line(
     let Some(mut row) = row else {
         return Ok(None);
     };
-    match line.strip_prefix(b"= ") {
-        Some(status) => row.status = Some(Bytes::from_slice(alloc, status)?),
-        None => row.push_line(line)?,
+    if let Some(status) = line.strip_prefix(b"= ") {
+        row.want(alloc, status, false)?;
+    } else if let Some(status) = line.strip_prefix(b"~ ") {
+        row.want(alloc, status, true)?;
+    } else {
+        row.push_line(alloc, line)?;
     }
     Ok(Some(row))
 }

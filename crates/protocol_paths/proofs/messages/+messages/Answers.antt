@@ -3,9 +3,10 @@ use Rattle.std.proofs.Common.{◌∙◌, refl, ap, arith}
 use Rattle.bspl_parser.specs.declared.document.Item.{Item}
 use Rattle.protocol_paths.specs.Flat.{IsImageItem}
 use Rattle.protocol_paths.specs.Path.{item_messages}
+use Rattle.protocol_paths.specs.Scope.{after}
 use Rattle.protocol_paths.specs.inner.ScopeOf.{protocols_of, scope_of}
 use Rattle.protocol_paths.proofs.AddingLemmas.{adds_all, adds_more, adds_none}
-use Rattle.protocol_paths.proofs.ReferenceLemmas.{added_after, messages_skipped}
+use Rattle.protocol_paths.proofs.ReferenceLemmas.{added_after, link_step, messages_skipped}
 use Rattle.protocol_paths.proofs.messages.+messages.Goals as goal
 
 pub add_item-returns-in_default : goal.add_item-returns-in_default
@@ -16,8 +17,9 @@ add_item-returns-in_default t c =
 
 pub add_item-returns-in_ok-next-in-Reference : goal.add_item-returns-in_ok-next-in-Reference
 add_item-returns-in_ok-next-in-Reference t c =
-    added_after (protocols_of c.args.context.now) (scope_of c.args.scope.now) (scope_of c.in_ok-next-in-Reference.next) c.args.limit c.args.position c.in-Reference.reference c.in-Some.target.now c.args.item.now c.args.body.now c.add_messages.new.body c.add_messages.result
-    c.in-Reference.is (omega arith) c.in-Some.ensures c.in_ok-next-in-Reference.ensures c.add_messages.ensures
+    let link = c.in-Some.link in
+    added_after (protocols_of c.args.context.now) (scope_of c.args.scope.now) (scope_of c.in_ok-next-in-Reference.next) c.args.limit c.args.position c.in-Reference.reference link.target.now c.args.item.now c.args.body.now c.add_messages.new.body c.add_messages.result
+    c.in-Reference.is (omega arith) c.in-Some.ensures.leads (c.in_ok-next-in-Reference.ensures ∙ ap (after (scope_of c.args.scope.now)) (link_step (protocols_of c.args.context.now) c.args.position c.in-Reference.reference link c.in-Some.ensures)) c.add_messages.ensures
 
 pub add_messages-loop-index-preserved : goal.add_messages-loop-index-preserved
 add_messages-loop-index-preserved t c =

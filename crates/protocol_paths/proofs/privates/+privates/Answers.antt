@@ -1,18 +1,31 @@
 -- What has been added, item by item.
-use Rattle.std.proofs.Common.{◌-◌, ◌∙◌, map, ap, arith}
+use Rattle.std.proofs.Common.{◌-◌, ◌++◌, ◌∙◌, map, ap, arith}
 use Rattle.bspl_parser.specs.declared.document.Item.{Item}
 use Rattle.protocol_paths.specs.Flat.{entry, privates_at}
+use Rattle.protocol_paths.specs.Scope.{after}
 use Rattle.protocol_paths.specs.inner.ScopeOf.{protocols_of, scope_of}
 use Rattle.protocol_paths.specs.inner.AddsEach.{entries_after}
-use Rattle.protocol_paths.proofs.EntryLemmas.{after_all, after_more, after_none, entries_skipped}
+use Rattle.protocol_paths.proofs.AddingLemmas.{on_ok}
+use Rattle.protocol_paths.proofs.ReferenceLemmas.{link_step}
+use Rattle.protocol_paths.proofs.EntryLemmas.{after_all, after_more, after_none, entries_skipped, entries_through}
 use Rattle.protocol_paths.proofs.privates.+privates.Goals as goal
 
-pub add_after-returns-in_default-kept_target : goal.add_after-returns-in_default-kept_target
-add_after-returns-in_default-kept_target t c =
+pub add_after-returns-in_default-kept_link : goal.add_after-returns-in_default-kept_link
+add_after-returns-in_default-kept_link t c =
     let protocols = protocols_of c.args.context.now in
     let scope = scope_of c.args.scope.now in
     after_none (entries_after c.args.limit protocols scope (c.args.position, c.args.item.now)) (map entry c.args.private.now)
-    (ap (λ (i : Item). entries_after c.args.limit protocols scope (c.args.position, i)) c.in-Reference.is ∙ entries_skipped c.args.limit protocols c.args.context.now.skippable.now scope c.args.position c.in-Reference.reference c.requires.within c.requires.skippable c.in_default-kept_target.ensures)
+    (ap (λ (i : Item). entries_after c.args.limit protocols scope (c.args.position, i)) c.in-Reference.is ∙ entries_skipped c.args.limit protocols c.args.context.now.skippable.now scope c.args.position c.in-Reference.reference c.requires.within c.requires.skippable c.in_default-kept_link.ensures)
+
+pub add_after-returns : goal.add_after-returns
+add_after-returns t c =
+    let protocols = protocols_of c.args.context.now in
+    let scope = scope_of c.args.scope.now in
+    let link = c.in-Some.link in
+    let leads = c.in_ok-next.ensures ∙ ap (after scope) (link_step protocols c.args.position c.in-Reference.reference link c.in-Some.ensures) in
+    on_ok c.add_privates.result
+    (λ added. added ∙ ap (λ list. map entry c.args.private.now ++ list) (entries_through c.args.limit protocols scope (scope_of c.in_ok-next.next) c.args.position c.in-Reference.reference link.target.now c.args.item.now c.in-Reference.is c.in-Some.ensures.leads leads))
+    c.add_privates.ensures
 
 pub add_privates-loop-index-preserved : goal.add_privates-loop-index-preserved
 add_privates-loop-index-preserved t c =

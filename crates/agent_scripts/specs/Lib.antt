@@ -1,0 +1,13 @@
+-- The definitions that the contracts cite, in reading order.
+pub mod Lines
+pub mod Table
+pub mod Statement
+pub mod Rules
+pub mod Script
+pub mod Given
+pub mod ScriptText
+pub mod Refusal
+pub mod Laws
+pub mod Fitting
+pub mod Plan
+pub mod Job

@@ -1,0 +1,59 @@
+-- What a script is, and which script and plan the statements of a text give.
+use Rattle.std.specs.Prelude.{ℕ, ◌+◌, ◌*◌, ◌%◌, Bool, true, false, not, ◌==◌, ◌&&◌, if◌then◌else◌}
+use Rattle.std.specs.Prelude.{List, [], ◌∷◌, map}
+use Rattle.std.specs.List.{filter, list_any}
+use Rattle.bspl_types.specs.declared.expanded.Expanded.{Expanded}
+use Rattle.bspl_types.specs.declared.protocol.Adornment.{Adornment}
+use Rattle.bspl_types.specs.declared.protocol.Adornment.TheVariants.{Out}
+use Rattle.bspl_types.specs.declared.protocol.Carried.{Carried}
+use Rattle.bspl_types.specs.declared.value.Value.{Value}
+use Rattle.bspl_types.specs.declared.value.Value.TheVariants.{Number, Text}
+use Rattle.bspl_types.specs.Expansion.{message_of}
+use Rattle.agent_scripts.specs.declared.rules.Declined.{Declined}
+use Rattle.agent_scripts.specs.declared.rules.ValueRule.{ValueRule}
+use Rattle.agent_scripts.specs.declared.statement.Rule.{Rule}
+use Rattle.agent_scripts.specs.declared.statement.Rule.TheVariants.{Linear, Fixed}
+
+-- the workload keys; for each role the messages that it sends, in the order of attempt;
+-- which are declined, at the multiples of which number; the rules of values
+pub record Script : Type 0 where
+  pub keys : List (List Value)
+  pub orders : List (List ℕ)
+  pub declines : List Declined
+  pub rules : List ValueRule
+
+-- the script declines message m at workload number n
+abbrev pub is_declined : Script → ℕ → ℕ → Bool
+is_declined script m n = list_any (λ d. d.message == m && n % d.every == 0) script.declines
+
+-- the rule of a parameter that the message gives, or 100 times the number and the message's number
+abbrev pub rule_of : List ValueRule → ℕ → ℕ → Rule
+rule_of [] m p = Linear 100 (m + 1)
+rule_of (r ∷ rules) m p =
+    if r.message == m && r.param == p then r.rule else rule_of rules m p
+
+-- the value that a rule gives at workload number n
+abbrev pub value_at : Rule → ℕ → Value
+value_at (Linear a b) n = Number (a * n + b)
+value_at (Fixed text) n = Text text
+
+-- adorned `out`
+abbrev pub is_out : Adornment → Bool
+is_out Out = true
+is_out _ = false
+
+-- an `out` parameter that is no key
+abbrev pub is_free_out : List ℕ → Carried → Bool
+is_free_out keys c = is_out c.adornment && not (list_any (λ k. k == c.param) keys)
+
+-- the parameters whose values message m gives, in its order
+abbrev pub free_outs : Expanded → ℕ → List Carried
+free_outs x m = filter (is_free_out x.keys) (message_of x m).carried
+
+-- their values at workload number n, by the rules
+abbrev pub given_values : Expanded → List ValueRule → ℕ → ℕ → List Value
+given_values x rules m n = map (λ c. value_at (rule_of rules m c.param) n) (free_outs x m)
+
+-- and by those of the script
+abbrev pub values_of : Expanded → Script → ℕ → ℕ → List Value
+values_of x script m n = given_values x script.rules m n

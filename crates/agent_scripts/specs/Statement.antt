@@ -1,0 +1,56 @@
+-- What a line says of a protocol, with roles, messages and parameters by their numbers.
+use Rattle.std.specs.Prelude.{◌≡◌, ℕ, ◌<◌, List, [], length, map, slice_index_or}
+use Rattle.std.specs.List.{All, Contains}
+use Rattle.bspl_types.specs.declared.expanded.Expanded.{Expanded}
+use Rattle.bspl_types.specs.declared.protocol.Adornment.TheVariants.{Out}
+use Rattle.bspl_types.specs.Expansion.{message_of, Adorns}
+use Rattle.agent_scripts.specs.declared.statement.Statement.{Statement}
+use Rattle.agent_scripts.specs.declared.statement.Statement.TheVariants as says
+use Rattle.agent_scripts.specs.Lines.{Field}
+use Rattle.agent_scripts.specs.Table.{Phrase, Set, Key, Order, Decline, Bind, written, IsInTable}
+
+-- the name of a role, of a message and of a parameter
+abbrev pub role_name : Expanded → ℕ → Field
+role_name x role = slice_index_or x.roles role []
+
+abbrev pub message_name : Expanded → ℕ → Field
+message_name x m = (message_of x m).name
+
+abbrev pub param_name : Expanded → ℕ → Field
+param_name x p = slice_index_or (map (λ info. info.name) x.params) p []
+
+-- what the statement says, in names
+abbrev pub phrase_of : Expanded → Statement → Phrase
+phrase_of x (says.Set setting n) = Set setting n
+phrase_of x (says.Key values) = Key values
+phrase_of x (says.Order role messages) = Order (role_name x role) (map (message_name x) messages)
+phrase_of x (says.Decline m every) = Decline (message_name x m) every
+phrase_of x (says.Bind m p rule) = Bind (message_name x m) (param_name x p) rule
+
+-- the message exists, and that role sends it
+abbrev pub IsSentBy : Expanded → ℕ → ℕ → Type 0
+IsSentBy x role m = (m < length x.messages) × ((message_of x m).sender ≡ role)
+
+-- the parameter is an `out` of the message, and no key
+abbrev pub IsFreeOut : Expanded → ℕ → ℕ → Type 0
+IsFreeOut x m p = Adorns x m Out p × ¬ Contains x.keys p
+
+-- its role, its messages and its parameter are declared, the messages of an order are sent by its
+-- role, and the parameter is one whose value the message gives
+abbrev pub IsKnown : Expanded → Statement → Type 0
+IsKnown x (says.Set setting n) = Unit {0}
+IsKnown x (says.Key values) = Unit {0}
+IsKnown x (says.Order role messages) = (role < length x.roles) × All (IsSentBy x role) messages
+IsKnown x (says.Decline m every) = m < length x.messages
+IsKnown x (says.Bind m p rule) = (m < length x.messages) × IsFreeOut x m p
+
+-- the fields have the form of a line of the table
+abbrev pub HasForm : Expanded → List Field → Type 0
+HasForm x fields =
+    (phrase : Phrase) × IsInTable (length x.keys) phrase × (fields ≡ written phrase)
+
+-- the fields say the statement
+pub record Says (x : Expanded) (fields : List Field) (s : Statement) : Type 0 where
+  pub known : IsKnown x s
+  pub in_table : IsInTable (length x.keys) (phrase_of x s)
+  pub fields_are : fields ≡ written (phrase_of x s)

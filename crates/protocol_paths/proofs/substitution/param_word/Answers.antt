@@ -1,0 +1,15 @@
+-- The name in the scope is that along its links.
+use Rattle.std.proofs.Common.{◌∙◌, ap, refl}
+use Rattle.protocol_paths.specs.Scope.{param_at}
+use Rattle.protocol_paths.specs.inner.Links.{scope_along}
+use Rattle.protocol_paths.proofs.ResolutionLemmas.{whole}
+use Rattle.protocol_paths.proofs.substitution.param_word.Goals as goal
+
+pub returns : goal.returns
+returns c =
+    let scope = c.args.scope.now in
+    let name = c.args.param.now.text in
+    record {
+      text = c.in_ok-given.ensures scope.top.now ∙ ap (λ ls. param_at (scope_along scope.top.now ls) name) c.as_slice.ensures ∙ ap (λ s. param_at s name) (whole scope.top.now scope.protocol.now scope.links scope.at_end);
+      offset = refl;
+    }

@@ -1,0 +1,20 @@
+ghost use Rattle.std.specs.Prelude.{◌<◌};
+ghost use Rattle.protocol_paths.specs.inner.Tables.{AreTablesOf};
+
+use super::name_tables::NameTables;
+use bspl_parser::{Declaration, Reference};
+
+/// One reference of a path.
+#[derive(Clone, Copy)]
+pub(crate) struct Link<'a> {
+    /// Its position in the body, counted from 1.
+    pub position: usize,
+    /// What it gives.
+    pub reference: &'a Reference,
+    /// The protocol that it leads to.
+    pub target: &'a Declaration,
+    /// The names that this protocol declares.
+    pub names: &'a NameTables,
+    pub ghost counted: { 0 < position },
+    pub ghost declared: { AreTablesOf target.now names.now },
+}

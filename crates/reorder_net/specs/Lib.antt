@@ -1,0 +1,3 @@
+-- What a plan loses, and what an inbox holds.
+pub mod Losses
+pub mod Inbox

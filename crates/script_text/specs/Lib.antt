@@ -1,0 +1,2 @@
+-- What the reader's functions say of lines.
+pub mod inner

@@ -1,0 +1,98 @@
+use super::spelling::append_spelled;
+use bspl_io::{PlainSink, PlainSource};
+use bspl_tool::bspl;
+use dimacs::run;
+use formula_tool::bspl_formula;
+use list_base::{Bytes, NoMemory};
+use std::alloc::Global;
+
+/// An exit status and an output.
+#[derive(Drop)]
+pub(crate) struct Answer {
+    pub status: String,
+    pub output: Bytes,
+}
+
+/// What the program of the command gives for its arguments and the input.
+pub(crate) fn answer_to(alloc: Global, command: &[u8], input: &[u8]) -> Result<Answer, NoMemory> {
+    let words = words_of(alloc, command)?;
+    let mut source = PlainSource::new(Bytes::from_slice(alloc, input)?);
+    let mut sink = PlainSink::new(alloc);
+    let status = match words.as_slice().split_first() {
+        Some((program, args)) => status_of(alloc, program, args, &mut source, &mut sink),
+        None => None,
+    };
+    Ok(Answer {
+        status: match status {
+            Some(number) => number.to_string(alloc)?,
+            None => "no such program".to_string(alloc)?,
+        },
+        output: Bytes::from_slice(alloc, sink.written())?,
+    })
+}
+
+/// The exit status of the program of that name.
+fn status_of(
+    alloc: Global,
+    program: &String,
+    args: &[String],
+    source: &mut PlainSource,
+    sink: &mut PlainSink,
+) -> Option<u8> {
+    match program.as_str() {
+        "bspl" => Some(bspl_status(alloc, args, source, sink)),
+        "bspl_formula" => Some(formula_status(alloc, args, source, sink)),
+        "dimacs_sat" => Some(dimacs_status(alloc, args, source, sink)),
+        _ => None,
+    }
+}
+
+fn bspl_status(
+    alloc: Global,
+    args: &[String],
+    source: &mut PlainSource,
+    sink: &mut PlainSink,
+) -> u8 {
+    bspl(alloc, args, source, sink).number()
+}
+
+fn formula_status(
+    alloc: Global,
+    args: &[String],
+    source: &mut PlainSource,
+    sink: &mut PlainSink,
+) -> u8 {
+    bspl_formula(alloc, args, source, sink).number()
+}
+
+fn dimacs_status(
+    alloc: Global,
+    args: &[String],
+    source: &mut PlainSource,
+    sink: &mut PlainSink,
+) -> u8 {
+    run(alloc, args, source, sink).number()
+}
+
+/// The words of a command, which are parted by blanks.
+fn words_of(alloc: Global, command: &[u8]) -> Result<Vec<String>, NoMemory> {
+    let mut words = Vec::new(alloc);
+    for word in command.split(|b| *b == b' ') {
+        if !word.is_empty() {
+            words.push(word_of(alloc, word)?)?;
+        }
+    }
+    Ok(words)
+}
+
+/// The word as it is spelled; two quotes are the empty one.
+fn word_of(alloc: Global, word: &[u8]) -> Result<String, NoMemory> {
+    let mut spelled = Bytes::new(alloc);
+    if word != b"''".as_slice() {
+        append_spelled(alloc, &mut spelled, word, 0)?;
+    }
+    match str::from_utf8(spelled.as_slice()) {
+        Ok(text) => Ok(text.to_string(alloc)?),
+        Err(_) => Ok("no text".to_string(alloc)?),
+    }
+}
