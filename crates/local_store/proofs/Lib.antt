@@ -12,5 +12,8 @@ pub mod SoundLemmas
 pub mod DifferenceLemmas
 pub mod ReceiptLemmas
 pub mod EmissionLemmas
+pub mod FillingLemmas
+pub mod KeyOrderLemmas
+pub mod EmittedLemmas
 pub mod RoleLemmas
 pub mod KeyLemmas
