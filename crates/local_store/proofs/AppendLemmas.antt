@@ -1,23 +1,20 @@
 -- A store with one more event keeps what it has to keep.
-use Rattle.std.proofs.Common.{◌≡◌, ℕ, ◌+◌, ◌*◌, ◌-◌, ◌<◌, ◌≤◌, ◌⊎◌, Bool, true, false, List, [], ◌∷◌, ◌++◌, length, get_or, map, set, Option, None, Some, inl, inr, refl, sym, ap, ◌∙◌, subst, arith}
+use Rattle.std.proofs.Common.{◌≡◌, ℕ, ◌+◌, ◌*◌, ◌-◌, ◌<◌, ◌≤◌, Bool, true, false, List, [], ◌∷◌, ◌++◌, length, get_or, set, Option, None, Some, inl, inr, refl, sym, ap, ◌∙◌, subst, arith}
 use Rattle.std.specs.Prelude.{slice_get}
 use Rattle.std.specs.List.{All, Contains}
 use Rattle.std.proofs.lemmas.Bool.{cases_eq}
 use Rattle.std.proofs.lemmas.List.{get_or-set_other, get_or-set_same, map_push}
-use Rattle.std.proofs.lemmas.List.Elements.{All-contains, All-from_get_or, All-push, Contains-get_or}
+use Rattle.std.proofs.lemmas.List.Elements.{All-contains, All-push, Contains-get_or}
 use Rattle.std.proofs.lemmas.Nat.{mul-add-lt}
 use Rattle.std.proofs.lemmas.Option.{get_or_from_slice_get, slice_get-get_or, slice_get_within}
 use Rattle.bspl_types.specs.declared.event.Instance.{Instance}
 use Rattle.bspl_types.specs.declared.expanded.Expanded.{Expanded}
-use Rattle.bspl_types.specs.declared.protocol.Adornment.TheVariants.{In}
 use Rattle.bspl_types.specs.declared.protocol.Carried.{Carried}
 use Rattle.bspl_types.specs.declared.value.Value.{Value}
-use Rattle.bspl_types.specs.declared.value.Value.TheVariants.{Number}
 use Rattle.bspl_types.specs.Adornment.{valued}
 use Rattle.bspl_types.specs.Expansion.{message_of}
 use Rattle.bspl_types.specs.History.{instance_of, role_of}
 use Rattle.bspl_types.specs.Instance.{Fits, pairs}
-use Rattle.bspl_types.specs.Knowledge.{Knows}
 use Rattle.role_knowledge.specs.Laws.{FirstKnownIsOne}
 use Rattle.stamped_history.specs.declared.entry.Entry.{Entry}
 use Rattle.stamped_history.specs.Entries.{events_of, last_stamp}
@@ -28,7 +25,7 @@ use Rattle.local_store.specs.Consistent.{AreKeys}
 use Rattle.local_store.specs.Reception.{AllAgree, Agrees}
 use Rattle.local_store.specs.State.{StoreState, acts_of, with_entry}
 use Rattle.local_store.specs.inner.Acts.{ActsState, Rows, entries_in, entry_in, event_as, instance_in, value_in}
-use Rattle.local_store.specs.inner.Grids.{bound, cell_at, mark_at}
+use Rattle.local_store.specs.inner.Grids.{bound, cell_at}
 use Rattle.local_store.specs.inner.Kept.{HaveRows, IsIndex, IsKept, rows_of, state_of}
 use Rattle.local_store.proofs.CellLemmas.{bound_from, bound_has, bound_keeps, same_place}
 use Rattle.local_store.proofs.EntryLemmas.{entries_stay, entry_is, event_among, instance_as, own_pair}

@@ -1,10 +1,10 @@
 -- The first block that the cells show is that of the history, and without one the message can be emitted.
-use Rattle.std.proofs.Common.{◌≡◌, ◌≢◌, ℕ, ◌<◌, List, [], ◌∷◌, ◌++◌, length, Option, None, Some, true, false, refl, sym, ap, subst}
+use Rattle.std.proofs.Common.{◌≢◌, ℕ, ◌<◌, List, [], ◌∷◌, length, Option, None, Some, refl, sym, ap, subst}
 use Rattle.std.specs.Prelude.{◌↔◌, IfSome, IsNone, MatchOption}
 use Rattle.std.specs.List.{All, Contains}
 use Rattle.std.specs.Option.{option_or}
 use Rattle.std.proofs.lemmas.Bool.{true≢false}
-use Rattle.std.proofs.lemmas.List.Elements.{All-cons, All-contains, All-from_get_or, All-head, All-nil, All-tail, Contains-append_right, Contains-get_or}
+use Rattle.std.proofs.lemmas.List.Elements.{All-cons, All-contains, All-head, All-nil, All-tail, Contains-append_right}
 use Rattle.list_base.proofs.Members.{here}
 use Rattle.bspl_types.specs.declared.event.Event.{Event}
 use Rattle.bspl_types.specs.declared.expanded.Expanded.{Expanded}
@@ -13,7 +13,7 @@ use Rattle.bspl_types.specs.declared.protocol.Adornment.TheVariants.{In, Out, Ni
 use Rattle.bspl_types.specs.declared.protocol.Carried.{Carried}
 use Rattle.bspl_types.specs.declared.value.Value.{Value}
 use Rattle.bspl_types.specs.Expansion.{message_of}
-use Rattle.bspl_types.specs.Knowledge.{CanEmit, IsKnown, Knows}
+use Rattle.bspl_types.specs.Knowledge.{CanEmit, IsKnown}
 use Rattle.bspl_types.specs.Value.{EqualValuesAreOne}
 use Rattle.role_knowledge.specs.declared.block.Block.{Block}
 use Rattle.role_knowledge.specs.declared.block.Block.TheVariants.{Missing, Bound}

@@ -1,10 +1,10 @@
 -- The first difference that the cells show is that of the history, and without one all values agree.
-use Rattle.std.proofs.Common.{◌≡◌, ◌≢◌, ℕ, Bool, true, false, List, [], ◌∷◌, ◌++◌, Option, None, Some, refl, sym, ap, ◌∙◌}
+use Rattle.std.proofs.Common.{◌≡◌, ◌≢◌, ℕ, List, [], ◌∷◌, ◌++◌, Option, None, Some, refl, sym, ap, ◌∙◌}
 use Rattle.std.specs.Prelude.{MatchOption}
 use Rattle.std.specs.List.{All, Contains}
 use Rattle.std.specs.Option.{option_or}
 use Rattle.std.proofs.lemmas.Bool.{cond_both, true≢false}
-use Rattle.std.proofs.lemmas.List.Elements.{All-cons, All-head, All-nil, All-tail}
+use Rattle.std.proofs.lemmas.List.Elements.{All-cons, All-nil}
 use Rattle.list_base.proofs.Members.{here, there}
 use Rattle.bspl_types.specs.declared.event.Event.{Event}
 use Rattle.bspl_types.specs.declared.event.Instance.{Instance}
@@ -17,7 +17,7 @@ use Rattle.bspl_types.specs.Value.{SameValuesAreOne, same_value}
 use Rattle.stamped_history.specs.Local.{KnowsOneValue}
 use Rattle.local_store.specs.declared.receipt.Receipt.{Receipt}
 use Rattle.local_store.specs.declared.receipt.Receipt.TheVariants.{Fresh, Repeat, Differs}
-use Rattle.local_store.specs.Reception.{Agrees, AllAgree, IsFirstDifference}
+use Rattle.local_store.specs.Reception.{Agrees, AllAgree}
 use Rattle.local_store.specs.inner.Difference.{NamesDifference, difference, first_difference}
 use Rattle.local_store.proofs.KnownLemmas.{Reads}
 

@@ -1,6 +1,6 @@
 -- What is emitted agrees with what is known, and may follow.
-use Rattle.std.proofs.Common.{◌≡◌, ℕ, List, get_or, refl, sym, ap, ◌∙◌, subst}
-use Rattle.std.specs.List.{All, Contains}
+use Rattle.std.proofs.Common.{◌≡◌, ℕ, List, get_or, sym, subst}
+use Rattle.std.specs.List.{Contains}
 use Rattle.std.proofs.lemmas.List.Elements.{Contains-get_or}
 use Rattle.list_base.proofs.Filtered.{filtered_member}
 use Rattle.list_base.proofs.Partners.{zipped_member}

@@ -6,9 +6,7 @@ use Rattle.std.proofs.lemmas.Bool.{false≢true}
 use Rattle.std.proofs.lemmas.List.Elements.{All-contains, Contains-get_or}
 use Rattle.list_base.proofs.Filtered.{filtered_member}
 use Rattle.list_base.proofs.Partners.{NoRepeat, zipped_member}
-use Rattle.bspl_types.specs.declared.envelope.Stamped.{Stamped}
 use Rattle.bspl_types.specs.declared.event.Event.{Event}
-use Rattle.bspl_types.specs.declared.event.Instance.{Instance}
 use Rattle.bspl_types.specs.declared.expanded.Expanded.{Expanded}
 use Rattle.bspl_types.specs.declared.protocol.Adornment.TheVariants.{In, Out, Nil}
 use Rattle.bspl_types.specs.declared.protocol.Carried.{Carried}
@@ -16,7 +14,7 @@ use Rattle.bspl_types.specs.declared.value.Value.{Value}
 use Rattle.bspl_types.specs.Adornment.{has_value, valued}
 use Rattle.bspl_types.specs.Expansion.{message_of}
 use Rattle.bspl_types.specs.History.{instance_of}
-use Rattle.bspl_types.specs.Instance.{Carries, Fits, pairs}
+use Rattle.bspl_types.specs.Instance.{Fits, pairs}
 use Rattle.bspl_types.specs.KeyAgrees.{KeyAgrees}
 use Rattle.bspl_types.specs.Knowledge.{CanEmit, IsKnown, Knows}
 use Rattle.stamped_history.specs.Entries.{last_stamp}
@@ -75,9 +73,11 @@ out_agrees s cell message key outs values f p v pair =
     let known = λ (q : ℕ). value_in (cell q) in
     let c : Carried = record { param = p; adornment = Out } in
     let (next, is) = filled_pair known (key_value x.keys key) outs carried 0 c v (subst (λ vs. Contains (zip (valued carried) vs) (c, v)) f.values_are pair) in
-    record { same = λ index at.
-      let (u, its, of_key) = key_value_at x.keys key p index (subst NoRepeat (sym x.shape.key_list) (keys_once x.params)) (as_long s key f.consistent f.held) at in
-      its ∙ ap Some (sym (is ∙ ap (λ o. (filling Out (known p) o next).0) of_key)) }
+    record {
+      same = λ index at.
+          let (u, its, of_key) = key_value_at x.keys key p index (subst NoRepeat (sym x.shape.key_list) (keys_once x.params)) (as_long s key f.consistent f.held) at in
+          its ∙ ap Some (sym (is ∙ ap (λ o. (filling Out (known p) o next).0) of_key));
+    }
 
 -- so each value of a key parameter is
 pair_agrees : (s : StoreState) (cell : ℕ → Option Value) (message : ℕ) (key outs values : List Value) → IsFilled s cell message key outs values → (c : Carried) (v : Value) → Contains (zip (valued (message_of s.protocol message).carried) values) (c, v) → KeyAgrees s.protocol.keys key (c, v)
@@ -109,7 +109,7 @@ is_emission s cell message key outs values stamp number f stamp_is number_is =
       key_is = refl;
       ins = ins_known s cell message key outs values f;
       outs_are = ap (λ vs. map (λ q. q.1) (filter (λ q. is_chosen x.keys q.0) (zip (valued carried) vs))) f.values_are
-      ∙ chosen_are known of_key outs (λ p. list_any (λ k. k == p) x.keys) (keyed_if x.keys key (as_long s key f.consistent f.held)) carried 0 count;
+          ∙ chosen_are known of_key outs (λ p. list_any (λ k. k == p) x.keys) (keyed_if x.keys key (as_long s key f.consistent f.held)) carried 0 count;
       stamp_is = stamp_is;
       number_is = number_is;
     }

@@ -1,13 +1,7 @@
 -- The entries that acts stand for stay, and one more act stands for its event.
-use Rattle.std.proofs.Common.{◌≡◌, ℕ, ◌+◌, ◌<◌, ◌≤◌, List, [], ◌∷◌, ◌++◌, length, get_or, map, Option, Some, inl, inr, refl, sym, ap, ◌∙◌, subst, arith}
-use Rattle.std.specs.Prelude.{slice_get}
-use Rattle.std.specs.List.{All, Contains, zip}
-use Rattle.std.proofs.lemmas.List.{map_push}
-use Rattle.std.proofs.lemmas.List.Elements.{All-contains}
-use Rattle.std.proofs.lemmas.Option.{slice_get-get_or}
+use Rattle.std.proofs.Common.{◌≡◌, ℕ, List, [], ◌∷◌, length, get_or, map, Some, inl, inr, refl, ap, subst, arith}
+use Rattle.std.specs.List.{Contains, zip}
 use Rattle.list_base.proofs.Members.{cons_cases, here, nowhere, there}
-use Rattle.bspl_types.specs.declared.event.Event.{Event}
-use Rattle.bspl_types.specs.declared.event.Event.TheVariants.{Emit, Receive}
 use Rattle.bspl_types.specs.declared.event.Instance.{Instance}
 use Rattle.bspl_types.specs.declared.expanded.Expanded.{Expanded}
 use Rattle.bspl_types.specs.declared.protocol.Carried.{Carried}
@@ -16,7 +10,6 @@ use Rattle.bspl_types.specs.Adornment.{valued}
 use Rattle.bspl_types.specs.Expansion.{message_of}
 use Rattle.bspl_types.specs.History.{instance_of}
 use Rattle.bspl_types.specs.Instance.{pairs}
-use Rattle.stamped_history.specs.declared.entry.Entry.{Entry}
 use Rattle.stamped_history.specs.Entries.{events_of}
 use Rattle.local_store.specs.declared.act.Act.{Act}
 use Rattle.local_store.specs.declared.act.Kind.{Kind}

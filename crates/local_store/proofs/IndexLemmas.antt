@@ -1,8 +1,8 @@
 -- The rows are an index of the history with one more event.
-use Rattle.std.proofs.Common.{◌≡◌, ◌≢◌, ℕ, ◌+◌, ◌<◌, ◌≤◌, ◌⊎◌, Bool, true, false, List, [], ◌∷◌, ◌++◌, length, get_or, Option, Some, None, inl, inr, refl, sym, ap, ◌∙◌, subst, arith}
-use Rattle.std.specs.Prelude.{◌↔◌, slice_get}
+use Rattle.std.proofs.Common.{◌≡◌, ◌≢◌, ℕ, ◌<◌, ◌≤◌, ◌⊎◌, true, List, [], ◌∷◌, ◌++◌, length, Option, Some, None, inl, inr, refl, sym, ap, ◌∙◌, subst, arith}
+use Rattle.std.specs.Prelude.{slice_get}
 use Rattle.std.specs.List.{AllPairs, Contains}
-use Rattle.std.proofs.lemmas.Bool.{cases_Bool, cases_lt, true≢false}
+use Rattle.std.proofs.lemmas.Bool.{cases_Bool, true≢false}
 use Rattle.std.proofs.lemmas.List.Elements.{Contains-append_left, Contains-push, Contains-push_cases}
 use Rattle.std.proofs.lemmas.Option.{none-some, same_Some, slice_get_within}
 use Rattle.list_base.proofs.Membership.{one_index}
@@ -16,7 +16,7 @@ use Rattle.bspl_types.specs.Instance.{pairs}
 use Rattle.bspl_types.specs.Knowledge.{Knows}
 use Rattle.local_store.specs.inner.Acts.{Rows}
 use Rattle.local_store.specs.inner.Kept.{HasEvent, IsIndex}
-use Rattle.local_store.proofs.InstanceLemmas.{knows_cases, knows_more, knows_own, pair_exists}
+use Rattle.local_store.proofs.InstanceLemmas.{knows_cases, knows_more, knows_own}
 
 -- the rows take the instance's values and its mark in, at the row of its key
 pub record TakesIn (x : Expanded) (old new : Rows) (row : ℕ) (i : Instance) : Type 0 where

@@ -1,11 +1,11 @@
 -- The pairs of an instance, and what one event makes known.
-use Rattle.std.proofs.Common.{◌≡◌, ℕ, ◌+◌, ◌<◌, ◌≤◌, ◌⊎◌, ⊎_elim, List, [], ◌∷◌, ◌++◌, length, get_or, inl, inr, refl, sym, ap, ◌∙◌, subst, arith}
-use Rattle.std.specs.List.{All, Contains, filter, zip}
+use Rattle.std.proofs.Common.{◌≡◌, ℕ, ◌<◌, ◌≤◌, ◌⊎◌, ⊎_elim, List, [], ◌∷◌, ◌++◌, length, inl, inr, refl, sym, ap, ◌∙◌, subst}
+use Rattle.std.specs.List.{Contains}
 use Rattle.std.proofs.lemmas.Bool.{cases_lt}
 use Rattle.std.proofs.lemmas.List.{get_or_past}
-use Rattle.std.proofs.lemmas.List.Elements.{All-contains, All-get_or, Contains-append_left, Contains-push, Contains-push_cases}
+use Rattle.std.proofs.lemmas.List.Elements.{All-contains, All-get_or, Contains-append_left, Contains-push_cases}
 use Rattle.list_base.proofs.Filtered.{filtered_member}
-use Rattle.list_base.proofs.Members.{here, nowhere, only}
+use Rattle.list_base.proofs.Members.{here, nowhere}
 use Rattle.list_base.proofs.Partners.{partner_of, zipped_member}
 use Rattle.bspl_types.specs.declared.event.Event.{Event}
 use Rattle.bspl_types.specs.declared.event.Instance.{Instance}
@@ -16,10 +16,9 @@ use Rattle.bspl_types.specs.Admission.{IsAdmitted}
 use Rattle.bspl_types.specs.Adornment.{has_value, valued}
 use Rattle.bspl_types.specs.Expansion.{message_of, no_message}
 use Rattle.bspl_types.specs.History.{instance_of}
-use Rattle.bspl_types.specs.Instance.{Carries, pairs}
+use Rattle.bspl_types.specs.Instance.{pairs}
 use Rattle.bspl_types.specs.Knowledge.{IsKnown, Knows}
 use Rattle.bspl_types.specs.Shape.{IsMessageOf}
-use Rattle.role_knowledge.specs.FirstKnown.{IsFirstKnown}
 use Rattle.role_knowledge.specs.Laws.{FirstKnownIsOne}
 
 -- the parameters of a message exist

@@ -1,22 +1,18 @@
 -- One more key, with a blank row.
-use Rattle.std.proofs.Common.{◌≡◌, ◌≢◌, ℕ, ◌+◌, ◌-◌, ◌*◌, ◌<◌, ◌≤◌, ◌⊎◌, Bool, true, false, List, [], ◌∷◌, ◌++◌, length, get_or, Option, None, Some, Result, Ok, Err, inl, inr, refl, sym, ap, ◌∙◌, subst, arith, length-append}
+use Rattle.std.proofs.Common.{◌≡◌, ◌≢◌, ℕ, ◌+◌, ◌-◌, ◌*◌, ◌<◌, ◌⊎◌, Bool, false, List, [], ◌∷◌, ◌++◌, length, get_or, Option, None, Some, Result, Ok, Err, inl, inr, refl, sym, ap, ◌∙◌, subst, arith}
 use Rattle.std.specs.Prelude.{slice_get, OnOk, OnErr}
-use Rattle.std.specs.List.{All, AllPairs, Contains}
+use Rattle.std.specs.List.{All, Contains}
 use Rattle.std.proofs.lemmas.Bool.{cases_lt, true≢false}
 use Rattle.std.proofs.lemmas.List.{get_or-append_right, get_or_append_left, get_or_past, length_push}
 use Rattle.std.proofs.lemmas.List.Elements.{All-contains, All-push, Contains-get_or}
 use Rattle.std.proofs.lemmas.List.Quantifiers.{all_pairs_push}
-use Rattle.std.proofs.lemmas.Option.{none-some, same_Some, slice_get-get_or, slice_get_within, get_or_from_slice_get}
+use Rattle.std.proofs.lemmas.Option.{none-some, slice_get-get_or, slice_get_within, get_or_from_slice_get}
 use Rattle.bspl_types.specs.declared.expanded.Expanded.{Expanded}
 use Rattle.bspl_types.specs.declared.value.Value.{Value}
-use Rattle.bspl_types.specs.History.{instance_of}
-use Rattle.bspl_types.specs.Knowledge.{Knows}
 use Rattle.stamped_history.specs.Entries.{events_of, last_stamp}
 use Rattle.stamped_history.specs.Local.{IsLocal}
-use Rattle.local_store.specs.Consistent.{AreKeys}
-use Rattle.local_store.specs.State.{StoreState, AddsKey}
 use Rattle.local_store.specs.inner.Acts.{ActsState, Rows, entries_in}
-use Rattle.local_store.specs.inner.Kept.{HasEvent, IsIndex, IsKept, IsSound, rows_of, state_of}
+use Rattle.local_store.specs.inner.Kept.{IsIndex, IsKept, IsSound, rows_of, state_of}
 use Rattle.local_store.proofs.EntryLemmas.{entries_stay}
 use Rattle.local_store.proofs.RoleLemmas.{no_event, nothing_known}
 use Rattle.local_store.proofs.SoundLemmas.{sound}

@@ -1,10 +1,10 @@
 -- What the cells of a row say of the history.
-use Rattle.std.proofs.Common.{◌≡◌, ◌≢◌, ℕ, ◌+◌, ◌*◌, ◌<◌, ◌≤◌, ◌⊎◌, Bool, true, false, List, [], ◌∷◌, ◌++◌, length, get_or, Option, None, Some, inl, inr, refl, sym, ap, ◌∙◌, subst, arith}
+use Rattle.std.proofs.Common.{◌≡◌, ℕ, ◌+◌, ◌*◌, ◌<◌, ◌⊎◌, Bool, false, List, [], ◌∷◌, length, get_or, Option, None, Some, inl, inr, refl, sym, ap, ◌∙◌, subst}
 use Rattle.std.specs.Prelude.{◌↔◌, IsTrue, MatchOption, slice_get}
-use Rattle.std.specs.List.{All, Contains}
+use Rattle.std.specs.List.{Contains}
 use Rattle.std.proofs.lemmas.Bool.{cases_Bool, cases_eq, true≢false}
 use Rattle.std.proofs.lemmas.List.Elements.{Contains-append_right}
-use Rattle.std.proofs.lemmas.Option.{get_or_from_slice_get, none-some, same_Some, slice_get-get_or}
+use Rattle.std.proofs.lemmas.Option.{get_or_from_slice_get, none-some, slice_get-get_or}
 use Rattle.list_base.proofs.Members.{cons_cases, here, here_same, nowhere, only, there}
 use Rattle.bspl_types.specs.declared.event.Event.{Event}
 use Rattle.bspl_types.specs.declared.expanded.Expanded.{Expanded}
@@ -19,7 +19,7 @@ use Rattle.stamped_history.specs.Local.{KnowsOneValue}
 use Rattle.local_store.specs.State.{StoreState, acts_of, key_at}
 use Rattle.local_store.specs.inner.Acts.{ActsState}
 use Rattle.local_store.specs.inner.Grids.{cell_at, mark_at}
-use Rattle.local_store.specs.inner.Kept.{HasEvent, HaveRows, IsKept, rows_of, state_of}
+use Rattle.local_store.specs.inner.Kept.{HasEvent, IsKept, rows_of, state_of}
 use Rattle.local_store.proofs.InstanceLemmas.{knows_own}
 
 -- what a cell says of its parameter

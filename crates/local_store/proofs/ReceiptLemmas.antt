@@ -1,5 +1,5 @@
 -- When an instance was received before, and what is known under keys that are held.
-use Rattle.std.proofs.Common.{◌≡◌, ◌≢◌, ℕ, ◌+◌, ◌<◌, ◌≤◌, max, List, [], ◌∷◌, ◌++◌, length, refl, sym, ap, ◌∙◌, subst, arith, map}
+use Rattle.std.proofs.Common.{◌≡◌, ◌≢◌, ℕ, ◌<◌, List, [], ◌∷◌, length, refl, sym, ap, ◌∙◌, subst, arith}
 use Rattle.std.specs.List.{All, Contains, zip}
 use Rattle.std.proofs.lemmas.List.Elements.{All-contains, All-get_or, All-map, Contains-append_right}
 use Rattle.list_base.proofs.Members.{here, there}
@@ -7,7 +7,6 @@ use Rattle.bspl_types.specs.declared.envelope.Stamped.{Stamped}
 use Rattle.bspl_types.specs.declared.event.Event.{Event}
 use Rattle.bspl_types.specs.declared.event.Event.TheVariants.{Emit, Receive}
 use Rattle.bspl_types.specs.declared.event.Instance.{Instance}
-use Rattle.bspl_types.specs.declared.expanded.Expanded.{Expanded}
 use Rattle.bspl_types.specs.declared.protocol.Carried.{Carried}
 use Rattle.bspl_types.specs.declared.value.Value.{Value}
 use Rattle.bspl_types.specs.Admission.{IsAdmittedMessage}
@@ -18,7 +17,7 @@ use Rattle.bspl_types.specs.Instance.{Fits, pairs}
 use Rattle.bspl_types.specs.Knowledge.{Knows}
 use Rattle.local_store.specs.declared.receipt.Receipt.{Receipt}
 use Rattle.local_store.specs.declared.receipt.Receipt.TheVariants.{Fresh, Repeat, Differs}
-use Rattle.local_store.specs.Reception.{Agrees, AllAgree, IsReceipt, WasReceived}
+use Rattle.local_store.specs.Reception.{Agrees, AllAgree, IsReceipt}
 use Rattle.local_store.specs.State.{StoreState, acts_of}
 use Rattle.local_store.specs.inner.Difference.{NamesDifference}
 use Rattle.local_store.specs.inner.Kept.{HasEvent, IsSound}

@@ -1,5 +1,5 @@
 -- What is kept is sound and consistent, and a new store keeps it.
-use Rattle.std.proofs.Common.{◌≡◌, ◌≢◌, ℕ, ◌+◌, ◌<◌, ◌≤◌, List, [], ◌∷◌, ◌++◌, length, get_or, map, Option, Some, refl, sym, ap, ◌∙◌, subst, arith}
+use Rattle.std.proofs.Common.{◌≡◌, ℕ, ◌+◌, ◌<◌, ◌≤◌, List, [], ◌∷◌, ◌++◌, length, map, Some, refl, sym, subst, arith}
 use Rattle.std.specs.Prelude.{slice_get}
 use Rattle.std.specs.List.{All, Contains}
 use Rattle.std.proofs.lemmas.List.Elements.{All-contains, All-map, All-nil, All-weaker, Contains-get_or}
@@ -7,17 +7,16 @@ use Rattle.std.proofs.lemmas.Option.{none-some}
 use Rattle.list_base.proofs.Membership.{member_at}
 use Rattle.list_base.proofs.Members.{nowhere}
 use Rattle.bspl_types.specs.declared.expanded.Expanded.{Expanded}
-use Rattle.bspl_types.specs.declared.value.Value.{Value}
 use Rattle.bspl_types.specs.Admission.{IsAdmitted}
 use Rattle.bspl_types.specs.History.{instance_of, role_of}
 use Rattle.bspl_types.specs.Instance.{Fits}
 use Rattle.stamped_history.specs.declared.entry.Entry.{Entry}
 use Rattle.stamped_history.specs.Local.{IsLocal}
 use Rattle.local_store.specs.declared.act.Act.{Act}
-use Rattle.local_store.specs.Consistent.{AreKeys, IsConsistent}
+use Rattle.local_store.specs.Consistent.{IsConsistent}
 use Rattle.local_store.specs.State.{StoreState}
 use Rattle.local_store.specs.inner.Acts.{ActsState, Rows, entries_in, entry_in, event_as, instance_in}
-use Rattle.local_store.specs.inner.Kept.{HaveRows, IsIndex, IsKept, IsSound, rows_of, state_of}
+use Rattle.local_store.specs.inner.Kept.{IsKept, IsSound, rows_of, state_of}
 use Rattle.local_store.proofs.EntryLemmas.{event_among, instance_as}
 
 -- each entry's key is held

@@ -1,5 +1,5 @@
 -- A key is found in a table exactly if it is among the keys.
-use Rattle.std.proofs.Common.{◌≡◌, ℕ, ◌<◌, Bool, true, false, cond, List, [], ◌∷◌, ◌++◌, get_or, Option, None, Some, inl, inr, is_some, sym, ap, ◌∙◌}
+use Rattle.std.proofs.Common.{◌≡◌, ℕ, cond, List, [], ◌∷◌, ◌++◌, get_or, Option, None, Some, inl, inr, is_some, sym, ap, ◌∙◌}
 use Rattle.std.specs.Prelude.{MatchOption, position, slice_get}
 use Rattle.std.specs.List.{Contains, list_any}
 use Rattle.std.proofs.lemmas.Bool.{cases_Bool, true≢false}

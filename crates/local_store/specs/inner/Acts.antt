@@ -1,5 +1,5 @@
 -- The acts that stand for entries: the values of each are in the rows.
-use Rattle.std.specs.Prelude.{ℕ, ◌-◌, Option, Bool, List, [], map, slice_index_or, unwrap_or}
+use Rattle.std.specs.Prelude.{ℕ, Option, Bool, List, [], map, slice_index_or, unwrap_or}
 use Rattle.bspl_types.specs.declared.event.Event.{Event}
 use Rattle.bspl_types.specs.declared.event.Event.TheVariants.{Emit, Receive}
 use Rattle.bspl_types.specs.declared.event.Instance.{Instance}

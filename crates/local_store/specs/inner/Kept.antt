@@ -1,5 +1,5 @@
 -- What a store keeps of its parts.
-use Rattle.std.specs.Prelude.{◌≡◌, ◌↔◌, ℕ, ◌+◌, ◌<◌, ◌≤◌, Option, None, Some, Bool, true, false}
+use Rattle.std.specs.Prelude.{◌≡◌, ◌↔◌, ℕ, ◌<◌, ◌≤◌, Option, None, Some, Bool, true, false}
 use Rattle.std.specs.Prelude.{List, [], length, slice_get}
 use Rattle.std.specs.List.{All, Contains}
 use Rattle.bspl_types.specs.declared.event.Event.{Event}

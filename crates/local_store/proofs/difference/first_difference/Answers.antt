@@ -1,5 +1,5 @@
 -- A parameter's value differs, or leaves the rest to look at.
-use Rattle.std.proofs.Common.{◌+◌, ◌*◌, None, ap, subst, sym, ◌∙◌, get_or, drop}
+use Rattle.std.proofs.Common.{◌+◌, ◌*◌, None, ap, sym, ◌∙◌, get_or}
 use Rattle.std.proofs.lemmas.Option.{get_or_from_slice_get}
 use Rattle.bspl_types.specs.declared.protocol.Adornment.TheVariants.{In}
 use Rattle.bspl_types.specs.declared.protocol.Carried.{Carried}

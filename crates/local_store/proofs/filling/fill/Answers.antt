@@ -3,7 +3,6 @@ use Rattle.std.proofs.Common.{◌+◌, ◌*◌, ◌<◌, ℕ, take, length, arit
 use Rattle.std.proofs.lemmas.Option.{get_or_from_slice_get}
 use Rattle.bspl_types.specs.declared.protocol.Adornment.TheVariants.{In}
 use Rattle.bspl_types.specs.declared.protocol.Carried.{Carried}
-use Rattle.bspl_types.specs.declared.value.Value.TheVariants.{Number}
 use Rattle.local_store.specs.inner.Acts.{value_in}
 use Rattle.local_store.specs.inner.Filling.{filled, filling, key_value}
 use Rattle.local_store.specs.inner.Grids.{cell_at}

@@ -1,11 +1,10 @@
 -- Blank rows change nothing, and the key gets one of them.
-use Rattle.std.proofs.Common.{◌≡◌, ◌+◌, ◌<◌, ◌≤◌, List, [], ◌∷◌, ◌++◌, length, Option, None, false, inl, inr, subst, sym, ap, refl, ◌∙◌, arith}
+use Rattle.std.proofs.Common.{◌≡◌, ◌+◌, ◌<◌, ◌≤◌, [], ◌∷◌, ◌++◌, length, None, false, inl, inr, subst, sym, ap, refl, ◌∙◌, arith}
 use Rattle.std.specs.List.{Contains}
 use Rattle.std.proofs.lemmas.Bool.{true≢false}
 use Rattle.std.proofs.lemmas.List.{length_push}
-use Rattle.local_store.specs.State.{StoreState, AddsKey}
+use Rattle.local_store.specs.State.{StoreState}
 use Rattle.std.proofs.lemmas.List.Elements.{All-replicate, All-take}
-use Rattle.bspl_types.specs.declared.value.Value.{Value}
 use Rattle.local_store.specs.inner.Kept.{IsKept, rows_of, state_of}
 use Rattle.local_store.proofs.KeyLemmas.{covered, either_case, kept_key, on_err_of, on_err_then, on_ok_then, rows_same, state_key}
 use Rattle.local_store.proofs.store.Store.add_key.Goals as goal

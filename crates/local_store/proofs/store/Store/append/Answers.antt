@@ -1,11 +1,9 @@
 -- The row takes the values in, and the entry is the last one.
-use Rattle.std.proofs.Common.{List, ap, sym, ◌∙◌}
+use Rattle.std.proofs.Common.{ap, sym, ◌∙◌}
 use Rattle.std.specs.List.{zip}
 use Rattle.std.proofs.lemmas.Option.{get_or_from_slice_get}
-use Rattle.bspl_types.specs.declared.protocol.Carried.{Carried}
 use Rattle.bspl_types.specs.Adornment.{valued}
 use Rattle.bspl_types.specs.Expansion.{message_of, no_message}
-use Rattle.bspl_types.specs.Instance.{pairs}
 use Rattle.local_store.specs.inner.Grids.{bound}
 use Rattle.local_store.specs.State.{with_entry}
 use Rattle.local_store.specs.inner.Acts.{event_as}

@@ -4,11 +4,9 @@ use Rattle.std.specs.Prelude.{MatchOption}
 use Rattle.std.specs.List.{All}
 use Rattle.std.proofs.lemmas.List.Elements.{All-weaker}
 use Rattle.bspl_types.specs.declared.protocol.Carried.{Carried}
-use Rattle.bspl_types.specs.Expansion.{message_of}
 use Rattle.role_knowledge.specs.Blocked.{IsFirstBlock, IsPermitted}
 use Rattle.stamped_history.specs.Local.{KnowsOneValue}
 use Rattle.local_store.specs.State.{acts_of, key_at}
-use Rattle.local_store.specs.inner.Blocking.{first_block}
 use Rattle.local_store.specs.inner.Grids.{cell_at}
 use Rattle.local_store.proofs.BlockLemmas.{Decided, decided, shown}
 use Rattle.local_store.proofs.KnownLemmas.{Reads, reads_cell}

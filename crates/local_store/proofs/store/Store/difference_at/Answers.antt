@@ -4,7 +4,6 @@ use Rattle.std.specs.Prelude.{MatchOption}
 use Rattle.std.specs.List.{zip}
 use Rattle.std.proofs.lemmas.Option.{get_or_from_slice_get, slice_get_within}
 use Rattle.bspl_types.specs.Adornment.{valued}
-use Rattle.bspl_types.specs.Instance.{pairs}
 use Rattle.stamped_history.specs.Local.{KnowsOneValue}
 use Rattle.local_store.specs.Reception.{AllAgree}
 use Rattle.local_store.specs.State.{acts_of, key_at}

@@ -1,5 +1,5 @@
 -- What the row's cells and the key give is an emission.
-use Rattle.std.proofs.Common.{◌≡◌, ◌∙◌, ◌+◌, ℕ, [], ap, subst, sym}
+use Rattle.std.proofs.Common.{◌∙◌, ◌+◌, ℕ, [], ap, subst, sym}
 use Rattle.std.proofs.lemmas.Option.{get_or_from_slice_get, slice_get_within}
 use Rattle.list_base.proofs.Membership.{member_at}
 use Rattle.bspl_types.specs.declared.expanded.Expanded.{Expanded}
@@ -26,8 +26,8 @@ returns c =
       held = member_at t.keys c.args.row key c.requires.row;
       can = c.requires.can;
       reads = λ p exists. subst (λ k. Reads t.protocol (acts_of t) k p (cell p)) row_key
-      (subst (λ n. Reads t.protocol (acts_of t) (key_at t c.args.row) p (cell_at n s.cells.items c.args.row p)) (sym c.self.invariant.1.params)
-      (reads_cell s.admitted s.role s.clock s.keys s.cells.items s.marks.items s.log t c.args.row p c.self.invariant.0 c.self.view_is within exists));
+          (subst (λ n. Reads t.protocol (acts_of t) (key_at t c.args.row) p (cell_at n s.cells.items c.args.row p)) (sym c.self.invariant.1.params)
+          (reads_cell s.admitted s.role s.clock s.keys s.cells.items s.marks.items s.log t c.args.row p c.self.invariant.0 c.self.view_is within exists));
       chosen = c.requires.chosen;
       values_are = c.fill.ensures ∙ (λ i. filled (λ (p : ℕ). value_in (cell p)) (key_value (keys i) (c.as_slice.ensures.values i)) c.args.outs.now (c.carried-carried.ensures.carried i) 0);
     }) (ap (λ n. n + 1) c.clock.ensures) c.len.ensures.count

@@ -1,5 +1,5 @@
 -- The event that an act stands for is rebuilt from its row.
-use Rattle.std.proofs.Common.{◌≡◌, ◌<◌, ◌≤◌, ℕ, List, [], length, map, Some, ap, subst, sym, ◌∙◌, arith}
+use Rattle.std.proofs.Common.{◌≡◌, ◌<◌, ℕ, [], length, map, Some, ap, subst, sym, ◌∙◌, arith}
 use Rattle.std.specs.Prelude.{slice_get, option_map}
 use Rattle.std.proofs.lemmas.Option.{get_or_from_slice_get, slice_get-map}
 use Rattle.bspl_types.specs.declared.event.Event.{Event}
@@ -8,7 +8,7 @@ use Rattle.bspl_types.specs.Adornment.{valued}
 use Rattle.bspl_types.specs.Expansion.{message_of}
 use Rattle.stamped_history.specs.declared.entry.Entry.{Entry}
 use Rattle.local_store.specs.State.{stamped_events}
-use Rattle.local_store.specs.inner.Acts.{entries_in, entry_in, event_as, instance_in, value_in}
+use Rattle.local_store.specs.inner.Acts.{entries_in, entry_in, event_as, value_in}
 use Rattle.local_store.specs.inner.Grids.{cell_at}
 use Rattle.local_store.specs.inner.Kept.{rows_of}
 use Rattle.local_store.proofs.SoundLemmas.{act_exists}

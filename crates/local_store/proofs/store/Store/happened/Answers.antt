@@ -1,5 +1,5 @@
 -- Under a key that is not held there is no event.
-use Rattle.std.proofs.Common.{subst, [], ◌∙◌, sym}
+use Rattle.std.proofs.Common.{subst, []}
 use Rattle.std.specs.Prelude.{◌↔◌, IsTrue}
 use Rattle.std.proofs.lemmas.Bool.{false≢true}
 use Rattle.std.proofs.lemmas.Option.{get_or_from_slice_get}

@@ -1,5 +1,5 @@
 -- The role is the sender or the receiver of the message that was read.
-use Rattle.std.proofs.Common.{◌≡◌, ◌<◌, length, refl, sym, ap, subst, ◌∙◌, Some, arith}
+use Rattle.std.proofs.Common.{◌≡◌, refl, sym, ap, subst, ◌∙◌, Some}
 use Rattle.std.specs.Prelude.{◌↔◌, IsTrue, nat_eq, slice_get}
 use Rattle.std.proofs.lemmas.Option.{slice_get_within}
 use Rattle.local_store.specs.declared.act.Kind.TheVariants.{Emitted, Received}

@@ -1,5 +1,5 @@
 -- A new store keeps what it has to keep.
-use Rattle.std.proofs.Common.{◌≡◌, ◌<◌, ◌≤◌, [], length, subst, sym, ap, ◌∙◌, arith}
+use Rattle.std.proofs.Common.{◌<◌, [], length, subst, sym, ap, ◌∙◌, arith}
 use Rattle.bspl_types.specs.Admission.{IsAdmitted}
 use Rattle.local_store.specs.inner.Kept.{IsKept, rows_of}
 use Rattle.local_store.proofs.SoundLemmas.{kept_new}

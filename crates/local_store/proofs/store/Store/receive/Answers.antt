@@ -1,5 +1,5 @@
 -- A difference is answered, a repeat was received, and what is fresh may follow.
-use Rattle.std.proofs.Common.{◌≡◌, ◌<◌, ◌+◌, max, refl, sym, ap, subst, ◌∙◌, arith}
+use Rattle.std.proofs.Common.{◌+◌, max, refl, sym, ap, subst, ◌∙◌, arith}
 use Rattle.std.proofs.lemmas.Bool.{true≢false}
 use Rattle.bspl_types.specs.declared.event.Event.TheVariants.{Receive}
 use Rattle.local_store.specs.State.{acts_of, with_entry}

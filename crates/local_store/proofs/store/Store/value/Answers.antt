@@ -1,8 +1,6 @@
 -- Under a key that is not held nothing is known, nor of a parameter that does not exist.
-use Rattle.std.proofs.Common.{◌≡◌, ◌≤◌, [], length, ap, subst, sym, ◌∙◌}
-use Rattle.std.specs.Prelude.{MatchOption}
+use Rattle.std.proofs.Common.{◌≤◌, [], length, ap, subst, ◌∙◌}
 use Rattle.std.proofs.lemmas.Option.{get_or_from_slice_get, slice_get_within}
-use Rattle.bspl_types.specs.Knowledge.{IsKnown, Knows}
 use Rattle.local_store.specs.State.{acts_of}
 use Rattle.local_store.proofs.KnownLemmas.{Reads}
 use Rattle.local_store.proofs.RoleLemmas.{nothing_known, unknown_past}
