@@ -1,0 +1,9 @@
+-- The keys are those of the table, and what is kept is sound.
+use Rattle.local_store.specs.inner.Kept.{rows_of}
+use Rattle.local_store.proofs.SoundLemmas.{sound}
+use Rattle.local_store.proofs.store.Store.row_of.Goals as goal
+
+pub returns-clause-sound : goal.returns-clause-sound
+returns-clause-sound c =
+    let s = c.self.inside in
+    sound s.admitted s.role s.clock (rows_of s.admitted s.keys s.cells.items s.marks.items) s.log c.args.self.now c.self.invariant.0 c.self.view_is

@@ -1,0 +1,68 @@
+ghost use Rattle.std.specs.Prelude.{◌↔◌, ◌<◌, length, IsTrue, MatchOption};
+ghost use Rattle.bspl_types.specs.Knowledge.{IsKnown, Knows};
+ghost use Rattle.enactment_model.specs.Liveness.{IsEmitted};
+ghost use Rattle.local_store.specs.Consistent.{IsReceived};
+ghost use Rattle.local_store.specs.State.{acts_of};
+ghost use Rattle.local_store.specs.inner.Kept.{HasEvent, IsOfRole, IsSound};
+
+use super::act::Kind;
+use super::store::Store;
+use bspl_types::{Key, Value};
+
+impl Store {
+    /// The value that the role knows of the parameter under the key.
+    pub fn value(&self, key: &Key, param: u32) -> Option<Value>
+        ensures { MatchOption result
+            (¬ IsKnown self.now.protocol (acts_of self.now) key.now param)
+            (Knows self.now.protocol (acts_of self.now) key.now param) }
+    {
+        let Some(row) = self.row_of(key) else {
+            return None;
+        };
+        if param as usize >= self.cells.width {
+            return None;
+        }
+        self.known_at(row, param)
+    }
+
+    /// Whether the message was emitted under the key.
+    pub fn emitted(&self, message: u32, key: &Key) -> bool
+        ensures { IsTrue result ↔ IsEmitted (acts_of self.now) key.now message }
+    {
+        self.is_of_role(Kind::Emitted, message) && self.happened(message, key)
+    }
+
+    /// Whether the message was received under the key.
+    pub fn received(&self, message: u32, key: &Key) -> bool
+        ensures { IsTrue result ↔ IsReceived (acts_of self.now) key.now message }
+    {
+        self.is_of_role(Kind::Received, message) && self.happened(message, key)
+    }
+
+    /// Whether the message exists, and the role does this with it.
+    fn is_of_role(&self, kind: Kind, message: u32) -> bool
+        ensures exact { IsTrue result ↔ IsOfRole self.now.protocol self.now.role kind message }
+        ensures sound { IsSound self.now }
+    {
+        let messages = &self.admitted.expanded().messages;
+        if message as usize >= messages.len() {
+            return false;
+        }
+        let schema = messages.at(message as usize);
+        match kind {
+            Kind::Emitted => schema.sender == self.role,
+            Kind::Received => schema.receiver == self.role,
+        }
+    }
+
+    /// Whether there is an event of the message under the key.
+    fn happened(&self, message: u32, key: &Key) -> bool
+        requires { message < length self.now.protocol.messages }
+        ensures { IsTrue result ↔ HasEvent (acts_of self.now) key.now message }
+    {
+        match self.row_of(key) {
+            None => false,
+            Some(row) => self.has_event(row, message),
+        }
+    }
+}
