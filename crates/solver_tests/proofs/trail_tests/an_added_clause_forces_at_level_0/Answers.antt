@@ -1,5 +1,5 @@
 -- The clause is over the trail's variables, which are still those of the formula.
-use Rattle.std.proofs.Common.{rules, subst, sym, ap, ◌≡◌, ℕ, IsTrue}
+use Rattle.std.proofs.Common.{rules, subst, sym, ap, ◌≡◌, IsTrue}
 use Rattle.clause_core.specs.Clause.{VariablesExist}
 use Rattle.sat_trail.specs.State.{State}
 use Rattle.solver_tests.proofs.trail_tests.an_added_clause_forces_at_level_0.Goals as goal
@@ -13,5 +13,5 @@ add-requires-clause-exist g c =
     let decided = ap (λ (t : State). t.vars) c.decide.ensures.decided in
     let grown = ap (λ (t : State). t.vars) c.propagate.ensures.grows.grows in
     let same : c.back_to.new.self.vars ≡ 2 =
-        cc (back, decided, grown, c.in_ok-trail.ensures.start.vars, c.in_ok-f.ensures) in
+    cc (back, decided, grown, c.in_ok-trail.ensures.start.vars, c.in_ok-f.ensures) in
     subst (λ n. VariablesExist n c.in_ok-learned.learned) (sym same) exist
