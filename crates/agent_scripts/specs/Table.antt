@@ -64,7 +64,7 @@ abbrev pub IsRule : Rule → Type 0
 IsRule (Linear a b) = (a < 2 ^ 64) × (b < 2 ^ 64)
 IsRule (Fixed text) = IsValue (Text text)
 
--- the table has the line, for a protocol with that many keys
+-- the table has the line, for a protocol with this number of keys
 abbrev pub IsInTable : ℕ → Phrase → Type 0
 IsInTable keys (Set setting n) = IsSetting setting n
 IsInTable keys (Key values) = (length values ≡ keys) × All IsValue values

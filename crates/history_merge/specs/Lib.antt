@@ -1,2 +1,2 @@
--- What the private functions of the merge cite; the contract of the merge cites the histories' own words.
+-- What private functions cite; the merge's contract has the words of stamped_history alone.
 pub mod inner

@@ -39,7 +39,7 @@ pub fn advance<H: History>(history: &H, cursor: &Cursor) -> Cursor
 
 /// The cursors at the start of the histories.
 pub fn first_cursors<H: History>(alloc: Global, histories: &[H]) -> Result<Seq<Cursor>, NoMemory>
-    ensures { IfOk result (λ cursors. cursors ≡ map (λ h. cursor_at (H.entries h) 0) histories.now) }
+    ensures { IfOk result (λ all. all ≡ map (λ h. cursor_at (H.entries h) 0) histories.now) }
 {
     let mut cursors = Seq::new(alloc);
     for history in histories {

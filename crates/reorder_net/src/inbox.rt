@@ -40,7 +40,7 @@ impl Inbox {
         }
     }
 
-    /// Makes room for that many puts.
+    /// Makes room for this number of puts.
     pub fn reserve(&mut self, n: usize) -> Result<(), NoMemory>
         ensures ok { OnOk result (n ≤ self.new.spare) }
         ensures same { self.new.envelopes ≡ self.old.envelopes }

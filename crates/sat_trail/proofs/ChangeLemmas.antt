@@ -1,5 +1,5 @@
 -- What a decision, a new clause and a way back keep of a trail.
-use Rattle.std.proofs.Common.{◌≡◌, ◌≢◌, ℕ, ◌+◌, ◌<◌, ◌≤◌, Bool, false, Option, Some, None, option_map, IfSome, IsTrue, List, [], ◌∷◌, ◌++◌, ◌⊎◌, inl, inr, length, take, get_or, sym, ap, refl, ◌∙◌, subst, append-nil, arith, All, Contains, length-append}
+use Rattle.std.proofs.Common.{◌≡◌, ◌≢◌, ℕ, zero, suc, ◌+◌, ◌<◌, ◌≤◌, Bool, false, Option, Some, None, option_map, IfSome, IsTrue, List, [], ◌∷◌, ◌++◌, ◌⊎◌, inl, inr, length, get_or, sym, ap, refl, ◌∙◌, subst, append-nil, arith, All, Contains, length-append}
 use Rattle.std.proofs.lemmas.List.Elements.{All-contains, All-head, All-push}
 use Rattle.std.proofs.lemmas.List.{get_or_append_left}
 use Rattle.clause_core.specs.declared.literal.Lit.{Lit}
@@ -12,45 +12,52 @@ use Rattle.sat_trail.specs.Growth.{IsDecision, IsForced}
 use Rattle.sat_trail.specs.inner.Growth.{Grows, IsGrown}
 use Rattle.sat_trail.specs.State.{State}
 use Rattle.sat_trail.specs.inner.Examination.{IsSettled}
-use Rattle.sat_trail.specs.inner.Storage.{Assigned, StoredClauses, StartsWith}
-use Rattle.std.proofs.lemmas.List.{take_all}
-use Rattle.clause_core.specs.declared.formula.Formula.{Formula}
-use Rattle.sat_trail.specs.Trail.{ClausesExist, IsStart, HasTwoOpen, Adds}
-use Rattle.sat_trail.specs.inner.Propagation.{CanPropagate, IsExamined, IsKept}
+use Rattle.sat_trail.specs.inner.Storage.{Assigned, StartsWith}
+use Rattle.sat_trail.specs.Trail.{HasTwoOpen, Adds}
+use Rattle.sat_trail.specs.inner.Propagation.{IsKept}
 use Rattle.sat_trail.proofs.StorageLemmas.{last_level-push}
-use Rattle.sat_trail.proofs.NumberLemmas.{Widens, Widens-push, number_all, number_at, others_keep, added_last}
+use Rattle.sat_trail.proofs.NumberLemmas.{Widens, Widens-push, others_keep, added_last}
 use Rattle.sat_trail.proofs.EntryLemmas.{entry_of-kept, entry_of-member}
 use Rattle.sat_trail.proofs.SettledLemmas.{IsSettled-two, IsSettled-no_false, IsSettled-no_unit}
-use Rattle.sat_trail.proofs.ExaminedLemmas.{IsExamined-more, IsExamined-propagated, IsExamined-add}
+use Rattle.sat_trail.specs.declared.watch.Cell.{Cell}
+use Rattle.sat_trail.specs.inner.Excuse.{AreWatched}
+use Rattle.sat_trail.specs.inner.Watches.{AreLinked}
+use Rattle.sat_trail.proofs.GrowthLemmas.{number-last}
+use Rattle.sat_trail.proofs.WatchedLemmas.{AreWatched-more, AreWatched-rise, AreWatched-back}
 use Rattle.sat_trail.proofs.GrowthLemmas.{Grows-append}
 use Rattle.sat_trail.proofs.LevelLemmas.{levels-rise, levels-few, IsTop, IsTop-push, IsTop-grown, IsTop-none, moved, up_to-low, up_to-both, Grows-split, decision-above}
 use Rattle.sat_trail.specs.inner.Propagation.{state_of}
 
 -- a decision keeps a trail that is ready
-pub IsGrown-decide : (lists : StoredClauses) (set : Assigned) (level : ℕ) (l : Lit) (ready : Bool) → IsTrue ready → IsGrown (state_of lists set level ready) → 0 < l.var → l.var ≤ lists.vars → values_of set.entries l.var ≡ None → IsGrown (state_of lists (record set { entries = set.entries ++ decided l (level + 1) ∷ [] }) (level + 1) false)
-IsGrown-decide lists set level l ready is_ready trail from_one exists none = record {
-  grown = Grows-append (numbered lists.clauses) [] set.entries (decided l (level + 1) ∷ []) trail.grown
+pub IsGrown-decide : (clauses : List (List Lit)) (set : Assigned) (level : ℕ) (l : Lit) (ready : Bool) → IsTrue ready → IsGrown (state_of clauses set level ready) → 0 < l.var → l.var ≤ set.vars → values_of set.entries l.var ≡ None → IsGrown (state_of clauses (record set { entries = set.entries ++ decided l (level + 1) ∷ [] }) (level + 1) false)
+IsGrown-decide clauses set level l ready is_ready trail from_one exists none = record {
+  grown = Grows-append (numbered clauses) [] set.entries (decided l (level + 1) ∷ []) trail.grown
       (record { no_value = none; cause = inl (record { no_reason = refl; raises = ap (λ n. n + 1) (sym trail.level); propagated = trail.ready_propagated is_ready }) }, tt);
   level = last_level-push set.entries (decided l (level + 1));
-  exist = All-push (λ e. (0 < e.lit.var) × (e.lit.var ≤ lists.vars)) set.entries (decided l (level + 1)) trail.exist (from_one, exists);
+  exist = All-push (λ e. (0 < e.lit.var) × (e.lit.var ≤ set.vars)) set.entries (decided l (level + 1)) trail.exist (from_one, exists);
   clauses_exist = trail.clauses_exist;
   ready_propagated = λ impossible. cc;
 }
 
 -- the parts of a trail after a decision
-pub IsKept-decide : (lists : StoredClauses) (set new : Assigned) (level head head' examined : ℕ) (l : Lit) (ready : Bool) → IsTrue ready → IsKept lists set level head examined ready → 0 < l.var → l.var ≤ lists.vars → values_of set.entries l.var ≡ None → new ≡ record set { entries = set.entries ++ decided l (level + 1) ∷ [] } → head' ≡ length set.entries → IsKept lists new (level + 1) head' examined false
-IsKept-decide lists set new level head head' examined l ready is_ready kept from_one exists none grows at_end = rw grows (record {
-  same = kept.same;
+pub IsKept-decide : (clauses : List (List Lit)) (cells : List Cell) (heads : List ℕ) (set new : Assigned) (level head head' examined : ℕ) (l : Lit) (ready : Bool) → IsTrue ready → IsKept clauses cells heads set level head examined ready → 0 < l.var → l.var ≤ set.vars → values_of set.entries l.var ≡ None → new ≡ record set { entries = set.entries ++ decided l (level + 1) ∷ [] } → head' ≡ length set.entries → IsKept clauses cells heads new (level + 1) head' examined false
+IsKept-decide clauses cells heads set new level head head' examined l ready is_ready kept from_one exists none grows at_end = rw (grows, at_end, (kept.complete is_ready).1) (record {
   few = kept.few;
-  trail = IsGrown-decide lists set level l ready is_ready kept.trail from_one exists none;
-  progress = subst (λ h. IsExamined lists.clauses (set.entries ++ decided l (level + 1) ∷ []) h examined) ((kept.complete is_ready).0 ∙ sym at_end)
-      (IsExamined-more lists.clauses set.entries (decided l (level + 1) ∷ []) head examined kept.progress);
+  trail = IsGrown-decide clauses set level l ready is_ready kept.trail from_one exists none;
+  linked = kept.linked;
+  watched = AreWatched-more (numbered clauses) (length clauses) cells set.entries (decided l (level + 1) ∷ []) (record { level = level + 1; head = length set.entries; examined = length clauses })
+      (All-one (λ e. e.level ≡ level + 1) (decided l (level + 1)) refl)
+      (AreWatched-rise (numbered clauses) (length clauses) cells set.entries (record { level = level; head = head; examined = examined }) (level + 1) (kept.complete is_ready).0 (kept.complete is_ready).1 (number-last clauses) kept.watched);
   complete = λ impossible. cc;
 })
+  where
+    All-one : (P : Entry → Type 0) (e : Entry) → P e → All P (e ∷ [])
+    All-one P e holds zero d within = holds
+    All-one P e holds (suc k) d within = absurd (omega arith)
 
 -- the next level is still a number of 32 bits
-pub level-fits : (lists : StoredClauses) (set : Assigned) (level : ℕ) (ready : Bool) → IsGrown (state_of lists set level ready) → level ≤ length set.entries
-level-fits lists set level ready trail = subst (λ n. n ≤ length set.entries) trail.level (levels-few (numbered lists.clauses) [] set.entries trail.grown (omega arith))
+pub level-fits : (clauses : List (List Lit)) (set : Assigned) (level : ℕ) (ready : Bool) → IsGrown (state_of clauses set level ready) → level ≤ length set.entries
+level-fits clauses set level ready trail = subst (λ n. n ≤ length set.entries) trail.level (levels-few (numbered clauses) [] set.entries trail.grown (omega arith))
 
 -- a literal that is open at the last level had no value before the decision of that level
 open-before : (before rest : List Entry) (e : Entry) (level : ℕ) (l : Lit) (o : Option Entry) → entry_of before l.var ≡ o → IsTop before → last_level before < level → IfSome (entry_of (before ++ e ∷ rest) l.var) (λ d. d.level ≡ level) → values_of before l.var ≡ None
@@ -136,113 +143,69 @@ open-clause t clause is_open = elim is_open [
   | inr two ↦ inr (record { one = two.one; other = two.other; differ = two.differ; one_among = two.one_among; other_among = two.other_among; one_open = two.one_open; other_open = two.other_open })
 ]
 
--- the parts of a trail with one clause more
-pub IsKept-add : (lists new : StoredClauses) (set : Assigned) (level head examined : ℕ) (ready : Bool) (clause : List Lit) → IsKept lists set level head examined ready → VariablesExist lists.vars clause → length lists.clauses + 1 < 4294967296 → (level ≡ 0) ⊎ HasTwoOpen (state_of lists set level ready) clause → new ≡ record lists { clauses = lists.clauses ++ clause ∷ [] } → IsKept new set level head examined false
-IsKept-add lists new set level head examined ready clause kept exist few is_open grows = rw grows (record {
-  same = kept.same;
-  few = omega (arith, few, length-append lists.clauses (clause ∷ []));
-  trail = record {
-    grown = Grows-add (numbered lists.clauses) clause (numbered (lists.clauses ++ clause ∷ [])) [] set.entries level (Widens-push lists.clauses clause) kept.trail.grown IsTop-none kept.trail.level (open-clause (state_of lists set level ready) clause is_open);
-    level = kept.trail.level;
-    exist = kept.trail.exist;
-    clauses_exist = λ n c has. elim ((Widens-push lists.clauses clause).only n c has) [
-      | inl before ↦ kept.trail.clauses_exist n c before
-      | inr same ↦ subst (VariablesExist lists.vars) same exist
-    ];
-    ready_propagated = λ impossible. cc;
-  };
-  progress = IsExamined-add lists.clauses clause set.entries head examined kept.progress;
-  complete = λ impossible. cc;
-})
-
 -- below the first entry that is taken out a level is complete, and propagation had nothing to do
-back_to-parts : (lists : StoredClauses) (old kept : List Entry) (first : Entry) (rest : List Entry) (level : ℕ) → Grows (numbered lists.clauses) [] old → old ≡ kept ++ first ∷ rest → last_level kept ≤ level → level < first.level → (Grows (numbered lists.clauses) [] kept) × (last_level kept ≡ level) × IsPropagated (values_of kept) (numbered lists.clauses)
-back_to-parts lists old kept first rest level follows whole low high =
-    let parts = Grows-split (numbered lists.clauses) [] kept (first ∷ rest) (subst (Grows (numbered lists.clauses) []) whole follows) in
-    let last = decision-above (numbered lists.clauses) kept first level parts.1.0 low high in
+back_to-parts : (clauses : List (List Lit)) (old kept : List Entry) (first : Entry) (rest : List Entry) (level : ℕ) → Grows (numbered clauses) [] old → old ≡ kept ++ first ∷ rest → last_level kept ≤ level → level < first.level → (Grows (numbered clauses) [] kept) × (last_level kept ≡ level) × IsPropagated (values_of kept) (numbered clauses)
+back_to-parts clauses old kept first rest level follows whole low high =
+    let parts = Grows-split (numbered clauses) [] kept (first ∷ rest) (subst (Grows (numbered clauses) []) whole follows) in
+    let last = decision-above (numbered clauses) kept first level parts.1.0 low high in
     (parts.0, last.0, last.1)
 
 -- the parts of a trail after the way back, by what was taken out
-IsKept-dropped : (lists : StoredClauses) (old new : Assigned) (level level' head examined : ℕ) (ready : Bool) (dropped : List Entry) → IsKept lists old level head examined ready → level' < level → new.vars ≡ old.vars → old.entries ≡ new.entries ++ dropped → All (λ e. level' < e.level) dropped → last_level new.entries ≤ level' → IsKept lists new level' (length new.entries) (length lists.clauses) false
-IsKept-dropped lists old new level level' head examined ready [] kept lower vars whole above low =
+IsKept-dropped : (clauses : List (List Lit)) (cells : List Cell) (heads : List ℕ) (old new : Assigned) (level level' head examined : ℕ) (ready : Bool) (dropped : List Entry) → IsKept clauses cells heads old level head examined ready → level' < level → new.vars ≡ old.vars → old.entries ≡ new.entries ++ dropped → All (λ e. level' < e.level) dropped → last_level new.entries ≤ level' → IsKept clauses cells heads new level' (length new.entries) examined false
+IsKept-dropped clauses cells heads old new level level' head examined ready [] kept lower vars whole above low =
     absurd (omega (arith, ap last_level (whole ∙ append-nil new.entries), kept.trail.level))
-IsKept-dropped lists old new level level' head examined ready (first ∷ rest) kept lower vars whole above low = record {
-  same = kept.same ∙ sym vars;
+IsKept-dropped clauses cells heads old new level level' head examined ready (first ∷ rest) kept lower vars whole above low = record {
   few = kept.few;
   trail = record {
     grown = parts.0;
     level = parts.1;
-    exist = λ k d within. subst (λ (e : Entry). (0 < e.lit.var) × (e.lit.var ≤ lists.vars)) (get_or_append_left new.entries (first ∷ rest) d k within)
-        (subst (λ es. All (λ e. (0 < e.lit.var) × (e.lit.var ≤ lists.vars)) es) whole kept.trail.exist k d (omega (arith, within, length-append new.entries (first ∷ rest))));
-    clauses_exist = kept.trail.clauses_exist;
+    exist = λ k d within. subst (λ (e : Entry). (0 < e.lit.var) × (e.lit.var ≤ new.vars)) (get_or_append_left new.entries (first ∷ rest) d k within)
+        (subst (λ n. (0 < (get_or (new.entries ++ first ∷ rest) k d).lit.var) × ((get_or (new.entries ++ first ∷ rest) k d).lit.var ≤ n)) (sym vars)
+        (subst (λ es. All (λ e. (0 < e.lit.var) × (e.lit.var ≤ old.vars)) es) whole kept.trail.exist k d (omega (arith, within, length-append new.entries (first ∷ rest)))));
+    clauses_exist = λ n c has. subst (λ v. VariablesExist v c) (sym vars) (kept.trail.clauses_exist n c has);
     ready_propagated = λ impossible. cc;
   };
-  progress = IsExamined-propagated lists.clauses new.entries parts.2;
+  linked = subst (λ v. AreLinked v cells heads) (sym vars) kept.linked;
+  watched = AreWatched-back (numbered clauses) (length clauses) cells new.entries (first ∷ rest) (record { level = level; head = head; examined = examined }) level' lower
+      (subst (λ n. All (λ e. e.level ≤ n) new.entries) parts.1 (IsTop-grown (numbered clauses) [] new.entries parts.0 IsTop-none)) above
+      (subst (λ es. AreWatched (numbered clauses) (length clauses) cells es (record { level = level; head = head; examined = examined })) whole kept.watched);
   complete = λ impossible. cc;
 }
   where
-    parts : (Grows (numbered lists.clauses) [] new.entries) × (last_level new.entries ≡ level') × IsPropagated (values_of new.entries) (numbered lists.clauses)
-    parts = back_to-parts lists old.entries new.entries first rest level' kept.trail.grown whole low (All-head (λ e. level' < e.level) first rest above)
+    parts : (Grows (numbered clauses) [] new.entries) × (last_level new.entries ≡ level') × IsPropagated (values_of new.entries) (numbered clauses)
+    parts = back_to-parts clauses old.entries new.entries first rest level' kept.trail.grown whole low (All-head (λ e. level' < e.level) first rest above)
 
 -- the parts of a trail after the way back
-pub IsKept-back : (lists : StoredClauses) (old new : Assigned) (level level' head head' examined examined' : ℕ) (ready : Bool) → IsKept lists old level head examined ready → level' < level → StartsWith level' old new → last_level new.entries ≤ level' → head' ≡ length new.entries → examined' ≡ length lists.clauses → IsKept lists new level' head' examined' false
-IsKept-back lists old new level level' head head' examined examined' ready kept lower begins low at_end all =
-    rw (at_end, all) (IsKept-dropped lists old new level level' head examined ready begins.dropped kept lower begins.vars begins.whole begins.above low)
+pub IsKept-back : (clauses : List (List Lit)) (cells : List Cell) (heads : List ℕ) (old new : Assigned) (level level' head head' examined : ℕ) (ready : Bool) → IsKept clauses cells heads old level head examined ready → level' < level → StartsWith level' old new → last_level new.entries ≤ level' → head' ≡ length new.entries → IsKept clauses cells heads new level' head' examined false
+IsKept-back clauses cells heads old new level level' head head' examined ready kept lower begins low at_end =
+    rw at_end (IsKept-dropped clauses cells heads old new level level' head examined ready begins.dropped kept lower begins.vars begins.whole begins.above low)
 
 -- the entries after the way back are those up to the level
-back_to-entries : (lists : StoredClauses) (old new : Assigned) (level' head' examined' : ℕ) → IsKept lists new level' head' examined' false → StartsWith level' old new → up_to level' old.entries ≡ new.entries
-back_to-entries lists old new level' head' examined' kept begins =
+back_to-entries : (clauses : List (List Lit)) (cells : List Cell) (heads : List ℕ) (old new : Assigned) (level' head' examined : ℕ) → IsKept clauses cells heads new level' head' examined false → StartsWith level' old new → up_to level' old.entries ≡ new.entries
+back_to-entries clauses cells heads old new level' head' examined kept begins =
     ap (up_to level') begins.whole ∙ up_to-both level' new.entries begins.dropped
-    (subst (λ n. All (λ e. e.level ≤ n) new.entries) kept.trail.level (IsTop-grown (numbered lists.clauses) [] new.entries kept.trail.grown IsTop-none)) begins.above
+    (subst (λ n. All (λ e. e.level ≤ n) new.entries) kept.trail.level (IsTop-grown (numbered clauses) [] new.entries kept.trail.grown IsTop-none)) begins.above
 
 -- no entry is above the last level
-pub back_to-same : (lists : StoredClauses) (set : Assigned) (level : ℕ) (ready : Bool) → IsGrown (state_of lists set level ready) → up_to level set.entries ≡ set.entries
-back_to-same lists set level ready trail = up_to-low level set.entries
-    (subst (λ n. All (λ e. e.level ≤ n) set.entries) trail.level (IsTop-grown (numbered lists.clauses) [] set.entries trail.grown IsTop-none))
-
--- a trail that is no longer ready
-pub IsKept-unready : (lists : StoredClauses) (set : Assigned) (level head examined : ℕ) (ready : Bool) → IsKept lists set level head examined ready → IsKept lists set level head examined false
-IsKept-unready lists set level head examined ready kept = record {
-  same = kept.same;
-  few = kept.few;
-  trail = record { grown = kept.trail.grown; level = kept.trail.level; exist = kept.trail.exist; clauses_exist = kept.trail.clauses_exist; ready_propagated = λ impossible. cc };
-  progress = kept.progress;
-  complete = λ impossible. cc;
-}
-
--- a trail without entries
-pub IsKept-start : (lists : StoredClauses) (set : Assigned) → lists.vars ≡ set.vars → set.entries ≡ [] → All (VariablesExist lists.vars) lists.clauses → length lists.clauses < 4294967296 → IsKept lists set 0 0 0 false
-IsKept-start lists set same empty exist few = record {
-  same = same;
-  few = few;
-  trail = record {
-    grown = subst (Grows (numbered lists.clauses) []) (sym empty) tt;
-    level = ap last_level empty;
-    exist = subst (λ es. All (λ e. (0 < e.lit.var) × (e.lit.var ≤ lists.vars)) es) (sym empty) (λ k d within. absurd (omega arith));
-    clauses_exist = λ n c has. number_all (VariablesExist lists.vars) lists.clauses n c exist has;
-    ready_propagated = λ impossible. cc;
-  };
-  progress = record { head_within = omega arith; examined_within = omega arith; settled = λ k within. absurd (omega arith) };
-  complete = λ impossible. cc;
-}
+pub back_to-same : (clauses : List (List Lit)) (set : Assigned) (level : ℕ) (ready : Bool) → IsGrown (state_of clauses set level ready) → up_to level set.entries ≡ set.entries
+back_to-same clauses set level ready trail = up_to-low level set.entries
+    (subst (λ n. All (λ e. e.level ≤ n) set.entries) trail.level (IsTop-grown (numbered clauses) [] set.entries trail.grown IsTop-none))
 
 -- what contracts see after the way back
-pub back_to-state : (lists : StoredClauses) (old new : Assigned) (level level' head' examined' : ℕ) (ready : Bool) → IsKept lists new level' head' examined' false → StartsWith level' old new → state_of lists new level' false ≡ record (state_of lists old level ready) { entries = up_to level' old.entries; level = level'; ready = false }
-back_to-state lists old new level level' head' examined' ready kept begins =
-    ap (λ es. let s : State = record { vars = lists.vars; clauses = lists.clauses; entries = es; level = level'; ready = false } in s)
-    (sym (back_to-entries lists old new level' head' examined' kept begins))
+pub back_to-state : (clauses : List (List Lit)) (cells : List Cell) (heads : List ℕ) (old new : Assigned) (level level' head' examined : ℕ) (ready : Bool) → IsKept clauses cells heads new level' head' examined false → StartsWith level' old new → state_of clauses new level' false ≡ record (state_of clauses old level ready) { entries = up_to level' old.entries; level = level'; ready = false }
+back_to-state clauses cells heads old new level level' head' examined ready kept begins =
+    ap (λ vars. let s : State = record { vars = vars; clauses = clauses; entries = new.entries; level = level'; ready = false } in s) begins.vars
+    ∙ ap (λ es. let s : State = record { vars = old.vars; clauses = clauses; entries = es; level = level'; ready = false } in s)
+    (sym (back_to-entries clauses cells heads old new level' head' examined kept begins))
 
--- the condition that propagation wants of the clauses
-clauses-exist : (lists : StoredClauses) (set : Assigned) (level : ℕ) (ready : Bool) → ClausesExist (state_of lists set level ready) → All (VariablesExist lists.vars) lists.clauses
-clauses-exist lists set level ready exist k d within = exist (k + 1) (get_or lists.clauses k d) (number_at lists.clauses k d within)
-
--- the parts of a trail can be propagated
-pub CanPropagate-kept : (lists : StoredClauses) (set : Assigned) (level head examined : ℕ) (ready : Bool) → IsKept lists set level head examined ready → CanPropagate lists set level
-CanPropagate-kept lists set level head examined ready kept = record {
-  same = kept.same;
-  exist = clauses-exist lists set level ready kept.trail.clauses_exist;
+-- a trail that is no longer ready
+pub IsKept-unready : (clauses : List (List Lit)) (cells : List Cell) (heads : List ℕ) (set : Assigned) (level head examined : ℕ) (ready : Bool) → IsKept clauses cells heads set level head examined ready → IsKept clauses cells heads set level head examined false
+IsKept-unready clauses cells heads set level head examined ready kept = record {
   few = kept.few;
-  reached = kept.trail.level;
+  trail = record { grown = kept.trail.grown; level = kept.trail.level; exist = kept.trail.exist; clauses_exist = kept.trail.clauses_exist; ready_propagated = λ impossible. cc };
+  linked = kept.linked;
+  watched = kept.watched;
+  complete = λ impossible. cc;
 }
 
 -- what contracts see of an addition
@@ -261,37 +224,15 @@ Adds-push old clause new number grows counted = rw grows (record {
     next : number ≡ length old.clauses + 1
     next = counted ∙ ap (λ (s : State). length s.clauses) grows ∙ sym whole
 
--- the parts of a new trail
-pub record IsNewTrail (f : Formula) (lists : StoredClauses) (set : Assigned) : Type 0 where
-  pub vars : lists.vars ≡ f.vars
-  pub clauses : lists.clauses ≡ f.clauses
-  pub start : set ≡ record { vars = f.vars; entries = [] }
-
--- all clauses were added
-pub IsNewTrail-all : (f : Formula) (inside lists : StoredClauses) (set : Assigned) (items : List (List Lit)) (i : ℕ) → inside ≡ lists → items ≡ f.clauses → (lists.vars ≡ f.vars) × (lists.clauses ≡ take i f.clauses) → length items ≤ i → set ≡ record { vars = f.vars; entries = [] } → IsNewTrail f inside set
-IsNewTrail-all f inside lists set items i same all so_far past start = rw same (record {
-  vars = so_far.0;
-  clauses = so_far.1 ∙ take_all i f.clauses (omega (arith, past, ap length all));
-  start = start;
-})
-
--- a new trail is one
-pub IsKept-new : (f : Formula) (lists : StoredClauses) (set : Assigned) → IsNewTrail f lists set → length f.clauses < 4294967296 → IsKept lists set 0 0 0 false
-IsKept-new f lists set new few = IsKept-start lists set (new.vars ∙ sym (ap (λ (s : Assigned). s.vars) new.start)) (ap (λ (s : Assigned). s.entries) new.start)
-    (rw (new.vars, new.clauses) f.variables_exist) (omega (arith, ap length new.clauses, few))
-
--- what contracts see of a new trail
-pub IsStart-new : (f : Formula) (lists : StoredClauses) (set : Assigned) → IsNewTrail f lists set → IsStart f (state_of lists set 0 false)
-IsStart-new f lists set new = record {
-  vars = new.vars;
-  numbers = λ n. ap (λ cs. numbered cs n) new.clauses;
-  last = ap length new.clauses;
-  empty = ap (λ (s : Assigned). s.entries) new.start;
-  level = refl;
-  unready = refl;
+-- a trail with one clause more that is open
+pub IsGrown-add : (clauses : List (List Lit)) (set : Assigned) (level : ℕ) (ready : Bool) (clause : List Lit) → IsGrown (state_of clauses set level ready) → VariablesExist set.vars clause → (level ≡ 0) ⊎ HasTwoOpen (state_of clauses set level ready) clause → IsGrown (state_of (clauses ++ clause ∷ []) set level false)
+IsGrown-add clauses set level ready clause trail exist is_open = record {
+  grown = Grows-add (numbered clauses) clause (numbered (clauses ++ clause ∷ [])) [] set.entries level (Widens-push clauses clause) trail.grown IsTop-none trail.level (open-clause (state_of clauses set level ready) clause is_open);
+  level = trail.level;
+  exist = trail.exist;
+  clauses_exist = λ n c has. elim ((Widens-push clauses clause).only n c has) [
+    | inl before ↦ trail.clauses_exist n c before
+    | inr same ↦ subst (VariablesExist set.vars) same exist
+  ];
+  ready_propagated = λ impossible. cc;
 }
-
--- the next clause of the formula has its variables
-pub exist-next : (f : Formula) (lists : StoredClauses) (clause item : List Lit) (items : List (List Lit)) (i : ℕ) → lists.vars ≡ f.vars → items ≡ f.clauses → clause ≡ item → item ≡ get_or items i item → i < length items → VariablesExist lists.vars clause
-exist-next f lists clause item items i vars all copied read within =
-    rw (vars, copied, read) (subst (λ cs. VariablesExist f.vars (get_or cs i item)) (sym all) (f.variables_exist i item (omega (arith, within, ap length all))))

@@ -53,7 +53,7 @@ IsPropagatedBelow-trail t trail level below =
     propagated-below (numbering_of t) [] t.entries level trail.grown IsTop-none (omega arith) (omega (arith, below, trail.level))
 
 -- entries that follow are for other variables, and those before them stay distinct
-once-grown : (numbering : Numbering) (before rest : List Entry) → Grows numbering before rest → AllPairs (λ d e. d.lit.var ≢ e.lit.var) before → AllPairs (λ d e. d.lit.var ≢ e.lit.var) (before ++ rest)
+pub once-grown : (numbering : Numbering) (before rest : List Entry) → Grows numbering before rest → AllPairs (λ d e. d.lit.var ≢ e.lit.var) before → AllPairs (λ d e. d.lit.var ≢ e.lit.var) (before ++ rest)
 once-grown numbering before [] follows differs = subst (AllPairs (λ d e. d.lit.var ≢ e.lit.var)) (sym (append-nil before)) differs
 once-grown numbering before (e ∷ rest) follows differs =
     subst (AllPairs (λ d e. d.lit.var ≢ e.lit.var)) (moved before e rest)

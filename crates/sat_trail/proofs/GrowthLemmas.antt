@@ -1,5 +1,5 @@
 -- How entries follow one another, and what forced entries add.
-use Rattle.std.proofs.Common.{◌≡◌, ℕ, zero, suc, ◌<◌, ◌≤◌, Some, option_map, IsSome, List, [], ◌∷◌, ◌++◌, inr, sym, ap, refl, ◌∙◌, subst, append_assoc, append-nil, arith, All, Contains}
+use Rattle.std.proofs.Common.{◌≡◌, ℕ, zero, suc, ◌<◌, ◌≤◌, Some, option_map, IsSome, List, [], ◌∷◌, ◌++◌, inl, inr, length, sym, ap, refl, ◌∙◌, subst, append_assoc, append-nil, arith, All, Contains}
 use Rattle.std.proofs.lemmas.List.Elements.{All-append, All-contains}
 use Rattle.clause_core.specs.declared.literal.Lit.{Lit}
 use Rattle.clause_core.specs.Clause.{VariablesExist}
@@ -9,11 +9,19 @@ use Rattle.sat_trail.specs.Entry.{values_of, last_level}
 use Rattle.clause_core.specs.Numbering.{Numbering, numbered, HasNumber}
 use Rattle.sat_trail.specs.inner.Growth.{Grows}
 use Rattle.sat_trail.specs.inner.Examination.{IsSettled}
-use Rattle.sat_trail.specs.inner.Storage.{Assigned, StoredClauses}
-use Rattle.sat_trail.specs.inner.Propagation.{CanPropagate, Extends}
+use Rattle.sat_trail.specs.inner.Storage.{Assigned}
+use Rattle.std.proofs.lemmas.Bool.{cases_lt}
+use Rattle.sat_trail.specs.declared.watch.Cell.{Cell}
+use Rattle.sat_trail.specs.inner.Excuse.{WatchesTwo}
+use Rattle.sat_trail.specs.inner.Propagation.{CanPropagate, Extends, HasWatches}
+use Rattle.sat_trail.specs.inner.Watches.{cell_of, Watches}
+use Rattle.sat_trail.proofs.FactLemmas.{once-grown}
+use Rattle.sat_trail.proofs.LevelLemmas.{IsTop-grown, IsTop-none}
+use Rattle.sat_trail.proofs.ValueLemmas.{IsOnce}
+use Rattle.sat_trail.proofs.WatchedLemmas.{AreWatched-more}
 use Rattle.sat_trail.proofs.EntryLemmas.{entry_of-push_same, values_of-none}
 use Rattle.sat_trail.proofs.StorageLemmas.{last_level-push}
-use Rattle.sat_trail.proofs.NumberLemmas.{number_all}
+use Rattle.sat_trail.proofs.NumberLemmas.{number_all, number_within}
 use Rattle.sat_trail.proofs.SettledLemmas.{IsSettled-true}
 
 -- the variables of a numbered clause exist
@@ -86,31 +94,61 @@ Extends-more clauses level a b c first second = record {
 }
 
 -- clauses fit entries that were added to
-pub CanPropagate-extends : (lists : StoredClauses) (old new : Assigned) (level : ℕ) → CanPropagate lists old level → Extends lists.clauses level old new → CanPropagate lists new level
-CanPropagate-extends lists old new level fits extends = record {
-  same = fits.same ∙ sym (ap (λ (s : Assigned). s.vars) extends.grows);
-  exist = fits.exist;
+pub CanPropagate-extends : (clauses : List (List Lit)) (old new : Assigned) (level : ℕ) → CanPropagate clauses old level → Extends clauses level old new → CanPropagate clauses new level
+CanPropagate-extends clauses old new level fits extends = record {
+  exist = subst (λ (s : Assigned). All (VariablesExist s.vars) clauses) (sym extends.grows) fits.exist;
   few = fits.few;
   reached = extends.stays;
+  grown = subst (λ (s : Assigned). Grows (numbered clauses) [] s.entries) (sym extends.grows)
+      (Grows-append (numbered clauses) [] old.entries extends.added fits.grown extends.follow);
 }
 
 -- the variables of a clause that fits exist among the entries' variables
-pub CanPropagate-exists : (lists : StoredClauses) (set : Assigned) (level number : ℕ) (clause : List Lit) (l : Lit) → CanPropagate lists set level → HasNumber (numbered lists.clauses) number clause → Contains clause l → (0 < l.var) × (l.var ≤ set.vars)
-CanPropagate-exists lists set level number clause l fits has among =
-    subst (λ vars. (0 < l.var) × (l.var ≤ vars)) fits.same (exists_in lists.vars lists.clauses number clause l fits.exist has among)
+pub CanPropagate-exists : (clauses : List (List Lit)) (set : Assigned) (level number : ℕ) (clause : List Lit) (l : Lit) → CanPropagate clauses set level → HasNumber (numbered clauses) number clause → Contains clause l → (0 < l.var) × (l.var ≤ set.vars)
+CanPropagate-exists clauses set level number clause l fits has among = exists_in set.vars clauses number clause l fits.exist has among
 
 -- what a step of propagation keeps
-pub record Runs (lists : StoredClauses) (level : ℕ) (old now : Assigned) : Type 0 where
-  pub extends : Extends lists.clauses level old now
-  pub fits : CanPropagate lists now level
+pub record Runs (clauses : List (List Lit)) (level : ℕ) (old now : Assigned) : Type 0 where
+  pub extends : Extends clauses level old now
+  pub fits : CanPropagate clauses now level
 
 -- before the first step
-pub Runs-none : (lists : StoredClauses) (level : ℕ) (set : Assigned) → CanPropagate lists set level → Runs lists level set set
-Runs-none lists level set fits = record { extends = Extends-none lists.clauses level set fits.reached; fits = fits }
+pub Runs-none : (clauses : List (List Lit)) (level : ℕ) (set : Assigned) → CanPropagate clauses set level → Runs clauses level set set
+Runs-none clauses level set fits = record { extends = Extends-none clauses level set fits.reached; fits = fits }
 
 -- one more step
-pub Runs-more : (lists : StoredClauses) (level : ℕ) (old now new : Assigned) → Runs lists level old now → Extends lists.clauses level now new → Runs lists level old new
-Runs-more lists level old now new runs extends = record {
-  extends = Extends-more lists.clauses level old now new runs.extends extends;
-  fits = CanPropagate-extends lists now new level runs.fits extends;
+pub Runs-more : (clauses : List (List Lit)) (level : ℕ) (old now new : Assigned) → Runs clauses level old now → Extends clauses level now new → Runs clauses level old new
+Runs-more clauses level old now new runs extends = record {
+  extends = Extends-more clauses level old now new runs.extends extends;
+  fits = CanPropagate-extends clauses now new level runs.fits extends;
 }
+
+-- entries that were added keep what clauses watch
+pub HasWatches-extends : (clauses : List (List Lit)) (cells : List Cell) (old new : Assigned) (level head examined : ℕ) → Extends clauses level old new → HasWatches clauses cells old level head examined → HasWatches clauses cells new level head examined
+HasWatches-extends clauses cells old new level head examined extends watched =
+    subst (λ (s : Assigned). HasWatches clauses cells s level head examined) (sym extends.grows)
+    (AreWatched-more (numbered clauses) (length clauses) cells old.entries extends.added (record { level = level; head = head; examined = examined })
+    (λ k d within. (extends.forced k d within).0) watched)
+
+-- each variable is set once
+pub CanPropagate-once : (clauses : List (List Lit)) (set : Assigned) (level : ℕ) → CanPropagate clauses set level → IsOnce set.entries
+CanPropagate-once clauses set level fits = once-grown (numbered clauses) [] set.entries fits.grown (λ i j d before within. absurd (omega arith))
+
+-- no entry is above the level
+pub CanPropagate-top : (clauses : List (List Lit)) (set : Assigned) (level : ℕ) → CanPropagate clauses set level → All (λ e. e.level ≤ level) set.entries
+CanPropagate-top clauses set level fits = subst (λ n. All (λ e. e.level ≤ n) set.entries) fits.reached (IsTop-grown (numbered clauses) [] set.entries fits.grown IsTop-none)
+
+-- a number is at most the last one
+pub number-last : (clauses : List (List Lit)) (n : ℕ) (c : List Lit) → HasNumber (numbered clauses) n c → n ≤ length clauses
+number-last clauses n c has = (number_within clauses n c has).1
+
+-- the clause of a number that watches a literal
+pub watched-number : (clauses : List (List Lit)) (cells : List Cell) (set : Assigned) (level head examined n : ℕ) (l : Lit) → HasWatches clauses cells set level head examined → 0 < l.var → Watches (cell_of cells n) l → (0 < n) × (n ≤ length clauses)
+watched-number clauses cells set level head examined n l watched from_one watches = watched.only n l from_one watches
+
+-- a clause that watches a literal watches two
+pub watched-two : (clauses : List (List Lit)) (cells : List Cell) (set : Assigned) (level head examined n : ℕ) (c : List Lit) (l : Lit) → HasWatches clauses cells set level head examined → 0 < l.var → Watches (cell_of cells n) l → HasNumber (numbered clauses) n c → WatchesTwo set.entries (record { level = level; head = head; examined = examined }) n c (cell_of cells n)
+watched-two clauses cells set level head examined n c l watched from_one watches has = elim (cases_lt (length c) 2) [
+  | inl few ↦ absurd ((watched.short n c has few).none l from_one watches)
+  | inr two ↦ watched.long n c has two
+]

@@ -1,5 +1,5 @@
 -- What the cells keep when an entry is set or taken out.
-use Rattle.std.proofs.Common.{◌≡◌, ◌≢◌, ℕ, zero, suc, ◌+◌, ◌-◌, ◌<◌, ◌≤◌, Bool, true, false, Option, Some, None, List, [], ◌∷◌, ◌++◌, inl, inr, length, take, get_or, set, sym, ap, refl, ◌∙◌, subst, append_assoc, arith, is_some, AllPairs, Contains, cond, length-set, get_or-set_same, get_or-set_other}
+use Rattle.std.proofs.Common.{option_map, ◌≡◌, ◌≢◌, ℕ, zero, suc, ◌+◌, ◌-◌, ◌<◌, ◌≤◌, Bool, true, false, Option, Some, None, List, [], ◌∷◌, ◌++◌, inl, inr, length, take, get_or, set, sym, ap, refl, ◌∙◌, subst, append_assoc, arith, is_some, AllPairs, Contains, cond, length-set, get_or-set_same, get_or-set_other}
 use Rattle.std.specs.List.{count_by}
 use Rattle.std.proofs.lemmas.Bool.{cases_eq}
 use Rattle.std.proofs.lemmas.List.{get_or_append_left, get_or_push, length_push, length-take-le, take_more, take_more_set, take_all, get_or_default}
@@ -8,7 +8,9 @@ use Rattle.std.proofs.lemmas.List.Quantifiers.{all_pairs_push}
 use Rattle.std.proofs.lemmas.List.Sums.{sum_by-cons, sum_by-set, count_by-le-length}
 use Rattle.sat_trail.specs.declared.entry.Entry.{Entry}
 use Rattle.sat_trail.specs.Entry.{entry_of, values_of, last_level}
-use Rattle.sat_trail.specs.inner.Storage.{Agrees, Assigned, HasRoom, IsStored, StartsWith}
+use Rattle.sat_trail.specs.declared.value.Value.{Value}
+use Rattle.sat_trail.specs.declared.value.Value.TheVariants.{Unset}
+use Rattle.sat_trail.specs.inner.Storage.{Agrees, Assigned, HasRoom, HasValues, IsStored, StartsWith, seen}
 use Rattle.sat_trail.proofs.EntryLemmas.{values_of-none, entry_of-distinct, entry_of-absent, entry_of-push_same, entry_of-push_other}
 
 -- 1 for a test that passes
@@ -105,29 +107,42 @@ Agrees-pop es cells e agrees from_one exists = record {
     full : weight (is_some (get_or cells (e.lit.var - 1) None)) ≡ 1
     full = ap (λ (o : Option Entry). weight (is_some o)) (agrees.found (e.lit.var - 1) (omega arith) ∙ ap (entry_of (es ++ e ∷ [])) (let same : e.lit.var - 1 + 1 ≡ e.lit.var = omega arith in same) ∙ entry_of-push_same es e missing)
 
+-- a value and a cell that are written agree
+HasValues-set : (cells : List (Option Entry)) (values : List Value) (i : ℕ) (o : Option Entry) (value : Value) → HasValues cells values → i < length cells → seen value ≡ option_map (λ (e : Entry). e.lit.positive) o → HasValues (set cells i o) (set values i value)
+HasValues-set cells values i o value valued within is_seen = record {
+  many = length-set values i value ∙ valued.many ∙ sym (length-set cells i o);
+  same = λ v v_within. elim (cases_eq v i) [
+    | inl is ↦ rw is (ap seen (get_or-set_same values i value Unset (omega (arith, within, valued.many))) ∙ is_seen
+        ∙ sym (ap (option_map (λ (e : Entry). e.lit.positive)) (get_or-set_same cells i o None within)))
+    | inr differs ↦ ap seen (get_or-set_other values i v value Unset differs) ∙ valued.same v (omega (arith, v_within, length-set cells i o))
+        ∙ sym (ap (option_map (λ (e : Entry). e.lit.positive)) (get_or-set_other cells i v o None differs))
+  ];
+}
+
 -- what is stored leaves room while a variable has no value
-pub HasRoom-stored : (slots : List Entry) (len : ℕ) (cells : List (Option Entry)) → IsStored slots len cells → HasRoom (record { vars = length cells; entries = take len slots })
-HasRoom-stored slots len cells stored = record {
+pub HasRoom-stored : (slots : List Entry) (len : ℕ) (cells : List (Option Entry)) (values : List Value) → IsStored slots len cells values → HasRoom (record { vars = length cells; entries = take len slots })
+HasRoom-stored slots len cells values stored = record {
   few = stored.few;
   more = λ v from_one exists none. room (take len slots) cells v stored.agrees from_one exists none;
 }
 
 -- there is a slot for one more entry
-pub slot_within : (slots : List Entry) (len : ℕ) (cells : List (Option Entry)) (v : ℕ) → IsStored slots len cells → 0 < v → v ≤ length cells → values_of (take len slots) v ≡ None → len < length slots
-slot_within slots len cells v stored from_one exists none =
+pub slot_within : (slots : List Entry) (len : ℕ) (cells : List (Option Entry)) (values : List Value) (v : ℕ) → IsStored slots len cells values → 0 < v → v ≤ length cells → values_of (take len slots) v ≡ None → len < length slots
+slot_within slots len cells values v stored from_one exists none =
     omega (arith, room (take len slots) cells v stored.agrees from_one exists none, length-take-le len slots stored.filled, stored.room)
 
 -- one more entry is stored after the others
-pub IsStored-push : (slots : List Entry) (len : ℕ) (cells : List (Option Entry)) (e : Entry) → IsStored slots len cells → 0 < e.lit.var → e.lit.var ≤ length cells → values_of (take len slots) e.lit.var ≡ None → IsStored (set slots len e) (len + 1) (set cells (e.lit.var - 1) (Some e))
-IsStored-push slots len cells e stored from_one exists none = record {
+pub IsStored-push : (slots : List Entry) (len : ℕ) (cells : List (Option Entry)) (values : List Value) (e : Entry) (value : Value) → IsStored slots len cells values → 0 < e.lit.var → e.lit.var ≤ length cells → values_of (take len slots) e.lit.var ≡ None → seen value ≡ Some e.lit.positive → IsStored (set slots len e) (len + 1) (set cells (e.lit.var - 1) (Some e)) (set values (e.lit.var - 1) value)
+IsStored-push slots len cells values e value stored from_one exists none is_seen = record {
   room = length-set slots len e ∙ stored.room ∙ sym (length-set cells (e.lit.var - 1) (Some e));
   few = rw (length-set cells (e.lit.var - 1) (Some e)) stored.few;
   filled = omega (arith, within, length-set slots len e);
   agrees = rw (take_more_set slots len e within) (Agrees-push (take len slots) cells e stored.agrees from_one exists none);
+  valued = HasValues-set cells values (e.lit.var - 1) (Some e) value stored.valued (omega arith) is_seen;
 }
   where
     within : len < length slots
-    within = slot_within slots len cells e.lit.var stored from_one exists none
+    within = slot_within slots len cells values e.lit.var stored from_one exists none
 
 -- what contracts see of one more entry
 pub assigned_after-push : (slots : List Entry) (len : ℕ) (cells : List (Option Entry)) (e : Entry) (i : ℕ) (o : Option Entry) → len < length slots → ◌≡◌ {A = Assigned} (record { vars = length (set cells i o); entries = take (len + 1) (set slots len e) }) (record { vars = length cells; entries = take len slots ++ e ∷ [] })
@@ -140,12 +155,13 @@ take_last slots len e some filled at_end =
     ∙ take_more slots (len - 1) e (omega arith) ∙ ap (λ x. take (len - 1) slots ++ x ∷ []) (sym at_end)
 
 -- one entry less is stored
-pub IsStored-pop : (slots : List Entry) (len : ℕ) (cells : List (Option Entry)) (e : Entry) → IsStored slots len cells → 0 < len → e ≡ get_or slots (len - 1) e → IsStored slots (len - 1) (set cells (e.lit.var - 1) None)
-IsStored-pop slots len cells e stored some at_end = record {
+pub IsStored-pop : (slots : List Entry) (len : ℕ) (cells : List (Option Entry)) (values : List Value) (e : Entry) → IsStored slots len cells values → 0 < len → e ≡ get_or slots (len - 1) e → IsStored slots (len - 1) (set cells (e.lit.var - 1) None) (set values (e.lit.var - 1) Unset)
+IsStored-pop slots len cells values e stored some at_end = record {
   room = stored.room ∙ sym (length-set cells (e.lit.var - 1) None);
   few = rw (length-set cells (e.lit.var - 1) None) stored.few;
   filled = omega (arith, stored.filled);
   agrees = Agrees-pop (take (len - 1) slots) cells e (subst (λ es. Agrees es cells) (take_last slots len e some stored.filled at_end) stored.agrees) exists.0 exists.1;
+  valued = HasValues-set cells values (e.lit.var - 1) None Unset stored.valued (omega (arith, exists.0, exists.1)) refl;
 }
   where
     exists : (0 < e.lit.var) × (e.lit.var ≤ length cells)

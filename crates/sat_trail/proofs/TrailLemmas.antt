@@ -1,18 +1,21 @@
 -- What every trail keeps, through each of its calls.
-use Rattle.std.proofs.Common.{◌≡◌, ℕ, ◌<◌, ◌≤◌, Bool, true, false, not, Option, Some, None, IsTrue, is_some, IfNone, List, [], length, sym, ap, refl, ◌∙◌, subst, All}
+use Rattle.std.proofs.Common.{◌≡◌, ℕ, ◌+◌, ◌<◌, ◌≤◌, Bool, true, false, not, Option, Some, None, IsTrue, is_some, IfNone, List, [], length, get_or, sym, ap, refl, ◌∙◌, subst, All}
 use Rattle.std.proofs.lemmas.List.Elements.{All-append}
 use Rattle.clause_core.specs.declared.literal.Lit.{Lit}
 use Rattle.clause_core.specs.Propagation.{IsPropagated}
-use Rattle.sat_trail.specs.declared.entry.Entry.{Entry}
 use Rattle.sat_trail.specs.Entry.{values_of}
 use Rattle.clause_core.specs.Numbering.{numbered}
 use Rattle.sat_trail.specs.inner.Growth.{Grows, IsGrown}
-use Rattle.sat_trail.specs.inner.Storage.{Assigned, StoredClauses}
-use Rattle.sat_trail.specs.Trail.{Propagates}
-use Rattle.sat_trail.specs.inner.Propagation.{Extends, IsExamined, IsKept, state_of}
+use Rattle.sat_trail.specs.inner.Storage.{Assigned}
+use Rattle.sat_trail.specs.Trail.{Propagates, ClausesExist}
+use Rattle.sat_trail.specs.inner.Propagation.{CanPropagate, Extends, HasWatches, IsKept, state_of}
+use Rattle.sat_trail.proofs.NumberLemmas.{number_at}
 use Rattle.sat_trail.proofs.LiteralLemmas.{not-not}
 use Rattle.sat_trail.proofs.GrowthLemmas.{Grows-append}
-use Rattle.sat_trail.proofs.ExaminedLemmas.{IsPropagated-examined}
+use Rattle.sat_trail.specs.declared.watch.Cell.{Cell}
+use Rattle.sat_trail.specs.inner.Watches.{AreLinked}
+use Rattle.sat_trail.proofs.GrowthLemmas.{CanPropagate-once, CanPropagate-extends, Extends-more, number-last}
+use Rattle.sat_trail.proofs.WatchedLemmas.{AreWatched-propagated}
 
 -- a fact for nothing found
 pub when_none : (o : Option ℕ) (P : Type 0) → is_some o ≡ false → IfNone o P → P
@@ -20,59 +23,76 @@ when_none None P none fact = fact
 when_none (Some n) P none fact = cc
 
 -- forced entries keep a trail
-pub IsGrown-extends : (lists : StoredClauses) (old new : Assigned) (level : ℕ) (before now : Bool) → lists.vars ≡ old.vars → IsGrown (state_of lists old level before) → Extends lists.clauses level old new → (IsTrue now → IsPropagated (values_of new.entries) (numbered lists.clauses)) → IsGrown (state_of lists new level now)
-IsGrown-extends lists old new level before now same trail extends propagated = record {
-  grown = subst (λ (s : Assigned). Grows (numbered lists.clauses) [] s.entries) (sym extends.grows) (Grows-append (numbered lists.clauses) [] old.entries extends.added trail.grown extends.follow);
+pub IsGrown-extends : (clauses : List (List Lit)) (old new : Assigned) (level : ℕ) (before now : Bool) → IsGrown (state_of clauses old level before) → Extends clauses level old new → (IsTrue now → IsPropagated (values_of new.entries) (numbered clauses)) → IsGrown (state_of clauses new level now)
+IsGrown-extends clauses old new level before now trail extends propagated = record {
+  grown = subst (λ (s : Assigned). Grows (numbered clauses) [] s.entries) (sym extends.grows) (Grows-append (numbered clauses) [] old.entries extends.added trail.grown extends.follow);
   level = extends.stays;
-  exist = subst (λ (s : Assigned). All (λ e. (0 < e.lit.var) × (e.lit.var ≤ lists.vars)) s.entries) (sym extends.grows)
-      (All-append (λ e. (0 < e.lit.var) × (e.lit.var ≤ lists.vars)) old.entries extends.added trail.exist
-      (subst (λ vars. All (λ e. (0 < e.lit.var) × (e.lit.var ≤ vars)) extends.added) (sym same) extends.exist));
-  clauses_exist = trail.clauses_exist;
+  exist = subst (λ (s : Assigned). All (λ e. (0 < e.lit.var) × (e.lit.var ≤ s.vars)) s.entries) (sym extends.grows)
+      (All-append (λ e. (0 < e.lit.var) × (e.lit.var ≤ old.vars)) old.entries extends.added trail.exist extends.exist);
+  clauses_exist = subst (λ (s : Assigned). ClausesExist (state_of clauses s level now)) (sym extends.grows) trail.clauses_exist;
   ready_propagated = propagated;
 }
 
--- the variables stay the same
-same-extends : (lists : StoredClauses) (old new : Assigned) (level : ℕ) → lists.vars ≡ old.vars → Extends lists.clauses level old new → lists.vars ≡ new.vars
-same-extends lists old new level same extends = same ∙ sym (ap (λ (s : Assigned). s.vars) extends.grows)
+-- what propagation has passed is propagated
+pub HasWatches-propagated : (clauses : List (List Lit)) (cells : List Cell) (set : Assigned) (level : ℕ) → CanPropagate clauses set level → HasWatches clauses cells set level (length set.entries) (length clauses) → IsPropagated (values_of set.entries) (numbered clauses)
+HasWatches-propagated clauses cells set level fits watched =
+    AreWatched-propagated (numbered clauses) (length clauses) cells set.entries (record { level = level; head = length set.entries; examined = length clauses }) (CanPropagate-once clauses set level fits) refl refl (number-last clauses) watched
 
 -- a propagation that stopped at a clause keeps a trail
-pub IsKept-stopped : (lists : StoredClauses) (old new : Assigned) (level head head' examined examined' : ℕ) (before : Bool) → IsKept lists old level head examined before → Extends lists.clauses level old new → IsExamined lists.clauses new.entries head' examined' → IsKept lists new level head' examined' false
-IsKept-stopped lists old new level head head' examined examined' before kept extends progress = record {
-  same = same-extends lists old new level kept.same extends;
+pub IsKept-stopped : (clauses : List (List Lit)) (cells new_cells : List Cell) (heads new_heads : List ℕ) (old new : Assigned) (level head head' examined examined' : ℕ) (before : Bool) → IsKept clauses cells heads old level head examined before → Extends clauses level old new → AreLinked old.vars new_cells new_heads → HasWatches clauses new_cells new level head' examined' → IsKept clauses new_cells new_heads new level head' examined' false
+IsKept-stopped clauses cells new_cells heads new_heads old new level head head' examined examined' before kept extends linked watched = record {
   few = kept.few;
-  trail = IsGrown-extends lists old new level before false kept.same kept.trail extends (λ impossible. cc);
-  progress = progress;
+  trail = IsGrown-extends clauses old new level before false kept.trail extends (λ impossible. cc);
+  linked = subst (λ vars. AreLinked vars new_cells new_heads) (sym (ap (λ (s : Assigned). s.vars) extends.grows)) linked;
+  watched = watched;
   complete = λ impossible. cc;
 }
 
--- a propagation that found nothing false has examined all
-pub IsKept-finished : (lists : StoredClauses) (old new : Assigned) (level head head' examined : ℕ) (before ready : Bool) (found : Option ℕ) → IsKept lists old level head examined before → Extends lists.clauses level old new → IsExamined lists.clauses new.entries head' (length lists.clauses) → not ready ≡ is_some found → IfNone found (head' ≡ length new.entries) → IsKept lists new level head' (length lists.clauses) ready
-IsKept-finished lists old new level head head' examined before ready (Some n) kept extends progress is_ready all =
-    rw (sym (not-not ready) ∙ ap not is_ready) (IsKept-stopped lists old new level head head' examined (length lists.clauses) before kept extends progress)
-IsKept-finished lists old new level head head' examined before ready None kept extends progress is_ready all =
+-- a propagation that found nothing false has passed all
+pub IsKept-finished : (clauses : List (List Lit)) (cells new_cells : List Cell) (heads new_heads : List ℕ) (old new : Assigned) (level head head' examined : ℕ) (before ready : Bool) (found : Option ℕ) → IsKept clauses cells heads old level head examined before → Extends clauses level old new → CanPropagate clauses new level → AreLinked old.vars new_cells new_heads → HasWatches clauses new_cells new level head' (length clauses) → not ready ≡ is_some found → IfNone found (head' ≡ length new.entries) → IsKept clauses new_cells new_heads new level head' (length clauses) ready
+IsKept-finished clauses cells new_cells heads new_heads old new level head head' examined before ready (Some n) kept extends fits linked watched is_ready all =
+    rw (sym (not-not ready) ∙ ap not is_ready) (IsKept-stopped clauses cells new_cells heads new_heads old new level head head' examined (length clauses) before kept extends linked watched)
+IsKept-finished clauses cells new_cells heads new_heads old new level head head' examined before ready None kept extends fits linked watched is_ready all =
     rw (sym (not-not ready) ∙ ap not is_ready) (record {
-      same = same-extends lists old new level kept.same extends;
       few = kept.few;
-      trail = IsGrown-extends lists old new level before true kept.same kept.trail extends (λ _. IsPropagated-examined lists.clauses new.entries head' (length lists.clauses) progress all refl);
-      progress = progress;
+      trail = IsGrown-extends clauses old new level before true kept.trail extends (λ _. HasWatches-propagated clauses new_cells new level fits (subst (λ n. HasWatches clauses new_cells new level n (length clauses)) all watched));
+      linked = subst (λ vars. AreLinked vars new_cells new_heads) (sym (ap (λ (s : Assigned). s.vars) extends.grows)) linked;
+      watched = watched;
       complete = λ _. (all, refl);
     })
 
--- the same where the first walk found nothing
-pub IsKept-both : (lists : StoredClauses) (old new : Assigned) (level head head' examined examined' : ℕ) (before ready : Bool) (first found : Option ℕ) → IsKept lists old level head examined before → Extends lists.clauses level old new → IsExamined lists.clauses new.entries head' (length lists.clauses) → false ≡ is_some first → IfNone first (examined' ≡ length lists.clauses) → is_some found ≡ not ready → IfNone found (head' ≡ length new.entries) → IsKept lists new level head' examined' ready
-IsKept-both lists old new level head head' examined examined' before ready first found kept extends progress none all_examined is_ready all =
-    subst (λ n. IsKept lists new level head' n ready) (sym (when_none first (examined' ≡ length lists.clauses) (sym none) all_examined))
-    (IsKept-finished lists old new level head head' examined before ready found kept extends progress (sym is_ready) all)
-
 -- what a propagation did
-pub Propagates-extends : (lists : StoredClauses) (old new : Assigned) (level : ℕ) (before now : Bool) → Extends lists.clauses level old new → Propagates (state_of lists old level before) (state_of lists new level now)
-Propagates-extends lists old new level before now extends = record {
+pub Propagates-extends : (clauses : List (List Lit)) (old new : Assigned) (level : ℕ) (before now : Bool) → Extends clauses level old new → Propagates (state_of clauses old level before) (state_of clauses new level now)
+Propagates-extends clauses old new level before now extends = record {
   added = extends.added;
   forced = extends.forced;
-  grows = ap (λ (s : Assigned). state_of lists s level now) extends.grows;
+  grows = ap (λ (s : Assigned). state_of clauses s level now) extends.grows;
 }
 
 -- nothing found means that nothing is left
-pub propagated-found : (clauses : List (List Lit)) (entries : List Entry) (head : ℕ) (found : Option ℕ) → IsExamined clauses entries head (length clauses) → IfNone found (head ≡ length entries) → IfNone found (IsPropagated (values_of entries) (numbered clauses))
-propagated-found clauses entries head None progress all = IsPropagated-examined clauses entries head (length clauses) progress all refl
-propagated-found clauses entries head (Some n) progress all = tt
+pub propagated-found : (clauses : List (List Lit)) (cells : List Cell) (set : Assigned) (level head : ℕ) (found : Option ℕ) → CanPropagate clauses set level → HasWatches clauses cells set level head (length clauses) → IfNone found (head ≡ length set.entries) → IfNone found (IsPropagated (values_of set.entries) (numbered clauses))
+propagated-found clauses cells set level head None fits watched all = HasWatches-propagated clauses cells set level fits (subst (λ n. HasWatches clauses cells set level n (length clauses)) all watched)
+propagated-found clauses cells set level head (Some n) fits watched all = tt
+
+-- the parts of a trail can be propagated
+pub CanPropagate-kept : (clauses : List (List Lit)) (cells : List Cell) (heads : List ℕ) (set : Assigned) (level head examined : ℕ) (ready : Bool) → IsKept clauses cells heads set level head examined ready → CanPropagate clauses set level
+CanPropagate-kept clauses cells heads set level head examined ready kept = record {
+  exist = λ k d within. kept.trail.clauses_exist (k + 1) (get_or clauses k d) (number_at clauses k d within);
+  few = kept.few;
+  reached = kept.trail.level;
+  grown = kept.trail.grown;
+}
+
+-- the clauses are all examined
+pub HasWatches-all : (clauses : List (List Lit)) (cells : List Cell) (set : Assigned) (level head examined : ℕ) (found : Option ℕ) → false ≡ is_some found → IfNone found (examined ≡ length clauses) → HasWatches clauses cells set level head examined → HasWatches clauses cells set level head (length clauses)
+HasWatches-all clauses cells set level head examined found none all watched =
+    subst (λ n. HasWatches clauses cells set level head n) (when_none found (examined ≡ length clauses) (sym none) all) watched
+
+-- the same where the first walk found nothing
+pub IsKept-both : (clauses : List (List Lit)) (cells new_cells : List Cell) (heads new_heads : List ℕ) (old now new : Assigned) (level head head' examined examined' : ℕ) (before ready : Bool) (first found : Option ℕ) → IsKept clauses cells heads old level head examined before → Extends clauses level old now → Extends clauses level now new → AreLinked now.vars new_cells new_heads → HasWatches clauses new_cells new level head' (length clauses) → false ≡ is_some first → IfNone first (examined' ≡ length clauses) → is_some found ≡ not ready → IfNone found (head' ≡ length new.entries) → IsKept clauses new_cells new_heads new level head' examined' ready
+IsKept-both clauses cells new_cells heads new_heads old now new level head head' examined examined' before ready first found kept extends later linked watched none all_examined is_ready all =
+    let whole = Extends-more clauses level old now new extends later in
+    subst (λ n. IsKept clauses new_cells new_heads new level head' n ready) (sym (when_none first (examined' ≡ length clauses) (sym none) all_examined))
+    (IsKept-finished clauses cells new_cells heads new_heads old new level head head' examined before ready found kept whole
+    (CanPropagate-extends clauses old new level (CanPropagate-kept clauses cells heads old level head examined before kept) whole)
+    (subst (λ vars. AreLinked vars new_cells new_heads) (ap (λ (s : Assigned). s.vars) extends.grows) linked) watched (sym is_ready) all)

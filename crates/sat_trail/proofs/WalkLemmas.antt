@@ -1,94 +1,211 @@
--- What a walk over the clauses of one literal has settled.
-use Rattle.std.proofs.Common.{◌≡◌, ℕ, ◌+◌, ◌<◌, ◌≤◌, Some, List, [], ◌++◌, inl, inr, length, take, get_or, slice_get, sym, ap, ◌∙◌, subst, arith, Contains, length-append}
+-- What a walk along the list of a false literal keeps.
+use Rattle.std.proofs.Common.{◌≡◌, ◌≢◌, ℕ, zero, suc, ◌+◌, ◌*◌, ◌<◌, ◌≤◌, List, [], ◌∷◌, inl, inr, length, get_or, slice_get, Some, sym, ap, refl, ◌∙◌, subst, arith, AllPairs, Contains}
 use Rattle.std.proofs.lemmas.Bool.{cases_eq}
-use Rattle.std.proofs.lemmas.List.{take-append-le, get_or_append_left, get_or_default}
-use Rattle.std.proofs.lemmas.Option.{get_or_from_slice_get}
+use Rattle.std.proofs.lemmas.List.{get_or_default}
+use Rattle.list_base.proofs.Members.{here_same, there, nowhere, cons_cases}
+use Rattle.list_base.proofs.Pigeonhole.{few_distinct}
 use Rattle.clause_core.specs.declared.literal.Lit.{Lit}
-use Rattle.clause_core.specs.Literal.{negated}
-use Rattle.sat_trail.specs.declared.entry.Entry.{Entry}
-use Rattle.sat_trail.specs.Entry.{values_of}
-use Rattle.sat_trail.specs.inner.Examination.{IsSettled}
-use Rattle.sat_trail.specs.inner.Storage.{Assigned, StoredClauses, HasOccurrences}
-use Rattle.sat_trail.specs.inner.Propagation.{CanPropagate, Extends, HasExamined, IsExamined}
-use Rattle.sat_trail.proofs.SettledLemmas.{IsSettled-later, IsSettled-earlier}
+use Rattle.clause_core.specs.Numbering.{numbered}
+use Rattle.sat_trail.specs.declared.watch.Cell.{Cell}
+use Rattle.sat_trail.specs.inner.Excuse.{IsTrueBy}
+use Rattle.sat_trail.specs.inner.Propagation.{CanPropagate, Extends, HasWatches}
+use Rattle.sat_trail.specs.inner.Storage.{Assigned}
+use Rattle.sat_trail.specs.declared.propagation.Visit.TheVariants.{Stays, Moves, Fails}
+use Rattle.sat_trail.specs.inner.Visit.{IsFalseAt, IsVisit, KeepsLengths}
+use Rattle.sat_trail.specs.inner.Walk.{IsWalk, AreOthersListed, Walks}
+use Rattle.sat_trail.specs.inner.Watches.{cell_of, IsTurn, HasLink, Watches, KeepsLits, head_of, IsDistinct, IsListed, AreLinked}
+use Rattle.sat_trail.proofs.ChainLemmas.{joined-cases, distinct-apart, chain-member, walk-start, walk-end, walk-member, walk-stays, walk-next, walk-none}
 use Rattle.sat_trail.proofs.GrowthLemmas.{Runs, Runs-none, Runs-more}
-use Rattle.sat_trail.proofs.ExaminedLemmas.{values_of-kept, values_of-prefix, IsExamined-more}
+use Rattle.sat_trail.proofs.LiteralLemmas.{cases_literal}
+use Rattle.sat_trail.proofs.ValueLemmas.{IsTrueBy-more, at-left}
+use Rattle.sat_trail.proofs.VisitLemmas.{turn-watches, turn-keeps}
+use Rattle.sat_trail.proofs.WatchedLemmas.{AreWatched-passed}
 
--- the clauses at the first `i` indices of the walk are settled
-pub record ExaminesSome (clauses : List (List Lit)) (entries : List Entry) (position : ℕ) (walk : List ℕ) (i : ℕ) : Type 0 where
-  pub settled : (j : ℕ) → j < i → get_or walk j 0 < length clauses →
-      IsSettled (values_of (take (position + 1) entries)) (values_of entries) (get_or clauses (get_or walk j 0) [])
+-- the numbers below one
+abbrev numbers : ℕ → List ℕ
+numbers zero = []
+numbers (suc n) = n ∷ numbers n
 
--- entries that were added keep what the walk has settled
-ExaminesSome-kept : (clauses : List (List Lit)) (level : ℕ) (old new : Assigned) (position : ℕ) (walk : List ℕ) (i : ℕ) → position < length old.entries → Extends clauses level old new → ExaminesSome clauses old.entries position walk i → ExaminesSome clauses new.entries position walk i
-ExaminesSome-kept clauses level old new position walk i within extends passes = record {
-  settled = λ j before given.
-      subst (λ (s : Assigned). IsSettled (values_of (take (position + 1) s.entries)) (values_of s.entries) (get_or clauses (get_or walk j 0) [])) (sym extends.grows)
-      (rw (take-append-le (position + 1) old.entries extends.added (omega arith))
-      (IsSettled-later (values_of (take (position + 1) old.entries)) (values_of old.entries) (values_of (old.entries ++ extends.added)) (get_or clauses (get_or walk j 0) [])
-      (values_of-kept old.entries extends.added) (passes.settled j before given)));
+-- there are as many
+numbers-length : (n : ℕ) → length (numbers n) ≡ n
+numbers-length zero = refl
+numbers-length (suc n) = omega (arith, numbers-length n)
+
+-- each is there
+numbers-has : (n k : ℕ) → k < n → Contains (numbers n) k
+numbers-has zero k less = absurd (omega arith)
+numbers-has (suc n) k less = elim (cases_eq n k) [
+  | inl same ↦ here_same n (numbers n) k same
+  | inr differs ↦ there n (numbers n) k (numbers-has n k (omega (arith, less, differs)))
+]
+
+-- distinct numbers differ
+distinct-pairs : (list : List ℕ) → IsDistinct list → AllPairs ◌≢◌ list
+distinct-pairs [] distinct i j d less within = absurd (omega (arith, within))
+distinct-pairs (n ∷ rest) distinct zero (suc j) d less within =
+    λ same. distinct.0 (j, omega (arith, within), get_or_default rest j n d (omega (arith, within)) ∙ sym same)
+distinct-pairs (n ∷ rest) distinct zero zero d less within = absurd (omega (arith, less))
+distinct-pairs (n ∷ rest) distinct (suc i) zero d less within = absurd (omega (arith, less))
+distinct-pairs (n ∷ rest) distinct (suc i) (suc j) d less within = distinct-pairs rest distinct.1 i j d (omega (arith, less)) (omega (arith, within))
+
+-- distinct numbers below one are no more than it
+distinct-few : (list : List ℕ) (n : ℕ) → IsDistinct list → ((k : ℕ) → Contains list k → k < n) → length list ≤ n
+distinct-few list n distinct below =
+    omega (
+      arith,
+      numbers-length n,
+      few_distinct list (numbers n) (distinct-pairs list distinct)
+          (λ i d within. numbers-has n (get_or list i d) (below (get_or list i d) (i, within, get_or_default list i (get_or list i d) d within))),
+    )
+
+-- the walk has come to a number, after some turns of the loop
+pub record IsWalking (clauses : List (List Lit)) (old now : Assigned) (cells : List Cell) (heads : List ℕ) (level position : ℕ) (l : Lit) (before number count : ℕ) : Type 0 where
+  pub runs : Runs clauses level old now
+  pub watched : HasWatches clauses cells now level position (length clauses)
+  pub many : length heads ≡ 2 * old.vars + 2
+  pub others : AreOthersListed old.vars cells heads l
+  pub passed : List ℕ
+  pub rest : List ℕ
+  pub walk : IsWalk cells heads l passed rest before number
+  pub left : length rest + count ≤ length cells
+  pub satisfied : (n : ℕ) → Contains passed n → (turn : Cell) → IsTurn (cell_of cells n) turn → turn.one.lit ≡ l → IsTrueBy now.entries level turn.other.lit
+
+-- the walk begins
+pub walking-start : (clauses : List (List Lit)) (set : Assigned) (cells : List Cell) (heads : List ℕ) (level position : ℕ) (l : Lit) (number : ℕ) → CanPropagate clauses set level → HasWatches clauses cells set level position (length clauses) → AreLinked set.vars cells heads → (0 < l.var) × (l.var ≤ set.vars) → number ≡ head_of heads l → IsWalking clauses set set cells heads level position l 0 number 0
+walking-start clauses set cells heads level position l number fits watched linked exists first = record {
+  runs = Runs-none clauses level set fits;
+  watched = watched;
+  many = linked.many;
+  others = λ m from_one m_exists other. linked.listed m from_one m_exists;
+  passed = [];
+  rest = listed.list;
+  walk = subst (λ k. IsWalk cells heads l [] listed.list 0 k) (sym first) (walk-start cells heads l listed);
+  left = omega (arith, distinct-few listed.list (length cells) listed.distinct (λ k among. (chain-member cells l (head_of heads l) listed.list k listed.chain among).1));
+  satisfied = λ n among. absurd (nowhere n among);
 }
+  where
+    listed : IsListed cells heads l
+    listed = linked.listed l exists.0 exists.1
 
--- one more clause was visited
-pub ExaminesSome-propagate_clause : (clauses : List (List Lit)) (level : ℕ) (old new : Assigned) (position : ℕ) (walk : List ℕ) (i : ℕ) → position < length old.entries → Extends clauses level old new → ExaminesSome clauses old.entries position walk i → IsSettled (values_of new.entries) (values_of new.entries) (get_or clauses (get_or walk i 0) []) → ExaminesSome clauses new.entries position walk (i + 1)
-ExaminesSome-propagate_clause clauses level old new position walk i within extends passes settled = record {
-  settled = λ j before given. elim (cases_eq j i) [
-    | inl same ↦ rw same (IsSettled-earlier (values_of (take (position + 1) new.entries)) (values_of new.entries) (values_of new.entries) (get_or clauses (get_or walk i 0) []) (values_of-prefix (position + 1) new.entries) settled)
-    | inr other ↦ (ExaminesSome-kept clauses level old new position walk i within extends passes).settled j (omega arith) given
+-- the next clause of the walk
+pub walking-walks : (clauses : List (List Lit)) (old now : Assigned) (cells : List Cell) (heads : List ℕ) (level position : ℕ) (l : Lit) (before number count : ℕ) → IsWalking clauses old now cells heads level position l before number count → number ≢ 0 → Walks cells heads l before number
+walking-walks clauses old now cells heads level position l before number count w some =
+    let next = walk-next cells heads l w.passed w.rest before number w.walk some in
+    record { passed = w.passed; rest = next.0; walk = subst (λ xs. IsWalk cells heads l w.passed xs before number) next.1 w.walk }
+
+-- what is true stays true
+true-extends : (clauses : List (List Lit)) (now new : Assigned) (level low : ℕ) (k : Lit) → Extends clauses level now new → IsTrueBy now.entries low k → IsTrueBy new.entries low k
+true-extends clauses now new level low k extends t = subst (λ (s : Assigned). IsTrueBy s.entries low k) (sym extends.grows) (IsTrueBy-more now.entries extends.added low k t)
+
+-- the clause stays
+pub walking-stays : (clauses : List (List Lit)) (old now new : Assigned) (cells : List Cell) (heads : List ℕ) (level position : ℕ) (l : Lit) (before number count next : ℕ) → IsWalking clauses old now cells heads level position l before number count → number ≢ 0 → Extends clauses level now new → HasWatches clauses cells new level position (length clauses) → ((turn : Cell) → IsTurn (cell_of cells number) turn → turn.one.lit ≡ l → IsTrueBy new.entries level turn.other.lit) → HasLink (cell_of cells number) l next → IsWalking clauses old new cells heads level position l number next (count + 1)
+walking-stays clauses old now new cells heads level position l before number count next w some extends watched satisfied link = record {
+  runs = Runs-more clauses level old now new w.runs extends;
+  watched = watched;
+  many = w.many;
+  others = w.others;
+  passed = number ∷ w.passed;
+  rest = later.0;
+  walk = walk-stays cells heads l w.passed later.0 before number next (subst (λ xs. IsWalk cells heads l w.passed xs before number) later.1 w.walk) link;
+  left = omega (arith, w.left, ap length later.1);
+  satisfied = λ n among turn turns is. elim (cons_cases number w.passed n among) [
+    | inl same ↦ satisfied turn (subst (λ k. IsTurn (cell_of cells k) turn) (sym same) turns) is
+    | inr old_one ↦ true-extends clauses now new level level turn.other.lit extends (w.satisfied n old_one turn turns is)
+  ];
+}
+  where
+    later : (xs : List ℕ) × (w.rest ≡ number ∷ xs)
+    later = walk-next cells heads l w.passed w.rest before number w.walk some
+
+-- the clause moves
+pub walking-moves : (clauses : List (List Lit)) (old now new : Assigned) (cells new_cells : List Cell) (heads new_heads : List ℕ) (level position : ℕ) (l : Lit) (before number count next : ℕ) → IsWalking clauses old now cells heads level position l before number count → number ≢ 0 → Extends clauses level now new → HasWatches clauses new_cells new level position (length clauses) → length new_cells ≡ length cells → length new_heads ≡ length heads → AreOthersListed old.vars new_cells new_heads l → ((n : ℕ) → n ≢ number → KeepsLits (cell_of cells n) (cell_of new_cells n)) → ((passed rest : List ℕ) → IsWalk cells heads l passed (number ∷ rest) before number → IsWalk new_cells new_heads l passed rest before next) → IsWalking clauses old new new_cells new_heads level position l before next (count + 1)
+walking-moves clauses old now new cells new_cells heads new_heads level position l before number count next w some extends watched cells_many heads_many others keeps moves = record {
+  runs = Runs-more clauses level old now new w.runs extends;
+  watched = watched;
+  many = heads_many ∙ w.many;
+  others = others;
+  passed = w.passed;
+  rest = later.0;
+  walk = moves w.passed later.0 walk;
+  left = omega (arith, w.left, ap length later.1, cells_many);
+  satisfied = λ n among turn turns is.
+      let old_turn = turn-keeps (cell_of cells n) (cell_of new_cells n) turn (keeps n (λ same. distinct-apart w.passed (number ∷ later.0) n walk.distinct among (here_same number later.0 n (sym same)))) turns in
+      subst (λ (k : Lit). IsTrueBy new.entries level k) (sym old_turn.3)
+      (true-extends clauses now new level level old_turn.0.other.lit extends (w.satisfied n among old_turn.0 old_turn.1 (sym old_turn.2 ∙ is)));
+}
+  where
+    later : (xs : List ℕ) × (w.rest ≡ number ∷ xs)
+    later = walk-next cells heads l w.passed w.rest before number w.walk some
+
+    walk : IsWalk cells heads l w.passed (number ∷ later.0) before number
+    walk = subst (λ xs. IsWalk cells heads l w.passed xs before number) later.1 w.walk
+
+-- the lists are whole
+pub walking-linked : (clauses : List (List Lit)) (old now : Assigned) (cells : List Cell) (heads : List ℕ) (level position : ℕ) (l : Lit) (before number count : ℕ) → IsWalking clauses old now cells heads level position l before number count → AreLinked old.vars cells heads
+walking-linked clauses old now cells heads level position l before number count w = record {
+  many = w.many;
+  some = omega (arith, w.watched.room);
+  listed = λ m from_one exists. elim (cases_literal m l) [
+    | inl same ↦ subst (IsListed cells heads) (sym same) (walk-end cells heads l w.passed w.rest before number w.walk)
+    | inr other ↦ w.others m from_one exists other
   ];
 }
 
--- a position past the clauses was passed over
-pub ExaminesSome-skip : (clauses : List (List Lit)) (entries : List Entry) (position : ℕ) (walk : List ℕ) (i : ℕ) → ExaminesSome clauses entries position walk i → length clauses ≤ get_or walk i 0 → ExaminesSome clauses entries position walk (i + 1)
-ExaminesSome-skip clauses entries position walk i passes past = record {
-  settled = λ j before given. elim (cases_eq j i) [
-    | inl same ↦ absurd (omega (arith, ap (λ n. get_or walk n 0) same))
-    | inr other ↦ passes.settled j (omega arith) given
-  ];
+-- after as many turns as there are cells the walk has ended
+pub walking-ended : (clauses : List (List Lit)) (old now : Assigned) (cells : List Cell) (heads : List ℕ) (level position : ℕ) (l : Lit) (before number count : ℕ) → IsWalking clauses old now cells heads level position l before number count → length cells ≤ count → number ≡ 0
+walking-ended clauses old now cells heads level position l before number count w over = elim (cases_eq number 0) [
+  | inl same ↦ same
+  | inr some ↦
+      let later = walk-next cells heads l w.passed w.rest before number w.walk some in
+      absurd (omega (arith, w.left, over, ap length later.1))
+]
+
+-- where the walk has ended, the entry is passed
+pub walking-passed : (clauses : List (List Lit)) (old now : Assigned) (cells : List Cell) (heads : List ℕ) (level position : ℕ) (l : Lit) (before number count : ℕ) → IsWalking clauses old now cells heads level position l before number count → number ≡ 0 → IsFalseAt now.entries position l → HasWatches clauses cells now level (position + 1) (length clauses)
+walking-passed clauses old now cells heads level position l before number count w none fails =
+    AreWatched-passed (numbered clauses) (length clauses) cells now.entries level position (length clauses) l fails
+    (λ n turn turns is. elim (joined-cases w.passed w.rest n (w.walk.covers n (turn-watches (cell_of cells n) turn l turns is))) [
+      | inl passed ↦ w.satisfied n passed turn turns is
+      | inr comes ↦ absurd (nowhere n (subst (λ xs. Contains xs n) (walk-none cells heads l w.passed w.rest before number w.walk none) comes))
+    ]) w.watched
+
+-- the entry stays at its position
+pub false-extends : (clauses : List (List Lit)) (old now : Assigned) (level position : ℕ) (l : Lit) → Extends clauses level old now → IsFalseAt old.entries position l → IsFalseAt now.entries position l
+false-extends clauses old now level position l extends at = record {
+  entry = at.entry;
+  there = subst (λ (s : Assigned). slice_get s.entries position ≡ Some at.entry) (sym extends.grows) (at-left old.entries extends.added position at.entry at.there);
+  fails = at.fails;
 }
 
--- the walk has come to its end
-pub HasExamined-walk : (clauses : List (List Lit)) (level : ℕ) (old new : Assigned) (position : ℕ) (e : Entry) (walk : List ℕ) (i : ℕ) → slice_get old.entries position ≡ Some e → position < length old.entries → Extends clauses level old new → HasOccurrences clauses (negated e.lit) walk → ExaminesSome clauses new.entries position walk i → length walk ≤ i → HasExamined clauses new.entries position
-HasExamined-walk clauses level old new position e walk i at_position within extends occurrences passes all k d k_within read among =
-    let same : get_or new.entries position d ≡ e =
-    ap (λ (s : Assigned). get_or s.entries position d) extends.grows ∙ get_or_append_left old.entries extends.added d position within ∙ get_or_from_slice_get old.entries position e d at_position in
-    let held : Contains walk k = occurrences k k_within (subst (λ (x : Entry). Contains (get_or clauses k []) (negated x.lit)) (sym read ∙ same) among) in
-    let found : get_or walk held.0 0 ≡ k = get_or_default walk held.0 0 k held.1 ∙ held.2 in
-    subst (λ n. IsSettled (values_of (take (position + 1) new.entries)) (values_of new.entries) (get_or clauses n [])) found
-    (passes.settled held.0 (omega (arith, held.1)) (subst (λ n. n < length clauses) (sym found) k_within))
+-- the variables stay the same
+pub vars-extends : (clauses : List (List Lit)) (old now : Assigned) (level : ℕ) → Extends clauses level old now → now.vars ≡ old.vars
+vars-extends clauses old now level extends = ap (λ (s : Assigned). s.vars) extends.grows
 
--- what the walk keeps: entries were added, and the clauses that were visited are settled
-pub record Walks (lists : StoredClauses) (level : ℕ) (old now : Assigned) (position : ℕ) (walk : List ℕ) (i : ℕ) : Type 0 where
-  pub runs : Runs lists level old now
-  pub passes : ExaminesSome lists.clauses now.entries position walk i
+-- the clause that was visited is still in the list
+pub stayed-member : (clauses : List (List Lit)) (old now new : Assigned) (cells new_cells : List Cell) (heads new_heads : List ℕ) (level position : ℕ) (l : Lit) (before number count : ℕ) → IsWalking clauses old now cells heads level position l before number count → number ≢ 0 → IsVisit cells new_cells heads new_heads new.entries level l before number Stays → (number < length new_cells) × Watches (cell_of new_cells number) l
+stayed-member clauses old now new cells new_cells heads new_heads level position l before number count w some visit =
+    let walks = walking-walks clauses old now cells heads level position l before number count w some in
+    subst (λ (cs : List Cell). (number < length cs) × Watches (cell_of cs number) l) (sym (visit.stays refl).0)
+    (let member = walk-member cells heads l walks.passed walks.rest before number walks.walk in (member.1, member.2))
 
--- before the first clause
-pub Walks-none : (lists : StoredClauses) (level : ℕ) (set : Assigned) (position : ℕ) (walk : List ℕ) → CanPropagate lists set level → Walks lists level set set position walk 0
-Walks-none lists level set position walk fits = record {
-  runs = Runs-none lists level set fits;
-  passes = record { settled = λ j before given. absurd (omega arith) };
-}
+-- the walk after a clause that stays
+pub walking-stayed : (clauses : List (List Lit)) (old now new : Assigned) (cells new_cells : List Cell) (heads new_heads : List ℕ) (level position : ℕ) (l : Lit) (before number count next : ℕ) → IsWalking clauses old now cells heads level position l before number count → number ≢ 0 → Extends clauses level now new → HasWatches clauses new_cells new level position (length clauses) → IsVisit cells new_cells heads new_heads new.entries level l before number Stays → HasLink (cell_of new_cells number) l next → IsWalking clauses old new new_cells new_heads level position l number next (count + 1)
+walking-stayed clauses old now new cells new_cells heads new_heads level position l before number count next w some extends watched visit link =
+    let s = visit.stays refl in
+    subst (λ (hs : List ℕ). IsWalking clauses old new new_cells hs level position l number next (count + 1)) (sym s.1)
+    (subst (λ (cs : List Cell). HasWatches clauses cs new level position (length clauses) → HasLink (cell_of cs number) l next → IsWalking clauses old new cs heads level position l number next (count + 1)) (sym s.0)
+    (λ old_watched old_link. walking-stays clauses old now new cells heads level position l before number count next w some extends old_watched s.2 old_link) watched link)
 
--- positions stay within the entries
-pub extends-within : (clauses : List (List Lit)) (level : ℕ) (old new : Assigned) (position : ℕ) → Extends clauses level old new → position < length old.entries → position < length new.entries
-extends-within clauses level old new position extends within =
-    subst (λ (s : Assigned). position < length s.entries) (sym extends.grows) (omega (arith, length-append old.entries extends.added))
+-- the lists after a clause that is false
+pub walking-failed : (clauses : List (List Lit)) (old now new : Assigned) (cells new_cells : List Cell) (heads new_heads : List ℕ) (level position : ℕ) (l : Lit) (before number count : ℕ) → IsWalking clauses old now cells heads level position l before number count → IsVisit cells new_cells heads new_heads new.entries level l before number Fails → AreLinked old.vars new_cells new_heads
+walking-failed clauses old now new cells new_cells heads new_heads level position l before number count w visit =
+    let s = visit.fails refl in
+    subst (λ (hs : List ℕ). AreLinked old.vars new_cells hs) (sym s.1)
+    (subst (λ (cs : List Cell). AreLinked old.vars cs heads) (sym s.0) (walking-linked clauses old now cells heads level position l before number count w))
 
--- one more clause was visited
-pub Walks-propagate_clause : (lists : StoredClauses) (level : ℕ) (old now new : Assigned) (position : ℕ) (walk : List ℕ) (i : ℕ) → position < length old.entries → Walks lists level old now position walk i → Extends lists.clauses level now new → IsSettled (values_of new.entries) (values_of new.entries) (get_or lists.clauses (get_or walk i 0) []) → Walks lists level old new position walk (i + 1)
-Walks-propagate_clause lists level old now new position walk i within walks extends settled = record {
-  runs = Runs-more lists level old now new walks.runs extends;
-  passes = ExaminesSome-propagate_clause lists.clauses level now new position walk i (extends-within lists.clauses level old now position walks.runs.extends within) extends walks.passes settled;
-}
-
--- a position past the clauses was passed over
-pub Walks-skip : (lists : StoredClauses) (level : ℕ) (old now : Assigned) (position : ℕ) (walk : List ℕ) (i : ℕ) → Walks lists level old now position walk i → length lists.clauses ≤ get_or walk i 0 → Walks lists level old now position walk (i + 1)
-Walks-skip lists level old now position walk i walks past = record {
-  runs = walks.runs;
-  passes = ExaminesSome-skip lists.clauses now.entries position walk i walks.passes past;
-}
-
--- entries that were added keep what is examined
-pub IsExamined-extends : (clauses : List (List Lit)) (level : ℕ) (old new : Assigned) (head examined : ℕ) → Extends clauses level old new → IsExamined clauses old.entries head examined → IsExamined clauses new.entries head examined
-IsExamined-extends clauses level old new head examined extends progress =
-    subst (λ (s : Assigned). IsExamined clauses s.entries head examined) (sym extends.grows) (IsExamined-more clauses old.entries extends.added head examined progress)
+-- the walk after a clause that moves
+pub walking-moved : (clauses : List (List Lit)) (old now new : Assigned) (cells new_cells : List Cell) (heads new_heads : List ℕ) (level position : ℕ) (l : Lit) (before number count next : ℕ) → IsWalking clauses old now cells heads level position l before number count → number ≢ 0 → Extends clauses level now new → HasWatches clauses new_cells new level position (length clauses) → KeepsLengths cells new_cells heads new_heads → AreOthersListed now.vars new_cells new_heads l → IsVisit cells new_cells heads new_heads new.entries level l before number (Moves next) → IsWalking clauses old new new_cells new_heads level position l before next (count + 1)
+walking-moved clauses old now new cells new_cells heads new_heads level position l before number count next w some extends watched many others visit =
+    let m = visit.moves next refl in
+    walking-moves clauses old now new cells new_cells heads new_heads level position l before number count next w some extends watched many.cells_as_many many.heads_as_many
+    (subst (λ vars. AreOthersListed vars new_cells new_heads l) (vars-extends clauses old now level w.runs.extends) others) m.0 m.1

@@ -1,4 +1,9 @@
 pub mod Growth
 pub mod Examination
 pub mod Storage
+pub mod Watches
+pub mod Walk
+pub mod Excuse
+pub mod Attach
 pub mod Propagation
+pub mod Visit

@@ -1,12 +1,16 @@
 //! The trail of a solver: set literals with their levels and reasons, and unit propagation.
 #![tactic(auto)]
 
+mod clause_store;
 mod entry;
 mod examination;
-mod occurrence_lists;
 mod propagation;
 mod set_literals;
 mod trail;
+mod value;
+mod watch;
+mod watch_choice;
+mod watch_lists;
 
 pub use entry::Entry;
 pub use trail::Trail;

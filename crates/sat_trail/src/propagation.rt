@@ -1,35 +1,52 @@
-ghost use Rattle.std.specs.Prelude.{◌≡◌, ◌-◌, ◌+◌, ◌<◌, [], length, IfSome, IfNone, slice_index_or};
+ghost use Rattle.std.specs.Prelude.{◌≡◌, ◌≢◌, ◌-◌, ◌+◌, ◌*◌, ◌<◌, ◌≤◌, ◌∷◌, length, IfSome, IfNone, Some};
+ghost use Rattle.std.specs.Prelude.{ℕ};
 ghost use Rattle.std.specs.Bool.{OnTrue, OnFalse};
 ghost use Rattle.clause_core.specs.Numbering.{numbered};
 ghost use Rattle.clause_core.specs.Propagation.{IsFalsified};
 ghost use Rattle.sat_trail.specs.Entry.{values_of};
-ghost use Rattle.sat_trail.specs.inner.Examination.{IsSettled};
-ghost use Rattle.sat_trail.specs.inner.Propagation.{CanPropagate, Extends, HasExamined, IsExamined};
+ghost use Rattle.sat_trail.specs.inner.Examination.{IsSettledAt};
+ghost use Rattle.sat_trail.specs.inner.Excuse.{IsTrueBy};
+ghost use Rattle.sat_trail.specs.inner.Propagation.{CanPropagate, Extends, HasWatches};
+ghost use Rattle.sat_trail.specs.inner.Visit.{IsLastLeft, IsVisit, IsFalseAt, KeepsLengths};
+ghost use Rattle.sat_trail.specs.inner.Walk.{Walks, AreOthersListed};
+ghost use Rattle.sat_trail.specs.inner.Watches.{AreLinked};
 
+use super::clause_store::ClauseStore;
 use super::entry::Entry;
 use super::examination::{Finding, examine};
-use super::occurrence_lists::OccurrenceLists;
 use super::set_literals::Entries;
+use super::watch_choice::not_false;
+use super::watch_lists::WatchLists;
+use clause_core::Lit;
 
-/// Examines the clause at the index, and sets its literal if that is the only one left. True if
-/// the clause is false.
-fn propagate_clause(lists: &OccurrenceLists, set: &mut Entries, index: u32, level: u32) -> bool
-    requires fits { CanPropagate lists.now set.old level }
-    requires within { index < length lists.now.clauses }
-    ensures extends { Extends lists.now.clauses level set.old set.new }
-    ensures settled { let now = values_of set.new.entries in
-        OnFalse result (IsSettled now now (slice_index_or lists.now.clauses index [])) }
+/// What becomes of a clause's place in the list of a literal that is false.
+enum Visit {
+    /// It stays.
+    Stays,
+    /// It moved to the list of another literal. The clause of this number came next.
+    Moves(u32),
+    /// The clause is false.
+    Fails,
+}
+
+/// Examines the new clause of the number, and sets its literal if that is the only one left. True
+/// if the clause is false.
+fn propagate_new(store: &ClauseStore, set: &mut Entries, number: u32, level: u32) -> bool
+    requires fits { CanPropagate store.now set.old level }
+    requires from_one { 0 < number }
+    requires within { number ≤ length store.now }
+    ensures extends { Extends store.now level set.old set.new }
+    ensures settled { OnFalse result (IsSettledAt store.now number (values_of set.new.entries)) }
     ensures falsified { OnTrue result
-        (IsFalsified (numbered lists.now.clauses) (values_of set.new.entries) (index + 1)) }
+        (IsFalsified (numbered store.now) (values_of set.new.entries) number) }
 {
-    let clause = lists.clause(index + 1);
-    match examine(set, clause.lits()) {
+    match examine(set, store.clause(number).lits()) {
         Finding::Settled => false,
         Finding::Forces(lit) => {
             set.push(Entry {
                 lit,
                 level,
-                reason: Some(index + 1),
+                reason: Some(number),
             });
             false
         }
@@ -37,76 +54,163 @@ fn propagate_clause(lists: &OccurrenceLists, set: &mut Entries, index: u32, leve
     }
 }
 
-/// Examines the clauses in which the entry at the position makes a literal false, in the order of
-/// their numbers, up to one that is false.
-fn propagate_entry(
-    lists: &OccurrenceLists,
-    set: &mut Entries,
-    position: usize,
-    level: u32,
-) -> Option<u32>
-    requires fits { CanPropagate lists.now set.old level }
-    requires within { position < length set.old.entries }
-    ensures extends { Extends lists.now.clauses level set.old set.new }
-    ensures examined { IfNone result (HasExamined lists.now.clauses set.new.entries position) }
-    ensures falsified { IfSome result
-        (IsFalsified (numbered lists.now.clauses) (values_of set.new.entries)) }
-{
-    let lit = set.at(position).lit.negation();
-    for occurrence in lists.occurrences(lit) {
-        let index = *occurrence;
-        if (index as usize) < lists.len() && propagate_clause(lists, set, index, level) {
-            return Some(index + 1);
-        }
-    }
-    None
-}
-
 /// Examines the clauses that were not examined yet, up to one that is false.
 pub fn examine_new(
-    lists: &OccurrenceLists,
+    store: &ClauseStore,
+    lists: &WatchLists,
     set: &mut Entries,
     examined: &mut usize,
     head: usize,
     level: u32,
 ) -> Option<u32>
-    requires fits { CanPropagate lists.now set.old level }
-    requires progress { IsExamined lists.now.clauses set.old.entries head examined.old }
-    ensures extends { Extends lists.now.clauses level set.old set.new }
-    ensures progress { IsExamined lists.now.clauses set.new.entries head examined.new }
-    ensures all { IfNone result (examined.new ≡ length lists.now.clauses) }
+    requires fits { CanPropagate store.now set.old level }
+    requires watched { HasWatches store.now lists.now.cells.items set.old level head examined.old }
+    ensures extends { Extends store.now level set.old set.new }
+    ensures watched { HasWatches store.now lists.now.cells.items set.new level head examined.new }
+    ensures all { IfNone result (examined.new ≡ length store.now) }
     ensures falsified { IfSome result
-        (IsFalsified (numbered lists.now.clauses) (values_of set.new.entries)) }
+        (IsFalsified (numbered store.now) (values_of set.new.entries)) }
 {
-    while *examined < lists.len() {
-        let index = *examined as u32;
-        if propagate_clause(lists, set, index, level) {
-            return Some(index + 1);
+    while *examined < store.len() {
+        let number = *examined as u32 + 1;
+        if propagate_new(store, set, number, level) {
+            return Some(number);
         }
         *examined += 1;
     }
     None
 }
 
+/// Sets the only literal of the clause that is left, unless it is false too.
+fn force(store: &ClauseStore, set: &mut Entries, lit: Lit, number: u32, level: u32) -> Visit
+    requires fits { CanPropagate store.now set.old level }
+    requires left { IsLastLeft store.now set.old.entries number lit }
+    requires untrue { values_of set.old.entries lit.var ≢ Some lit.positive }
+    ensures extends { Extends store.now level set.old set.new }
+    ensures stays { result ≡ Visit.Stays → IsTrueBy set.new.entries level lit }
+    ensures moves { (next : ℕ) → result ≢ Visit.Moves next }
+    ensures fails { result ≡ Visit.Fails →
+        IsFalsified (numbered store.now) (values_of set.new.entries) number }
+{
+    if set.is_false(lit) {
+        return Visit::Fails;
+    }
+    set.push(Entry {
+        lit,
+        level,
+        reason: Some(number),
+    });
+    Visit::Stays
+}
+
+/// Visits the clause of the number, which comes after `before` in the list of the literal. The
+/// clause is not touched if its other watched literal is true.
+fn visit_clause(
+    store: &ClauseStore,
+    lists: &mut WatchLists,
+    set: &mut Entries,
+    lit: Lit,
+    before: u32,
+    number: u32,
+    position: usize,
+    level: u32,
+) -> Visit
+    requires fits { CanPropagate store.now set.old level }
+    requires watched { HasWatches store.now lists.old.cells.items set.old level position
+        (length store.now) }
+    requires fails { IsFalseAt set.old.entries position lit }
+    requires exists { (0 < lit.var) × (lit.var ≤ set.old.vars) }
+    requires many { length lists.old.heads.items ≡ 2 * set.old.vars + 2 }
+    requires walk { Walks lists.old.cells.items lists.old.heads.items lit before number }
+    requires others { AreOthersListed set.old.vars lists.old.cells.items lists.old.heads.items lit }
+    ensures extends { Extends store.now level set.old set.new }
+    ensures watched { HasWatches store.now lists.new.cells.items set.new level position
+        (length store.now) }
+    ensures many { KeepsLengths lists.old.cells.items lists.new.cells.items
+        lists.old.heads.items lists.new.heads.items }
+    ensures others { AreOthersListed set.old.vars lists.new.cells.items lists.new.heads.items lit }
+    ensures visit { IsVisit lists.old.cells.items lists.new.cells.items lists.old.heads.items
+        lists.new.heads.items set.new.entries level lit before number result }
+    ensures falsified { result ≡ Visit.Fails →
+        IsFalsified (numbered store.now) (values_of set.new.entries) number }
+{
+    let kept = lists.watches(number, lit).other.lit;
+    if set.is_true(kept) {
+        return Visit::Stays;
+    }
+    match not_false(set, store.clause(number).lits(), kept) {
+        Some(to) => {
+            let next = lists.move_watch(set.vars(), lit, before, number, to);
+            Visit::Moves(next)
+        }
+        None => force(store, set, kept, number, level),
+    }
+}
+
+/// Visits the clauses that watch the literal that the entry at the position makes false, up to one
+/// that is false.
+fn propagate_entry(
+    store: &ClauseStore,
+    lists: &mut WatchLists,
+    set: &mut Entries,
+    position: usize,
+    level: u32,
+) -> Option<u32>
+    requires fits { CanPropagate store.now set.old level }
+    requires within { position < length set.old.entries }
+    requires watched { HasWatches store.now lists.old.cells.items set.old level position
+        (length store.now) }
+    requires linked { AreLinked set.old.vars lists.old.cells.items lists.old.heads.items }
+    ensures extends { Extends store.now level set.old set.new }
+    ensures watched { HasWatches store.now lists.new.cells.items set.new level position
+        (length store.now) }
+    ensures passed { IfNone result (HasWatches store.now lists.new.cells.items set.new level
+        (position + 1) (length store.now)) }
+    ensures linked { AreLinked set.old.vars lists.new.cells.items lists.new.heads.items }
+    ensures falsified { IfSome result
+        (IsFalsified (numbered store.now) (values_of set.new.entries)) }
+{
+    let lit = set.at(position).lit.negation();
+    let mut before = 0;
+    let mut number = lists.first(lit);
+    for _passed in 0..lists.cells.len() {
+        if number == 0 {
+            return None;
+        }
+        match visit_clause(store, lists, set, lit, before, number, position, level) {
+            Visit::Stays => {
+                before = number;
+                number = lists.watches(number, lit).one.link;
+            }
+            Visit::Moves(next) => number = next,
+            Visit::Fails => return Some(number),
+        }
+    }
+    None
+}
+
 /// Propagates the entries from `head` on, up to a clause that is false.
 pub fn propagate_entries(
-    lists: &OccurrenceLists,
+    store: &ClauseStore,
+    lists: &mut WatchLists,
     set: &mut Entries,
     head: &mut usize,
     level: u32,
 ) -> Option<u32>
-    requires fits { CanPropagate lists.now set.old level }
-    requires progress { let all = length lists.now.clauses in
-        IsExamined lists.now.clauses set.old.entries head.old all }
-    ensures extends { Extends lists.now.clauses level set.old set.new }
-    ensures progress { let all = length lists.now.clauses in
-        IsExamined lists.now.clauses set.new.entries head.new all }
+    requires fits { CanPropagate store.now set.old level }
+    requires watched { HasWatches store.now lists.old.cells.items set.old level head.old
+        (length store.now) }
+    requires linked { AreLinked set.old.vars lists.old.cells.items lists.old.heads.items }
+    ensures extends { Extends store.now level set.old set.new }
+    ensures watched { HasWatches store.now lists.new.cells.items set.new level head.new
+        (length store.now) }
+    ensures linked { AreLinked set.old.vars lists.new.cells.items lists.new.heads.items }
     ensures all { IfNone result (head.new ≡ length set.new.entries) }
     ensures falsified { IfSome result
-        (IsFalsified (numbered lists.now.clauses) (values_of set.new.entries)) }
+        (IsFalsified (numbered store.now) (values_of set.new.entries)) }
 {
     while *head < set.len() {
-        if let Some(number) = propagate_entry(lists, set, *head, level) {
+        if let Some(number) = propagate_entry(store, lists, set, *head, level) {
             return Some(number);
         }
         *head += 1;

@@ -1,9 +1,11 @@
 ghost use Rattle.std.specs.Prelude.{◌≡◌, ◌-◌, ◌+◌, ◌<◌, ◌≤◌, ◌++◌, [], ◌∷◌, None, Some, length};
-ghost use Rattle.std.specs.Prelude.{take, IfOk, slice_get};
+ghost use Rattle.std.specs.Prelude.{take, IfOk, slice_get, IsTrue, IfSome, ◌↔◌};
+ghost use Rattle.clause_core.specs.Propagation.{MakesFalse};
 ghost use Rattle.sat_trail.specs.Entry.{entry_of, values_of, last_level};
-ghost use Rattle.sat_trail.specs.inner.Storage.{StartsWith, HasRoom};
+ghost use Rattle.sat_trail.specs.inner.Storage.{StartsWith, HasRoom, seen};
 
 use super::entry::Entry;
+use super::value::Value;
 use clause_core::Lit;
 use list_base::NoMemory;
 use std::alloc::Global;
@@ -16,6 +18,7 @@ pub struct Entries {
     slots: Vec<Entry>,
     len: usize,
     cells: Vec<Option<Entry>>,
+    values: Vec<Value>,
 }
 
 impl Model for Entries {
@@ -29,7 +32,7 @@ impl Model for Entries {
       entries = take a.len a.slots.items;
     } };
 
-    ghost invariant = { λ a. IsStored a.slots.items a.len a.cells.items };
+    ghost invariant = { λ a. IsStored a.slots.items a.len a.cells.items a.values.items };
 }
 
 impl Entries {
@@ -49,6 +52,7 @@ impl Entries {
             slots: vec![in alloc; blank; vars as usize]?,
             len: 0,
             cells: vec![in alloc; None; vars as usize]?,
+            values: vec![in alloc; Value::Unset; vars as usize]?,
         })
     }
 
@@ -96,6 +100,45 @@ impl Entries {
         self.of(var).map(|entry| entry.lit.positive)
     }
 
+    /// Whether the literal is true.
+    pub fn is_true(&self, lit: Lit) -> bool
+        requires from_one { 0 < lit.var }
+        requires exists { lit.var ≤ self.now.vars }
+        ensures { IsTrue result ↔ (values_of self.now.entries lit.var ≡ Some lit.positive) }
+    {
+        match self.values[lit.var as usize - 1] {
+            Value::Unset => false,
+            Value::False => !lit.positive,
+            Value::True => lit.positive,
+        }
+    }
+
+    /// Whether the literal is false.
+    pub fn is_false(&self, lit: Lit) -> bool
+        requires from_one { 0 < lit.var }
+        requires exists { lit.var ≤ self.now.vars }
+        ensures { IsTrue result ↔ MakesFalse (values_of self.now.entries) lit }
+    {
+        match self.values[lit.var as usize - 1] {
+            Value::Unset => false,
+            Value::False => lit.positive,
+            Value::True => !lit.positive,
+        }
+    }
+
+    /// Whether the variable has no value, or was set at the level.
+    pub fn is_open(&self, var: u32, level: u32) -> bool
+        requires from_one { 0 < var }
+        requires exists { var ≤ self.now.vars }
+        ensures { IsTrue result
+            ↔ IfSome (entry_of self.now.entries var) (λ e. e.level ≡ level) }
+    {
+        match self.of(var) {
+            Some(entry) => entry.level == level,
+            None => true,
+        }
+    }
+
     /// Sets a literal after the others.
     pub fn push(&mut self, entry: Entry)
         requires from_one { 0 < entry.lit.var }
@@ -106,6 +149,7 @@ impl Entries {
         self.slots[self.len] = entry;
         self.len += 1;
         self.cells[entry.lit.var as usize - 1] = Some(entry);
+        self.values[entry.lit.var as usize - 1] = value_of(entry.lit);
     }
 
     /// Takes the last entry out.
@@ -117,6 +161,7 @@ impl Entries {
         self.len -= 1;
         let last = self.slots[self.len];
         self.cells[last.lit.var as usize - 1] = None;
+        self.values[last.lit.var as usize - 1] = Value::Unset;
     }
 
     /// Takes the entries above the level out, which are the last.
@@ -137,5 +182,16 @@ impl Entries {
             return 0;
         }
         self.slots[self.len - 1].level
+    }
+}
+
+/// The value of a variable whose literal is true.
+fn value_of(lit: Lit) -> Value
+    ensures { seen result ≡ Some lit.positive }
+{
+    if lit.positive {
+        Value::True
+    } else {
+        Value::False
     }
 }

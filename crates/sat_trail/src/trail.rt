@@ -1,28 +1,33 @@
-ghost use Rattle.std.specs.Prelude.{◌≡◌, ◌-◌, ◌+◌, ◌^◌, ◌<◌, ◌≤◌, ◌++◌, ◌⊎◌, ◌↔◌, [], ◌∷◌, None};
-ghost use Rattle.std.specs.Prelude.{Some, false, length, map, IsTrue, IsSome, IfOk, OnErr, IfSome};
-ghost use Rattle.std.specs.Prelude.{IfNone, is_none, slice_get};
+ghost use Rattle.std.specs.Prelude.{◌≡◌, ◌-◌, ◌+◌, ◌*◌, ◌^◌, ◌<◌, ◌≤◌, ◌++◌, ◌⊎◌, ◌↔◌, [], ◌∷◌, None};
+ghost use Rattle.std.specs.Prelude.{Some, false, length, replicate, IsTrue, IsSome, IfOk, OnErr, IfSome};
+ghost use Rattle.std.specs.Prelude.{IfNone, is_none, slice_get, map, All};
 ghost use Rattle.clause_core.specs.Clause.{VariablesExist};
 ghost use Rattle.clause_core.specs.Numbering.{numbered, HasNumber};
 ghost use Rattle.clause_core.specs.Propagation.{IsFalsified, IsPropagated};
 ghost use Rattle.sat_trail.specs.Entry.{values_of, reason_of, level_of, up_to, decided};
 ghost use Rattle.sat_trail.specs.State.{numbering_of, last_number};
+ghost use Rattle.sat_trail.specs.inner.Attach.{IsAttached};
+ghost use Rattle.sat_trail.specs.inner.Watches.{blank};
 ghost use Rattle.sat_trail.specs.Trail.{IsTrail, IsStart, Adds, HasTwoOpen, Propagates};
 
+use super::clause_store::ClauseStore;
 use super::entry::Entry;
-use super::occurrence_lists::OccurrenceLists;
 use super::propagation::{examine_new, propagate_entries};
 use super::set_literals::Entries;
+use super::watch_choice::choose;
+use super::watch_lists::WatchLists;
 use clause_core::{Clause, Formula, Lit};
 use list_base::{NoMemory, TryClone};
 use std::alloc::Global;
 use std::marker::Model;
 
-/// Set literals over numbered clauses. The list of the set literals is also the queue of unit
-/// propagation: its first `head` entries are propagated, and the first `examined` clauses were
-/// examined since they were added.
+/// Set literals over numbered clauses, of which each watches two literals (Moskewicz et al. 2001).
+/// The list of the set literals is also the queue of unit propagation: its first `head` entries are
+/// propagated, and the first `examined` clauses were examined since they were added.
 #[derive(Drop)]
-pub struct Trail {
-    lists: OccurrenceLists,
+pub struct Trail<'f> {
+    store: ClauseStore<'f>,
+    lists: WatchLists,
     set: Entries,
     level: u32,
     head: usize,
@@ -30,32 +35,34 @@ pub struct Trail {
     ready: bool,
 }
 
-impl Model for Trail {
+impl<'f> Model for Trail<'f> {
     ghost use Rattle.sat_trail.specs.State.{State};
     ghost use Rattle.sat_trail.specs.inner.Propagation.{IsKept, state_of};
 
     ghost Value = { State };
 
-    ghost view = { λ a. state_of a.lists a.set a.level a.ready };
+    ghost view = { λ a. state_of a.store a.set a.level a.ready };
 
-    ghost invariant = { λ a. IsKept a.lists a.set a.level a.head a.examined a.ready };
+    ghost invariant = { λ a. IsKept a.store a.lists.cells.items a.lists.heads.items a.set a.level
+        a.head a.examined a.ready };
 }
 
-impl Trail {
-    /// The formula's clauses get the numbers from 1 on. This takes all memory that propagation
-    /// needs.
-    pub fn new(alloc: Global, f: &Formula) -> Result<Trail, NoMemory>
+impl<'f> Trail<'f> {
+    /// The formula's clauses, which are borrowed, get the numbers from 1 on. This takes all memory
+    /// that propagation needs.
+    pub fn new(alloc: Global, f: &'f Formula) -> Result<Trail<'f>, NoMemory>
         requires { length f.now.clauses < 2 ^ 32 }
         ensures start { IfOk result (IsStart f.now) }
         ensures sound { IfOk result IsTrail }
     {
-        let mut lists = OccurrenceLists::new(alloc, f.vars)?;
-        for clause in f.clauses.as_slice() {
-            lists.add(clause.try_clone()?)?;
-        }
+        let given = f.clauses.as_slice();
+        let set = Entries::new(alloc, f.vars)?;
+        let mut lists = WatchLists::new(alloc, f.vars, given.len())?;
+        watch_all(&mut lists, &set, given);
         Ok(Trail {
+            store: ClauseStore::new(alloc, given),
             lists,
-            set: Entries::new(alloc, f.vars)?,
+            set,
             level: 0,
             head: 0,
             examined: 0,
@@ -72,9 +79,13 @@ impl Trail {
         ensures err { OnErr result (self.new ≡ self.old) }
         ensures sound { IsTrail self.new }
     {
-        self.lists.add(c)?;
+        let number = self.store.len() as u32 + 1;
+        let watched = choose(&self.set, c.lits(), self.level);
+        self.lists.reserve(number)?;
+        self.store.push(c)?;
+        self.lists.attach(self.set.vars(), number, watched);
         self.ready = false;
-        Ok(self.lists.len() as u32)
+        Ok(number)
     }
 
     /// Sets what unit clauses force, until none is left or a clause is false. Gives the number of
@@ -90,6 +101,7 @@ impl Trail {
     {
         self.ready = false;
         let found = examine_new(
+            &self.store,
             &self.lists,
             &mut self.set,
             &mut self.examined,
@@ -99,7 +111,13 @@ impl Trail {
         if found.is_some() {
             return found;
         }
-        let found = propagate_entries(&self.lists, &mut self.set, &mut self.head, self.level);
+        let found = propagate_entries(
+            &self.store,
+            &mut self.lists,
+            &mut self.set,
+            &mut self.head,
+            self.level,
+        );
         self.ready = found.is_none();
         found
     }
@@ -147,7 +165,6 @@ impl Trail {
         self.set.back_to(level);
         self.level = level;
         self.head = self.set.len();
-        self.examined = self.lists.len();
     }
 
     /// The number of decisions that hold.
@@ -207,14 +224,14 @@ impl Trail {
     pub fn last_number(&self) -> u32
         ensures { result ≡ last_number self.now }
     {
-        self.lists.len() as u32
+        self.store.len() as u32
     }
 
     /// Whether a clause has the number.
     pub fn has_clause(&self, number: u32) -> bool
         ensures { IsTrue result ↔ IsSome (numbering_of self.now number) }
     {
-        number > 0 && number as usize <= self.lists.len()
+        number > 0 && number as usize <= self.store.len()
     }
 
     /// The clause of the number.
@@ -222,6 +239,23 @@ impl Trail {
         requires { IsSome (numbering_of self.now number) }
         ensures { HasNumber (numbering_of self.now) number result.now }
     {
-        self.lists.clause(number)
+        self.store.clause(number)
+    }
+}
+
+/// Lets each clause watch two of its literals, if it has as many.
+fn watch_all(lists: &mut WatchLists, set: &Entries, clauses: &[Clause])
+    requires few { length clauses.now < 2 ^ 32 }
+    requires exist { All (VariablesExist set.now.vars) clauses.now }
+    requires none { set.now.entries ≡ [] }
+    requires room { lists.old.cells.items ≡ replicate (length clauses.now + 1) blank }
+    requires empty { lists.old.heads.items ≡ replicate (2 * set.now.vars + 2) 0 }
+    ensures { IsAttached set.now.vars (length clauses.now) clauses.now lists.new.cells.items
+        lists.new.heads.items }
+{
+    let mut number = 0;
+    for clause in clauses {
+        number += 1;
+        lists.attach(set.vars(), number, choose(set, clause.lits(), 0));
     }
 }

@@ -16,12 +16,12 @@ fn a_decision_falsifies_a_clause(rt: HostRuntime) -> Result<(), Fail> {
         positive: true,
     });
     assert_eq!(rt; (trail.level(), trail.ready()), (1, false));
-    assert_eq!(rt; trail.propagate(), Some(4));
-    assert_eq!(rt; (trail.value(1), trail.value(2)), (Some(true), Some(true)));
-    assert_eq!(rt; (trail.reason(1), trail.reason(2)), (None, Some(2)));
+    assert_eq!(rt; trail.propagate(), Some(2));
+    assert_eq!(rt; (trail.value(1), trail.value(2)), (Some(true), Some(false)));
+    assert_eq!(rt; (trail.reason(1), trail.reason(2)), (None, Some(4)));
     assert_eq!(rt; (trail.level_of(1), trail.level_of(2)), (Some(1), Some(1)));
     assert_eq!(rt; trail.len(), 2);
-    assert_eq!(rt; (trail.at(0), trail.at(1)), (lit(1), lit(2)));
+    assert_eq!(rt; (trail.at(0), trail.at(1)), (lit(1), lit(-2)));
     Ok(())
 }
 
@@ -45,8 +45,8 @@ fn an_added_clause_forces_at_level_0(rt: HostRuntime) -> Result<(), Fail> {
     assert_eq!(rt; trail.add(learned)?, 5);
     assert_eq!(rt; (trail.last_number(), trail.has_clause(5)), (5, true));
     assert!(rt; !trail.has_clause(0));
-    assert_eq!(rt; trail.propagate(), Some(3));
-    assert_eq!(rt; (trail.reason(1), trail.reason(2)), (Some(5), Some(1)));
+    assert_eq!(rt; trail.propagate(), Some(1));
+    assert_eq!(rt; (trail.reason(1), trail.reason(2)), (Some(5), Some(3)));
     assert_eq!(rt; (trail.level_of(1), trail.level_of(2)), (Some(0), Some(0)));
     assert_eq!(rt; trail.clause(5).lits(), [lit(-1)].as_slice());
     Ok(())

@@ -23,7 +23,7 @@ pub fn local_stamps_rise()
     ensures { LocalStampsRise }
 {}
 
-/// One entry more leaves all receipts explained: an emission, or a receipt that is explained itself.
+/// One entry more leaves all receipts explained: an emission, or an explained receipt.
 pub fn extended_stay_explained()
     ensures emission { EmissionKeepsExplained }
     ensures receipt { ReceiptKeepsExplained }

@@ -1,4 +1,4 @@
-//! Histories of one role with Lamport's stamps, and the run that the histories of all roles merge into.
+//! Stamped histories of single roles, and the run that the histories of all roles merge into.
 #![tactic(auto)]
 
 mod entry;

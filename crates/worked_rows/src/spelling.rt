@@ -2,8 +2,8 @@ use list_base::{Bytes, NoMemory};
 use refutation_log::{number_of, split_once};
 use std::alloc::Global;
 
-/// Appends what the line of a row stands for. A line `* COUNT TEXT` stands for the line TEXT that many
-/// times, numbered from 1; every other line has the number 0.
+/// Appends what the line of a row stands for. A line `* COUNT TEXT` stands for COUNT lines TEXT, numbered
+/// from 1; every other line has the number 0.
 pub(crate) fn append_line(alloc: Global, out: &mut Bytes, line: &[u8]) -> Result<(), NoMemory> {
     let Some((count, text)) = repetition(line) else {
         return append_once(alloc, out, line, 0);

@@ -1,6 +1,7 @@
 -- What the values of the set literals say of one clause.
 use Rattle.std.specs.Prelude.{◌≡◌, ℕ, Bool, Option, Some, List, Contains}
 use Rattle.clause_core.specs.declared.literal.Lit.{Lit}
+use Rattle.clause_core.specs.Numbering.{numbered, HasNumber}
 use Rattle.clause_core.specs.Propagation.{OthersFalse, Falsifies, LeavesOnly}
 use Rattle.sat_trail.specs.declared.examination.Finding.{Finding}
 use Rattle.sat_trail.specs.declared.examination.Finding.TheVariants.{Settled, Forces, Falsified}
@@ -17,3 +18,8 @@ abbrev pub IsFinding : (ℕ → Option Bool) → List Lit → Finding → Type 0
 IsFinding values clause Settled = IsSettled values values clause
 IsFinding values clause (Forces l) = LeavesOnly values clause l
 IsFinding values clause Falsified = Falsifies values clause
+
+-- the clause of the number is settled
+abbrev pub IsSettledAt : List (List Lit) → ℕ → (ℕ → Option Bool) → Type 0
+IsSettledAt clauses number values = (clause : List Lit) →
+    HasNumber (numbered clauses) number clause → IsSettled values values clause

@@ -1,23 +1,23 @@
--- What the steps of unit propagation add to the entries, and which clauses they have examined.
-use Rattle.std.specs.Prelude.{◌≡◌, ℕ, ◌+◌, ◌<◌, ◌≤◌, IsTrue, IsSome, Bool, List, [], ◌++◌, length}
-use Rattle.std.specs.Prelude.{take, All, Contains, slice_index_or}
+-- What the steps of unit propagation add to the entries, and what a trail keeps of its parts.
+use Rattle.std.specs.Prelude.{◌≡◌, ℕ, ◌<◌, ◌≤◌, IsTrue, IsSome, Bool, List, [], ◌++◌, length, All}
 use Rattle.clause_core.specs.declared.literal.Lit.{Lit}
-use Rattle.clause_core.specs.Literal.{negated}
 use Rattle.clause_core.specs.Clause.{VariablesExist}
 use Rattle.clause_core.specs.Numbering.{numbered}
 use Rattle.sat_trail.specs.declared.entry.Entry.{Entry}
-use Rattle.sat_trail.specs.Entry.{values_of, last_level}
+use Rattle.sat_trail.specs.declared.watch.Cell.{Cell}
+use Rattle.sat_trail.specs.Entry.{last_level}
 use Rattle.sat_trail.specs.State.{State}
-use Rattle.sat_trail.specs.inner.Examination.{IsSettled}
+use Rattle.sat_trail.specs.inner.Excuse.{AreWatched}
 use Rattle.sat_trail.specs.inner.Growth.{Grows, IsGrown}
-use Rattle.sat_trail.specs.inner.Storage.{Assigned, StoredClauses}
+use Rattle.sat_trail.specs.inner.Storage.{Assigned}
+use Rattle.sat_trail.specs.inner.Watches.{AreLinked}
 
--- clauses and entries are over the same variables, and the last entry is of the level
-pub record CanPropagate (lists : StoredClauses) (set : Assigned) (level : ℕ) : Type 0 where
-  pub same : lists.vars ≡ set.vars
-  pub exist : All (VariablesExist lists.vars) lists.clauses
-  pub few : length lists.clauses < 4294967296
+-- the clauses are over the variables of the entries, which grew up to the level
+pub record CanPropagate (clauses : List (List Lit)) (set : Assigned) (level : ℕ) : Type 0 where
+  pub exist : All (VariablesExist set.vars) clauses
+  pub few : length clauses < 4294967296
   pub reached : last_level set.entries ≡ level
+  pub grown : Grows (numbered clauses) [] set.entries
 
 -- forced entries of the level were added, over variables that exist
 pub record Extends (clauses : List (List Lit)) (level : ℕ) (old new : Assigned) : Type 0 where
@@ -28,38 +28,28 @@ pub record Extends (clauses : List (List Lit)) (level : ℕ) (old new : Assigned
   pub exist : All (λ e. (0 < e.lit.var) × (e.lit.var ≤ old.vars)) added
   pub stays : last_level new.entries ≡ level
 
--- the clauses in which the entry at the position makes a literal false are settled
-abbrev pub HasExamined : List (List Lit) → List Entry → ℕ → Type 0
-HasExamined clauses entries position =
-    (k : ℕ) (e : Entry) → k < length clauses → slice_index_or entries position e ≡ e →
-    Contains (slice_index_or clauses k []) (negated e.lit) →
-    IsSettled (values_of (take (position + 1) entries)) (values_of entries)
-    (slice_index_or clauses k [])
-
--- the first `examined` clauses are settled by the first `head` entries
-pub record IsExamined
-    (clauses : List (List Lit)) (entries : List Entry) (head examined : ℕ) : Type 0 where
-  pub head_within : head ≤ length entries
-  pub examined_within : examined ≤ length clauses
-  pub settled : (k : ℕ) → k < examined →
-      IsSettled (values_of (take head entries)) (values_of entries) (slice_index_or clauses k [])
-
 -- what contracts see of the parts of a trail
-abbrev pub state_of : StoredClauses → Assigned → ℕ → Bool → State
-state_of lists set level ready = record {
-  vars = lists.vars;
-  clauses = lists.clauses;
+abbrev pub state_of : List (List Lit) → Assigned → ℕ → Bool → State
+state_of clauses set level ready = record {
+  vars = set.vars;
+  clauses = clauses;
   entries = set.entries;
   level = level;
   ready = ready;
 }
 
--- what a trail keeps of its parts: if it is ready, all clauses are examined
+-- the clauses watch literals, by how far propagation has come
+abbrev pub HasWatches : List (List Lit) → List Cell → Assigned → ℕ → ℕ → ℕ → Type 0
+HasWatches clauses cells set level head examined =
+    AreWatched (numbered clauses) (length clauses) cells set.entries
+    (record { level = level; head = head; examined = examined })
+
+-- what a trail keeps of its parts: if it is ready, all entries and clauses are passed
 pub record IsKept
-    (lists : StoredClauses) (set : Assigned) (level head examined : ℕ)
-    (ready : Bool) : Type 0 where
-  pub same : lists.vars ≡ set.vars
-  pub few : length lists.clauses < 4294967296
-  pub trail : IsGrown (state_of lists set level ready)
-  pub progress : IsExamined lists.clauses set.entries head examined
-  pub complete : IsTrue ready → (head ≡ length set.entries) × (examined ≡ length lists.clauses)
+    (clauses : List (List Lit)) (cells : List Cell) (heads : List ℕ) (set : Assigned)
+    (level head examined : ℕ) (ready : Bool) : Type 0 where
+  pub few : length clauses < 4294967296
+  pub trail : IsGrown (state_of clauses set level ready)
+  pub linked : AreLinked set.vars cells heads
+  pub watched : HasWatches clauses cells set level head examined
+  pub complete : IsTrue ready → (head ≡ length set.entries) × (examined ≡ length clauses)

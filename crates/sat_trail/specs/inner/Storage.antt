@@ -1,10 +1,11 @@
 -- How the entries and the clauses are stored, so that a variable or a literal finds them.
-use Rattle.std.specs.Prelude.{◌≡◌, ◌≢◌, ℕ, ◌+◌, ◌*◌, ◌^◌, ◌<◌, ◌≤◌, Option, None, List, [], ◌++◌}
-use Rattle.std.specs.Prelude.{length, All, AllPairs, Contains, is_some, count_by, take}
+use Rattle.std.specs.Prelude.{◌≡◌, ◌≢◌, ℕ, ◌+◌, ◌^◌, ◌<◌, ◌≤◌, Bool, true, false, Option, Some, None}
+use Rattle.std.specs.Prelude.{List, ◌++◌, length, All, AllPairs, is_some, count_by, take}
 use Rattle.std.specs.Prelude.{slice_index_or}
-use Rattle.clause_core.specs.declared.literal.Lit.{Lit}
-use Rattle.clause_core.specs.Literal.{rank}
+use Rattle.std.specs.Option.{option_map}
 use Rattle.sat_trail.specs.declared.entry.Entry.{Entry}
+use Rattle.sat_trail.specs.declared.value.Value.{Value}
+use Rattle.sat_trail.specs.declared.value.Value.TheVariants.{Unset, False, True}
 use Rattle.sat_trail.specs.Entry.{entry_of, values_of}
 
 -- the entries, over the variables from 1 to `vars`
@@ -19,34 +20,27 @@ pub record Agrees (entries : List Entry) (cells : List (Option Entry)) : Type 0 
   pub exist : All (λ e. (0 < e.lit.var) × (e.lit.var ≤ length cells)) entries
   pub counted : count_by is_some cells ≡ length entries
 
+-- what the value says of the variable
+abbrev pub seen : Value → Option Bool
+seen Unset = None
+seen False = Some false
+seen True = Some true
+
+-- the value of each variable is that of its cell
+pub record HasValues (cells : List (Option Entry)) (values : List Value) : Type 0 where
+  pub many : length values ≡ length cells
+  pub same : (v : ℕ) → v < length cells →
+      seen (slice_index_or values v Unset) ≡ option_map (λ e. e.lit.positive) (slice_index_or cells v None)
+
 -- the first `len` slots are the entries; there is a slot and a cell for each variable
-pub record IsStored (slots : List Entry) (len : ℕ) (cells : List (Option Entry)) : Type 0 where
+pub record IsStored
+    (slots : List Entry) (len : ℕ) (cells : List (Option Entry)) (values : List Value)
+    : Type 0 where
   pub room : length slots ≡ length cells
   pub few : length cells < 2 ^ 32
   pub filled : len ≤ length slots
   pub agrees : Agrees (take len slots) cells
-
--- the clauses, over the variables from 1 to `vars`
-pub record StoredClauses : Type 0 where
-  pub vars : ℕ
-  pub clauses : List (List Lit)
-
--- the list has the index of each clause that holds the literal
-abbrev pub HasOccurrences : List (List Lit) → Lit → List ℕ → Type 0
-HasOccurrences clauses l indices =
-    (k : ℕ) → k < length clauses → Contains (slice_index_or clauses k []) l → Contains indices k
-
--- each literal has a list, with the indices of the clauses that hold it
-pub record ListsOccurrences
-    (vars : ℕ) (clauses : List (List Lit)) (lists : List (List ℕ)) : Type 0 where
-  pub many : length lists ≡ 2 * vars + 2
-  pub complete : (l : Lit) → HasOccurrences clauses l (slice_index_or lists (rank l) [])
-
--- there are as many lists, and each keeps its indices
-pub record KeepsLists (old new : List (List ℕ)) : Type 0 where
-  pub many : length new ≡ length old
-  pub kept : (r n : ℕ) →
-      Contains (slice_index_or old r []) n → Contains (slice_index_or new r []) n
+  pub valued : HasValues cells values
 
 -- entries above the level, which were the last ones, were taken out
 pub record StartsWith (level : ℕ) (old new : Assigned) : Type 0 where

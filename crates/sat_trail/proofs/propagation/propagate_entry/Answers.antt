@@ -1,26 +1,65 @@
--- The walk settles the clauses that hold the negation.
-use Rattle.std.proofs.Common.{◌+◌, sym, subst, arith}
-use Rattle.sat_trail.specs.inner.Storage.{HasOccurrences}
+-- The walk goes over the clauses that watch the literal, one after the other.
+use Rattle.std.proofs.Common.{◌≤◌, ◌<◌, sym, subst, arith, ◌∙◌, rules}
+use Rattle.clause_core.specs.declared.literal.Lit.{Lit}
+use Rattle.sat_trail.proofs.CellLemmas.{link-turn}
 use Rattle.sat_trail.proofs.GrowthLemmas.{Extends-more}
-use Rattle.sat_trail.proofs.WalkLemmas.{Walks, Walks-propagate_clause, Walks-skip, HasExamined-walk}
+use Rattle.sat_trail.proofs.WalkLemmas.{walking-start, walking-walks, walking-linked, walking-ended, walking-passed, false-extends, stayed-member, walking-stayed, walking-failed, walking-moved}
 use Rattle.sat_trail.proofs.propagation.propagate_entry.Goals as goal
-use Rattle.sat_trail.proofs.propagation.propagate_entry.Goals.{else-index-len-via-then-index-len+else-propagate_clause, else-index-len-via-else-index-len}
+use Rattle.sat_trail.proofs.propagation.propagate_entry.Goals.{in-Stays, in-Moves}
 
-pub returns-then-propagate_clause-clause-extends : goal.returns-then-propagate_clause-clause-extends
-returns-then-propagate_clause-clause-extends c = Extends-more _ _ _ c.loop-occurrence.set _ c.loop-occurrence.invariant.runs.extends c.propagate_clause.ensures.extends
+pub loop-passed-init : goal.loop-passed-init
+loop-passed-init c = record {
+  walking = walking-start c.args.store.now c.args.set.now _ _ _ _ c.negation-lit.result _ c.requires.fits c.requires.watched c.requires.linked
+      (subst (λ (k : Lit). (0 < k.var) × (k.var ≤ c.args.set.now.vars)) (sym c.negation-lit.ensures.exact) (c.at.ensures.from_one, c.at.ensures.exists))
+      c.first-number.ensures;
+  cells = search rules;
+}
 
-pub loop-occurrence-preserved : goal.loop-occurrence-preserved
-loop-occurrence-preserved c = elim c.else-index-len.branch [
-  | else-index-len-via-then-index-len+else-propagate_clause w ↦
-      subst (λ set. Walks c.args.lists.now c.args.level c.args.set.now set c.args.position c.occurrences-occurrence-items.result.now (c.loop-occurrence.occurrence-index + 1)) (sym w.set-is)
-      (Walks-propagate_clause _ _ _ c.loop-occurrence.set _ _ _ _ c.requires.within c.loop-occurrence.invariant w.propagate_clause.ensures.extends w.if-propagate_clause.ensures.settled)
-  | else-index-len-via-else-index-len w ↦
-      subst (λ set. Walks c.args.lists.now c.args.level c.args.set.now set c.args.position c.occurrences-occurrence-items.result.now (c.loop-occurrence.occurrence-index + 1)) (sym w.set-is)
-      (Walks-skip _ _ _ c.loop-occurrence.set _ _ _ c.loop-occurrence.invariant (omega (arith, w.if-index-len.false, c.len.ensures)))
-]
+pub returns-then-number-eq0-clause-passed : goal.returns-then-number-eq0-clause-passed
+returns-then-number-eq0-clause-passed c =
+    walking-passed c.args.store.now c.args.set.now c.loop-passed.set c.loop-passed.lists.cells.items c.loop-passed.lists.heads.items c.args.level c.args.position c.negation-lit.result c.loop-passed.before c.loop-passed.number c.loop-passed._passed c.loop-passed.invariant.walking c.if-number-eq0.true
+    (false-extends c.args.store.now c.args.set.now c.loop-passed.set c.args.level c.args.position c.negation-lit.result c.loop-passed.invariant.walking.runs.extends
+    (record { entry = c.at.result; there = c.at.ensures.entry; fails = sym c.negation-lit.ensures.exact }))
 
-pub returns-clause-examined : goal.returns-clause-examined
-returns-clause-examined c =
-    HasExamined-walk _ c.args.level c.args.set.now c.loop-occurrence.set c.args.position c.at.result _ _ c.at.ensures.entry c.requires.within c.loop-occurrence.invariant.runs.extends
-    (subst (λ l. HasOccurrences c.args.lists.now.clauses l c.occurrences-occurrence-items.result.now) c.negation-lit.ensures.exact c.occurrences-occurrence-items.ensures)
-    c.loop-occurrence.invariant.passes c.loop-occurrence-test.false
+pub returns-then-number-eq0-clause-linked : goal.returns-then-number-eq0-clause-linked
+returns-then-number-eq0-clause-linked c = walking-linked _ _ _ _ _ _ _ _ _ _ _ c.loop-passed.invariant.walking
+
+pub visit_clause-requires-clause-fails : goal.visit_clause-requires-clause-fails
+visit_clause-requires-clause-fails c =
+    false-extends c.args.store.now c.args.set.now c.loop-passed.set c.args.level c.args.position c.negation-lit.result c.loop-passed.invariant.walking.runs.extends
+    (record { entry = c.at.result; there = c.at.ensures.entry; fails = sym c.negation-lit.ensures.exact })
+
+pub visit_clause-requires-clause-walk : goal.visit_clause-requires-clause-walk
+visit_clause-requires-clause-walk c = walking-walks _ _ _ _ _ _ _ _ _ _ _ c.loop-passed.invariant.walking c.if-number-eq0.false
+
+pub watches-number-requires-clause-within : goal.watches-number-requires-clause-within
+watches-number-requires-clause-within c = (stayed-member _ _ _ c.visit_clause.new.set _ _ _ _ _ _ _ _ _ _ c.loop-passed.invariant.walking c.if-number-eq0.false c.in-Stays.ensures.visit).0
+
+pub watches-number-requires-clause-there : goal.watches-number-requires-clause-there
+watches-number-requires-clause-there c = (stayed-member _ _ _ c.visit_clause.new.set _ _ _ _ _ _ _ _ _ _ c.loop-passed.invariant.walking c.if-number-eq0.false c.in-Stays.ensures.visit).1
+
+pub returns-in-Fails-clause-extends : goal.returns-in-Fails-clause-extends
+returns-in-Fails-clause-extends c = Extends-more _ _ _ c.loop-passed.set _ c.loop-passed.invariant.walking.runs.extends c.visit_clause.ensures.extends
+
+pub returns-in-Fails-clause-linked : goal.returns-in-Fails-clause-linked
+returns-in-Fails-clause-linked c = walking-failed _ _ _ c.visit_clause.new.set _ _ _ _ _ _ _ _ _ _ c.loop-passed.invariant.walking c.in-Fails.ensures.visit
+
+pub loop-passed-preserved : goal.loop-passed-preserved
+loop-passed-preserved c = record {
+  walking = elim c.match-visit_clause.branch [
+    | in-Stays w ↦ rw (w.before-is, w.number-is) (walking-stayed _ _ _ c.visit_clause.new.set _ _ _ _ _ _ _ _ _ _ _ c.loop-passed.invariant.walking c.if-number-eq0.false c.visit_clause.ensures.extends c.visit_clause.ensures.watched w.in-Stays.ensures.visit
+        (link-turn _ w.watches-number.result _ w.watches-number.ensures.turns w.watches-number.ensures.here))
+    | in-Moves w ↦ rw (w.before-is, w.number-is) (walking-moved _ _ _ c.visit_clause.new.set _ _ _ _ _ _ _ _ _ _ _ c.loop-passed.invariant.walking c.if-number-eq0.false c.visit_clause.ensures.extends c.visit_clause.ensures.watched c.visit_clause.ensures.many c.visit_clause.ensures.others w.in-Moves.ensures.visit)
+  ];
+  cells = c.visit_clause.ensures.many.cells_as_many ∙ c.loop-passed.invariant.cells;
+}
+
+pub returns-clause-passed : goal.returns-clause-passed
+returns-clause-passed c =
+    walking-passed c.args.store.now c.args.set.now c.loop-passed.set c.loop-passed.lists.cells.items c.loop-passed.lists.heads.items c.args.level c.args.position c.negation-lit.result c.loop-passed.before c.loop-passed.number c.loop-passed._passed c.loop-passed.invariant.walking
+    (walking-ended _ _ _ _ _ _ _ _ _ _ _ c.loop-passed.invariant.walking (omega (arith, c.loop-passed.invariant.cells, c.loop-passed-test.false)))
+    (false-extends c.args.store.now c.args.set.now c.loop-passed.set c.args.level c.args.position c.negation-lit.result c.loop-passed.invariant.walking.runs.extends
+    (record { entry = c.at.result; there = c.at.ensures.entry; fails = sym c.negation-lit.ensures.exact }))
+
+pub returns-clause-linked : goal.returns-clause-linked
+returns-clause-linked c = walking-linked _ _ _ _ _ _ _ _ _ _ _ c.loop-passed.invariant.walking

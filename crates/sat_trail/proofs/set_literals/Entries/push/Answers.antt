@@ -7,14 +7,14 @@ pub index_mut-requires : goal.index_mut-requires
 index_mut-requires c =
     let exists = rw (← c.self.view_is) at c.requires.exists in
     let none = rw (← c.self.view_is) at c.requires.no_value in
-    let within = slot_within _ _ _ c.args.entry.lit.var c.self.invariant c.requires.from_one exists none in
+    let within = slot_within _ _ _ _ c.args.entry.lit.var c.self.invariant c.requires.from_one exists none in
     omega (arith, within)
 
 pub invariant_of-self : goal.invariant_of-self
 invariant_of-self c =
-    IsStored-push _ _ _ _ c.self.invariant c.requires.from_one (rw (← c.self.view_is) at c.requires.exists) (rw (← c.self.view_is) at c.requires.no_value)
+    IsStored-push _ _ _ _ _ _ c.self.invariant c.requires.from_one (rw (← c.self.view_is) at c.requires.exists) (rw (← c.self.view_is) at c.requires.no_value) c.value_of.ensures
 
 pub returns : goal.returns
 returns c = rw (← c.self.view_is)
     (assigned_after-push _ _ _ _ _ _
-    (slot_within _ _ _ c.args.entry.lit.var c.self.invariant c.requires.from_one (rw (← c.self.view_is) at c.requires.exists) (rw (← c.self.view_is) at c.requires.no_value)))
+    (slot_within _ _ _ _ c.args.entry.lit.var c.self.invariant c.requires.from_one (rw (← c.self.view_is) at c.requires.exists) (rw (← c.self.view_is) at c.requires.no_value)))

@@ -1,0 +1,23 @@
+-- One clause after the other is attached.
+use Rattle.std.proofs.Common.{◌+◌, ◌≤◌, length, sym, ap, subst, rules}
+use Rattle.sat_trail.specs.inner.Attach.{HasOpenTwo}
+use Rattle.sat_trail.proofs.AdditionLemmas.{attached-start, open-empty, attached-blank, attached-next}
+use Rattle.sat_trail.proofs.trail.watch_all.Goals as goal
+
+pub loop-clause-init : goal.loop-clause-init
+loop-clause-init c = record { counted = search rules; attached = attached-start _ _ _ _ c.requires.room c.requires.empty }
+
+pub choose-requires-clause-open : goal.choose-requires-clause-open
+choose-requires-clause-open c =
+    subst (λ lits. 2 ≤ length lits → HasOpenTwo c.args.set.now.entries 0 lits) (sym c.lits.ensures.same)
+    (open-empty _ _ c.requires.none c.lits.ensures.ascending)
+
+pub attach-requires-clause-blank : goal.attach-requires-clause-blank
+attach-requires-clause-blank c = attached-blank _ _ _ _ _ _ c.loop-clause.invariant.counted c.loop-clause-test.true c.loop-clause.invariant.attached
+
+pub loop-clause-preserved : goal.loop-clause-preserved
+loop-clause-preserved c = record {
+  counted = ap (λ n. n + 1) c.loop-clause.invariant.counted;
+  attached = attached-next _ _ c.loop-clause.number c.vars.result _ c.args.set.now.entries c.clause-item.result c.lits.result.now _ _ _ _ c.choose.result c.loop-clause.invariant.counted c.vars.ensures c.requires.none c.loop-clause-test.true c.clause-item.is c.lits.ensures.same
+      c.loop-clause.invariant.attached c.choose.ensures.chosen c.choose.ensures.none c.attach.ensures.linked c.attach.ensures.attached;
+}

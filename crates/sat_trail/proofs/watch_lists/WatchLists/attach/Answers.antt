@@ -1,0 +1,8 @@
+-- The clause is put at the front of both lists.
+use Rattle.std.proofs.Common.{rules}
+use Rattle.sat_trail.proofs.AttachLemmas.{AreLinked-link}
+use Rattle.sat_trail.proofs.watch_lists.WatchLists.attach.Goals as goal
+
+pub returns-in-Some-clause-linked : goal.returns-in-Some-clause-linked
+returns-in-Some-clause-linked c =
+    AreLinked-link _ _ _ _ _ _ c.in-Some.one c.in-Some.other c.requires.linked c.requires.within.0 c.requires.within.1 c.requires.blank (search rules) c.link.ensures.cells c.link.ensures.heads

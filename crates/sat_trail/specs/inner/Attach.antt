@@ -1,0 +1,73 @@
+-- Which literals a new clause is to watch.
+use Rattle.std.specs.Prelude.{◌≡◌, ◌≢◌, ℕ, ◌<◌, ◌≤◌, Option, Some, None, List, [], length, take}
+use Rattle.std.specs.Prelude.{Contains, IfSome}
+use Rattle.clause_core.specs.declared.literal.Lit.{Lit}
+use Rattle.clause_core.specs.Numbering.{numbered}
+use Rattle.clause_core.specs.Propagation.{MakesFalse, OthersFalse}
+use Rattle.sat_trail.specs.declared.entry.Entry.{Entry}
+use Rattle.sat_trail.specs.declared.watch.Cell.{Cell}
+use Rattle.sat_trail.specs.Entry.{entry_of, values_of}
+use Rattle.sat_trail.specs.inner.Excuse.{AreWatched}
+use Rattle.sat_trail.specs.inner.Watches.{cell_of, Watches, AreLinked}
+
+-- the literal was set at the level, if it was set
+abbrev pub IsOpenAt : List Entry → ℕ → Lit → Type 0
+IsOpenAt entries level l = IfSome (entry_of entries l.var) (λ e. e.level ≡ level)
+
+-- two literals of the clause are open at the level
+pub record HasOpenTwo (entries : List Entry) (level : ℕ) (clause : List Lit) : Type 0 where
+  pub one : Lit
+  pub other : Lit
+  pub differ : one ≢ other
+  pub one_among : Contains clause one
+  pub other_among : Contains clause other
+  pub one_open : IsOpenAt entries level one
+  pub other_open : IsOpenAt entries level other
+
+-- the literal may be watched beside another: if it is false, it was set at the level, and no
+-- literal but the other one is left
+pub record MayWatch
+    (entries : List Entry) (level : ℕ) (clause : List Lit) (l other : Lit) : Type 0 where
+  pub among : Contains clause l
+  pub differs : l ≢ other
+  pub last : MakesFalse (values_of entries) l →
+      IsOpenAt entries level l × OthersFalse (values_of entries) clause other
+
+-- the other literals of the clause are false, and were not set at the level
+abbrev pub AreClosed : List Entry → ℕ → List Lit → Lit → Type 0
+AreClosed entries level clause kept = (m : Lit) → Contains clause m → m ≢ kept →
+    MakesFalse (values_of entries) m × (¬ IsOpenAt entries level m)
+
+-- the literals may be watched together
+pub record AreChosen
+    (entries : List Entry) (level : ℕ) (clause : List Lit) (one other : Lit) : Type 0 where
+  pub first : MayWatch entries level clause one other
+  pub second : MayWatch entries level clause other one
+
+-- the cell watches no literal
+abbrev pub IsUnwatched : Cell → Type 0
+IsUnwatched cell = (l : Lit) → 0 < l.var → ¬ Watches cell l
+
+-- two literals exist and differ
+pub record ArePair (vars : ℕ) (one other : Lit) : Type 0 where
+  pub differ : one ≢ other
+  pub one_exists : (0 < one.var) × (one.var ≤ vars)
+  pub other_exists : (0 < other.var) × (other.var ≤ vars)
+
+-- the clause of the number watches these literals, if there are any
+pub record IsAttachedTo
+    (cells new_cells : List Cell) (number : ℕ) (watched : Option (Lit × Lit)) : Type 0 where
+  pub as_many : length new_cells ≡ length cells
+  pub others : (n : ℕ) → n ≢ number → cell_of new_cells n ≡ cell_of cells n
+  pub some : (one other : Lit) → watched ≡ Some (one, other) →
+      ((cell_of new_cells number).one.lit ≡ one) × ((cell_of new_cells number).other.lit ≡ other)
+  pub none : watched ≡ None → cell_of new_cells number ≡ cell_of cells number
+
+-- the first clauses are watched, before any entry is there
+pub record IsAttached
+    (vars count : ℕ) (clauses : List (List Lit)) (cells : List Cell) (heads : List ℕ)
+    : Type 0 where
+  pub linked : AreLinked vars cells heads
+  pub watched : AreWatched (numbered (take count clauses)) (length (take count clauses)) cells []
+      (record { level = 0; head = 0; examined = 0 })
+  pub room : length clauses < length cells

@@ -1,0 +1,10 @@
+/// The value of a variable, in one byte.
+#[derive(Clone, Copy, Debug)]
+pub enum Value {
+    /// It has none.
+    Unset,
+    /// It is false.
+    False,
+    /// It is true.
+    True,
+}

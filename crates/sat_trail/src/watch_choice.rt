@@ -1,0 +1,82 @@
+ghost use Rattle.std.specs.Prelude.{◌≡◌, ◌≢◌, ◌<◌, ◌≤◌, length, Contains, IfSome, IfNone};
+ghost use Rattle.std.specs.Bool.{OnTrue, OnFalse};
+ghost use Rattle.clause_core.specs.Clause.{VariablesExist};
+ghost use Rattle.clause_core.specs.Propagation.{MakesFalse, OthersFalse};
+ghost use Rattle.sat_trail.specs.Entry.{values_of};
+ghost use Rattle.sat_trail.specs.inner.Attach.{IsOpenAt, HasOpenTwo, MayWatch, AreClosed, AreChosen};
+
+use super::set_literals::Entries;
+use clause_core::Lit;
+
+/// Whether the literal is another one and not false.
+fn may_take(set: &Entries, lit: Lit, kept: Lit) -> bool
+    requires from_one { 0 < lit.var }
+    requires exists { lit.var ≤ set.now.vars }
+    ensures yes { OnTrue result ((lit ≢ kept) × (¬ MakesFalse (values_of set.now.entries) lit)) }
+    ensures no { OnFalse result (lit ≢ kept → MakesFalse (values_of set.now.entries) lit) }
+{
+    lit != kept && !set.is_false(lit)
+}
+
+/// A literal of the clause that is not false, other than this one. If there is none, the others
+/// are all false.
+pub fn not_false(set: &Entries, clause: &[Lit], kept: Lit) -> Option<Lit>
+    requires exist { VariablesExist set.now.vars clause.now }
+    ensures among { IfSome result (Contains clause.now) }
+    ensures differs { IfSome result (λ l. l ≢ kept) }
+    ensures found { IfSome result (λ l. ¬ MakesFalse (values_of set.now.entries) l) }
+    ensures none { IfNone result (OthersFalse (values_of set.now.entries) clause.now kept) }
+{
+    for lit in clause {
+        if may_take(set, *lit, kept) {
+            return Some(*lit);
+        }
+    }
+    None
+}
+
+/// Whether the literal is another one that has no value, or was set at the level.
+fn is_spare(set: &Entries, lit: Lit, kept: Lit, level: u32) -> bool
+    requires from_one { 0 < lit.var }
+    requires exists { lit.var ≤ set.now.vars }
+    ensures yes { OnTrue result ((lit ≢ kept) × IsOpenAt set.now.entries level lit) }
+    ensures no { OnFalse result (lit ≢ kept → ¬ IsOpenAt set.now.entries level lit) }
+{
+    lit != kept && set.is_open(lit.var, level)
+}
+
+/// The literal of the clause that is to be watched, other than this one: one that is not false, if
+/// there is any, and else one that was set at the level.
+fn best(set: &Entries, clause: &[Lit], kept: Lit, level: u32) -> Option<Lit>
+    requires exist { VariablesExist set.now.vars clause.now }
+    ensures found { IfSome result (λ l. MayWatch set.now.entries level clause.now l kept) }
+    ensures none { IfNone result (AreClosed set.now.entries level clause.now kept) }
+{
+    let mut found = None;
+    for lit in clause {
+        if may_take(set, *lit, kept) {
+            return Some(*lit);
+        }
+        if is_spare(set, *lit, kept, level) {
+            found = Some(*lit);
+        }
+    }
+    found
+}
+
+/// The two literals that a new clause is to watch, if it has as many.
+pub fn choose(set: &Entries, clause: &[Lit], level: u32) -> Option<(Lit, Lit)>
+    requires exist { VariablesExist set.now.vars clause.now }
+    requires open { 2 ≤ length clause.now → HasOpenTwo set.now.entries level clause.now }
+    ensures chosen { IfSome result
+        (λ pair. AreChosen set.now.entries level clause.now pair.0 pair.1) }
+    ensures none { IfNone result (length clause.now < 2) }
+{
+    let none = Lit {
+        var: 0,
+        positive: false,
+    };
+    let one = best(set, clause, none, level)?;
+    let other = best(set, clause, one, level)?;
+    Some((one, other))
+}
