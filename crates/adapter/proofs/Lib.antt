@@ -1,0 +1,3 @@
+-- Lemmas on desks.
+mod InboxLemmas
+mod NextLemmas

@@ -1,0 +1,10 @@
+//! What one role's agent does at its store and its inbox, without threads.
+#![tactic(auto)]
+
+mod arrival;
+mod desk;
+mod next;
+
+pub use arrival::accept;
+pub use desk::Desk;
+pub use next::next_message;
