@@ -1,3 +1,6 @@
 -- Lemmas on desks.
+mod EventLemmas
 mod InboxLemmas
 mod NextLemmas
+mod PendingLemmas
+mod ValueLemmas
