@@ -2,5 +2,6 @@
 mod EventLemmas
 mod InboxLemmas
 mod NextLemmas
+mod OrderLemmas
 mod PendingLemmas
 mod ValueLemmas

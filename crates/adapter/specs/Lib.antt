@@ -4,3 +4,4 @@ pub mod Rules
 pub mod Pending
 pub mod Kept
 pub mod Next
+pub mod Laws

@@ -3,8 +3,10 @@
 
 mod arrival;
 mod desk;
+mod laws;
 mod next;
 
 pub use arrival::accept;
 pub use desk::Desk;
+pub use laws::orders_are_distinct;
 pub use next::next_message;
