@@ -1,7 +1,4 @@
 -- Lemmas on desks.
-mod EventLemmas
 mod InboxLemmas
 mod NextLemmas
 mod OrderLemmas
-mod PendingLemmas
-mod ValueLemmas

@@ -1,8 +1,8 @@
 -- The inbox alone changes, and what it has more is for the role.
-use Rattle.std.proofs.Common.{ap, subst, sym}
+use Rattle.std.proofs.Common.{subst, sym}
 use Rattle.adapter.proofs.InboxLemmas.{after_put, with_inbox}
 use Rattle.adapter.specs.Desk.{DeskState}
-use Rattle.adapter.specs.Kept.{IsFor, IsKept}
+use Rattle.adapter.specs.Kept.{IsKept}
 use Rattle.adapter.proofs.arrival.accept.Goals as goal
 
 pub returns-clause-kept : goal.returns-clause-kept
