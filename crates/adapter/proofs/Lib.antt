@@ -1,0 +1,4 @@
+-- Lemmas on desks.
+mod InboxLemmas
+mod NextLemmas
+mod OrderLemmas

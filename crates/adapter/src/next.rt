@@ -1,0 +1,53 @@
+ghost use Rattle.std.specs.Prelude.{◌≡◌, ◌<◌, IsTrue, MatchOption, length, true, false};
+ghost use Rattle.std.specs.List.{All, Contains};
+ghost use Rattle.agent_scripts.specs.Statement.{IsSentBy};
+ghost use Rattle.adapter.specs.Kept.{IsKept};
+ghost use Rattle.adapter.specs.Next.{IsFirstReady, IsNext, IsPassedOver, IsReady, IsWorkload};
+
+use super::desk::Desk;
+use agent_scripts::{Job, Script, scripts_fit};
+use bspl_types::Key;
+use local_store::Store;
+
+/// The message that the role's agent emits next at the workload number: the first one of its order
+/// that is not declined, was never emitted under the key, and can be emitted.
+pub fn next_message(desk: &Desk, job: &Job, n: u64) -> Option<u32>
+    requires kept { IsKept job.now desk.now.store.role desk.now }
+    requires number { IsWorkload job.now n }
+    ensures { IsNext job.now desk.now.store n result }
+{
+    // law: an order has messages alone that its role sends
+    scripts_fit();
+    let script = job.script();
+    let order = script.order(desk.store().role());
+    first_ready(desk.store(), script, order.as_slice(), &script.key(n), n)
+}
+
+/// The first message of the order that is ready at the number.
+fn first_ready(store: &Store, script: &Script, order: &[u32], key: &Key, n: u64) -> Option<u32>
+    requires sent { All (IsSentBy store.now.protocol store.now.role) order.now }
+    requires held { Contains store.now.keys key.now }
+    ensures { MatchOption result
+        (All (IsPassedOver script.now store.now n key.now) order.now)
+        (IsFirstReady script.now store.now n key.now order.now) }
+{
+    for m in order {
+        if is_ready(store, script, *m, key, n) {
+            return Some(*m);
+        }
+    }
+    None
+}
+
+/// Whether the message is ready at the number.
+fn is_ready(store: &Store, script: &Script, message: u32, key: &Key, n: u64) -> bool
+    requires known { message < length store.now.protocol.messages }
+    requires held { Contains store.now.keys key.now }
+    ensures ready { result ≡ true → IsReady script.now store.now n key.now message }
+    ensures passed { result ≡ false → IsPassedOver script.now store.now n key.now message }
+{
+    if script.declined(message, n) || store.emitted(message, key) {
+        return false;
+    }
+    store.blocked(message, key).is_ok()
+}
