@@ -1,4 +1,10 @@
 -- Lemmas on desks.
+mod EventLemmas
 mod InboxLemmas
 mod NextLemmas
 mod OrderLemmas
+mod PendingLemmas
+mod PlanLemmas
+mod TakingLemmas
+mod TurnLemmas
+mod ValueLemmas

@@ -3,10 +3,15 @@
 
 mod arrival;
 mod desk;
+mod emission;
 mod laws;
 mod next;
+mod reception;
+mod turn;
 
 pub use arrival::accept;
 pub use desk::Desk;
-pub use laws::orders_are_distinct;
+pub use emission::{desk_emit, desk_plan};
+pub use laws::{next_envelopes_are_one, orders_are_distinct};
 pub use next::next_message;
+pub use reception::desk_take;

@@ -42,6 +42,17 @@ impl Store {
         Ok(m)
     }
 
+    /// What `emit` answers of a message that can be emitted. Nothing changes.
+    pub fn planned(&self, message: u32, key: &Key, outs: &[Value]) -> Stamped
+        requires chosen { length outs.now ≡ length (chosen_params self.now.protocol message) }
+        requires held { Contains self.now.keys key.now }
+        requires clock { last_stamp self.now.entries < 18446744073709551615 }
+        requires can { CanEmit self.now.protocol (acts_of self.now) message key.now }
+        ensures { IsEmission self.now message key.now outs.now result }
+    {
+        self.emission(self.held_row(key), message, key, outs)
+    }
+
     /// Whether the message can be emitted under the key, as `emit` answers it.
     pub fn blocked(&self, message: u32, key: &Key) -> Result<(), Block>
         requires known { message < length self.now.protocol.messages }

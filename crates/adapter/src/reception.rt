@@ -1,0 +1,66 @@
+ghost use Rattle.std.specs.Prelude.{◌≡◌, ◌<◌, length, slice_get, Some};
+ghost use Rattle.bspl_types.specs.declared.envelope.Envelope.{Envelope};
+ghost use Rattle.stamped_history.specs.Entries.{last_stamp};
+ghost use Rattle.adapter.specs.Kept.{IsKept};
+ghost use Rattle.adapter.specs.Steps.{IsSpent, IsTaken, IsTaking, after_pick, clock_limit};
+
+use super::desk::Desk;
+use agent_scripts::Job;
+use bspl_types::equal_values_are_one;
+use local_store::Receipt;
+use played_runs::played_grows;
+use rand_pcg::Pcg32;
+use reorder_net::{Inbox, pick};
+
+/// Takes one of the envelopes that are held, as the generator picks it, and hands its message to
+/// the store. A receipt, or one that is repeated, spends a copy of the envelope. A message that
+/// differs from what the role knows stays in the inbox. This takes no memory.
+pub fn desk_take(desk: &mut Desk, job: &Job, rng: &mut Pcg32) -> Option<Receipt>
+    requires kept { IsKept job.now desk.old.store.role desk.old }
+    ensures kept { IsKept job.now desk.old.store.role desk.new }
+    ensures taken { IsTaking rng.old desk.old result desk.new }
+    ensures word { rng.new ≡ after_pick rng.old desk.old.inbox }
+{
+    let held = desk.inbox.len();
+    if held == 0 {
+        return None;
+    }
+    let index = pick(rng, held);
+    if desk.store.clock() == u64::MAX || desk.inbox.at(index).message.stamp == u64::MAX {
+        return None;
+    }
+    Some(take_at(desk, job, index))
+}
+
+/// Takes the envelope at the index.
+fn take_at(desk: &mut Desk, job: &Job, index: usize) -> Receipt
+    requires kept { IsKept job.now desk.old.store.role desk.old }
+    requires index { index < length desk.old.inbox.envelopes }
+    requires clock { last_stamp desk.old.store.entries < clock_limit }
+    requires stamp { (e : Envelope) → slice_get desk.old.inbox.envelopes index ≡ Some e →
+        e.message.stamp < clock_limit }
+    ensures kept { IsKept job.now desk.old.store.role desk.new }
+    ensures taken { IsTaken index desk.old result desk.new }
+{
+    // laws: a played event leaves the events played, and equal keys are one key
+    played_grows();
+    equal_values_are_one();
+    let envelope = *desk.inbox.at(index);
+    let receipt = desk.store.receive(&envelope.message);
+    // law: each store is consistent
+    desk.store.len();
+    spend(&mut desk.inbox, index, &receipt);
+    receipt
+}
+
+/// Spends a copy of the envelope at the index, unless it differs.
+fn spend(inbox: &mut Inbox, index: usize, receipt: &Receipt)
+    requires { index < length inbox.old.envelopes }
+    ensures { (e : Envelope) → slice_get inbox.old.envelopes index ≡ Some e →
+        IsSpent receipt.now inbox.old index e inbox.new }
+{
+    match receipt {
+        Receipt::Fresh | Receipt::Repeat => inbox.spend(index),
+        Receipt::Differs { .. } => {}
+    }
+}
