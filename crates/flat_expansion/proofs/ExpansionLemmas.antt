@@ -1,5 +1,5 @@
 -- When a protocol of messages alone has an expansion, and that its messages are determined.
-use Rattle.std.proofs.Common.{◌≡◌, ℕ, List, length, map, Some, Ok, Err, None, Option, Result, sym, ◌∙◌, subst}
+use Rattle.std.proofs.Common.{◌≡◌, ◌++◌, ℕ, List, length, map, Some, Ok, Err, None, Option, Result, sym, ◌∙◌, subst}
 use Rattle.std.specs.Prelude.{IfOk, IfSome, IfNone, MatchOption}
 use Rattle.std.specs.List.{AllZip}
 use Rattle.bspl_types.specs.declared.expanded.Expanded.{Expanded}
@@ -12,9 +12,10 @@ use Rattle.bspl_types.specs.Shape.{IsWellFormed, key_indices}
 use Rattle.bspl_parser.specs.declared.document.Declaration.{Declaration}
 use Rattle.bspl_parser.specs.declared.document.Formal.{Formal}
 use Rattle.bspl_parser.specs.declared.document.Item.{Item}
+use Rattle.bspl_parser.specs.declared.word.Word.{Word}
 use Rattle.bspl_parser.specs.declared.document.Item.TheVariants as item
 use Rattle.list_base.proofs.Zipped.{one_list}
-use Rattle.flat_expansion.specs.Expansion.{IsCarried, IsMessageOfItem, IsExpansionOf, params_of}
+use Rattle.flat_expansion.specs.Expansion.{IsCarried, IsMessageOfItem, IsExpansionOf, params_of, private_param, public_param}
 
 -- a parameter is carried in one way
 one_carried : (params : List ParamInfo) (f : Formal) (c d : Carried) → IsCarried params f c → IsCarried params f d → c ≡ d
@@ -53,6 +54,25 @@ shape_of_parts x name roles params public messages same_name same_roles same_par
     (subst (λ ms. IsWellFormed x.name x.roles x.params x.public (key_indices x.params) ms) same_messages
     (subst (λ ks. IsWellFormed x.name x.roles x.params x.public ks x.messages) x.shape.key_list x.shape)))))
 
+-- what was made of a protocol that has an expansion has its shape
+pub shape_made : (d : Declaration) (x : Expanded) (name : List ℕ) (roles : List (List ℕ)) (params : List ParamInfo) (public : ℕ) (messages : List Message) → IsExpansionOf d x →
+    name ≡ d.name.text → roles ≡ map (λ w. w.text) d.roles → params ≡ params_of d → public ≡ length d.public → AllZip (IsMessageOfItem roles params) d.body messages →
+    IsWellFormed name roles params public (key_indices params) messages
+shape_made d x name roles params public messages expands is_name is_roles is_params is_public images =
+    shape_of_parts x name roles params public messages (expands.named ∙ sym is_name) (expands.roles ∙ sym is_roles) (expands.params ∙ sym is_params) (expands.public ∙ sym is_public)
+    (one_list (IsMessageOfItem roles params) (one_image roles params) d.body x.messages messages (images_found d x roles params is_roles is_params expands) images)
+
+-- the parameters that were made are the declared ones
+pub params_are : (params : List ParamInfo) (public public' : List Formal) (private private' : List Word) → params ≡ map public_param public ++ map private_param private → public ≡ public' → private ≡ private' → params ≡ map public_param public' ++ map private_param private'
+params_are params public public' private private' made same_public same_private = made ∙ (λ i. map public_param (same_public i) ++ map private_param (same_private i))
+
+-- the images are over what was lent
+pub images_are : (roles roles' : List (List ℕ)) (params params' : List ParamInfo) (body body' : List Item) (ms : List Message) → roles ≡ roles' → params ≡ params' → body ≡ body' → AllZip (IsMessageOfItem roles params) body ms → AllZip (IsMessageOfItem roles' params') body' ms
+images_are roles roles' params params' body body' ms same_roles same_params same_body all =
+    subst (λ rs. AllZip (IsMessageOfItem rs params') body' ms) same_roles
+    (subst (λ ps. AllZip (IsMessageOfItem roles ps) body' ms) same_params
+    (subst (λ b. AllZip (IsMessageOfItem roles params) b ms) same_body all))
+
 -- what was assembled is the expansion, and where nothing was, there is none
 pub assembled : (d : Declaration) (name : List ℕ) (roles : List (List ℕ)) (params : List ParamInfo) (public : ℕ) (messages : List Message) (result : Result (Option Expanded) NoMemory) →
     name ≡ d.name.text → roles ≡ map (λ w. w.text) d.roles → params ≡ params_of d → public ≡ length d.public → AllZip (IsMessageOfItem roles params) d.body messages →
@@ -70,8 +90,7 @@ assembled d name roles params public messages (Ok (Some x)) is_name is_roles is_
           (subst (λ ms. AllZip (IsMessageOfItem roles params) d.body ms) (sym made.same_messages) images));
     }
 assembled d name roles params public messages (Ok None) is_name is_roles is_params is_public images made refused = λ x expands.
-    refused (shape_of_parts x name roles params public messages (expands.named ∙ sym is_name) (expands.roles ∙ sym is_roles) (expands.params ∙ sym is_params) (expands.public ∙ sym is_public)
-    (one_list (IsMessageOfItem roles params) (one_image roles params) d.body x.messages messages (images_found d x roles params is_roles is_params expands) images))
+    refused (shape_made d x name roles params public messages expands is_name is_roles is_params is_public images)
 assembled d name roles params public messages (Err e) is_name is_roles is_params is_public images made refused = tt
 
 -- two expansions of a protocol have the same messages

@@ -1,4 +1,5 @@
 pub mod DeclarationLemmas
+pub mod EndLemmas
 pub mod ExpansionIsUnique
 pub mod ExpansionLemmas
 pub mod SchemaLemmas

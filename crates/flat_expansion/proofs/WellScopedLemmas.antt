@@ -1,5 +1,6 @@
 -- A protocol that is well scoped has an expansion.
-use Rattle.std.proofs.Common.{◌≡◌, ◌≢◌, ℕ, ◌<◌, List, [], ◌∷◌, length, get_or, Some, refl, sym, subst, arith}
+use Rattle.std.proofs.Common.{◌≡◌, ◌≢◌, ℕ, ◌<◌, ◌^◌, List, [], ◌∷◌, length, length-append, map, get_or, Some, ap, refl, sym, subst, arith}
+use Rattle.std.proofs.lemmas.List.{length-map}
 use Rattle.std.specs.List.{Contains}
 use Rattle.std.specs.Str.{bytes_eq}
 use Rattle.bspl_types.specs.declared.expanded.Expanded.{Expanded}
@@ -16,6 +17,7 @@ use Rattle.bspl_parser.specs.declared.document.Formal.{Formal}
 use Rattle.bspl_parser.specs.declared.document.Item.{Item}
 use Rattle.bspl_parser.specs.declared.document.Item.TheVariants as item
 use Rattle.bspl_parser.specs.declared.document.Schema.{Schema}
+use Rattle.bspl_parser.specs.declared.word.Word.{Word}
 use Rattle.bspl_parser.specs.Spelling.{IsItem, IsSchema}
 use Rattle.protocol_names.specs.Names.{texts, param_words}
 use Rattle.list_base.proofs.FirstIndex.{has_index}
@@ -79,3 +81,15 @@ expands d ready =
       record { name = d.name.text; roles = texts d.roles; params = params_of d; public = length d.public; keys = key_indices (params_of d); messages = images.0; shape = shape_of d images.0 ready images.1 images.2 },
       record { named = refl; roles = refl; params = refl; public = refl; images = images.1 },
     )
+
+-- its roles are few
+pub few_roles : (d : Declaration) (roles : List (List ℕ)) → IsWellScoped d → roles ≡ map (λ w. w.text) d.roles → length roles < 2 ^ 32
+few_roles d roles ready is = omega (arith, ap length is, length-map d.roles (λ (w : Word). w.text), ready.within.few_roles)
+
+-- its parameters are few
+pub few_params : (d : Declaration) (params : List ParamInfo) → IsWellScoped d → params ≡ params_of d → length params < 2 ^ 32
+few_params d params ready is = omega (arith, ap length is, length-map (params_of d) (λ (p : ParamInfo). p.name), ap length (param_texts d.public d.private), length-map (param_words d) (λ (w : Word). w.text), ready.within.few_params)
+
+-- so are the public ones
+pub few_public : (d : Declaration) → IsWellScoped d → length d.public < 2 ^ 32
+few_public d ready = omega (arith, length-map d.public (λ (f : Formal). f.name), length-append (map (λ (f : Formal). f.name) d.public) d.private, ready.within.few_params)

@@ -8,7 +8,7 @@ ghost use Rattle.flat_expansion.specs.Canonical.{IsCanonical, IsPrivateOf, IsPub
 
 use super::schemas::items_of;
 use bspl_parser::{Adorn, Declaration, Formal, FormalList, Word, WordList};
-use bspl_types::{Adornment, Expanded, Name, NoMemory, ParamInfo, Seq, TryClone};
+use bspl_types::{Adornment, Expanded, Name, NoMemory, ParamInfo, Seq};
 use std::alloc::Global;
 
 /// A protocol of messages alone that has the expansion. Its words have no offsets, so it is for
@@ -21,7 +21,7 @@ pub fn declaration_of(alloc: Global, x: &Expanded) -> Result<Declaration, NoMemo
     let params = x.params.as_slice();
     let (public, private) = params.split_at(x.public as usize);
     Ok(Declaration {
-        name: word_of(&x.name)?,
+        name: word_of(alloc, &x.name)?,
         roles: role_words(alloc, x.roles.as_slice())?,
         public: public_formals(alloc, public)?,
         private: private_words(alloc, private)?,
@@ -30,12 +30,12 @@ pub fn declaration_of(alloc: Global, x: &Expanded) -> Result<Declaration, NoMemo
 }
 
 /// The word for a name.
-pub(crate) fn word_of(name: &Name) -> Result<Word, NoMemory>
+pub(crate) fn word_of(alloc: Global, name: &Name) -> Result<Word, NoMemory>
     requires { IsTrue (is_name name.now) }
     ensures { IfOk result (IsWordOf name.now) }
 {
     Ok(Word {
-        text: name.try_clone()?,
+        text: Seq::from_slice(alloc, name.as_slice())?,
         offset: 0,
     })
 }
@@ -47,7 +47,7 @@ fn role_words(alloc: Global, names: &[Name]) -> Result<WordList, NoMemory>
 {
     let mut words = Seq::new(alloc);
     for name in names {
-        words.push(word_of(name)?)?;
+        words.push(word_of(alloc, name)?)?;
     }
     Ok(words)
 }
@@ -60,13 +60,13 @@ fn public_formals(alloc: Global, params: &[ParamInfo]) -> Result<FormalList, NoM
 {
     let mut formals = Seq::new(alloc);
     for p in params {
-        formals.push(public_formal(p)?)?;
+        formals.push(public_formal(alloc, p)?)?;
     }
     Ok(formals)
 }
 
 /// One public parameter.
-fn public_formal(p: &ParamInfo) -> Result<Formal, NoMemory>
+fn public_formal(alloc: Global, p: &ParamInfo) -> Result<Formal, NoMemory>
     requires named { IsTrue (is_name p.now.name) }
     requires adorned { p.now.adornment ≢ None }
     ensures { IfOk result (IsPublicOf p.now) }
@@ -77,7 +77,7 @@ fn public_formal(p: &ParamInfo) -> Result<Formal, NoMemory>
     Ok(Formal {
         adorn: adorn_of(adornment),
         offset: 0,
-        name: word_of(&p.name)?,
+        name: word_of(alloc, &p.name)?,
         key: key_mark(p.key),
     })
 }
@@ -110,17 +110,17 @@ fn private_words(alloc: Global, params: &[ParamInfo]) -> Result<WordList, NoMemo
 {
     let mut words = Seq::new(alloc);
     for p in params {
-        words.push(private_word(p)?)?;
+        words.push(private_word(alloc, p)?)?;
     }
     Ok(words)
 }
 
 /// One private parameter.
-fn private_word(p: &ParamInfo) -> Result<Word, NoMemory>
+fn private_word(alloc: Global, p: &ParamInfo) -> Result<Word, NoMemory>
     requires named { IsTrue (is_name p.now.name) }
     requires bare { p.now.adornment ≡ None }
     requires unkeyed { p.now.key ≡ false }
     ensures { IfOk result (IsPrivateOf p.now) }
 {
-    word_of(&p.name)
+    word_of(alloc, &p.name)
 }

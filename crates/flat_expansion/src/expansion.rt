@@ -6,8 +6,7 @@ ghost use Rattle.flat_expansion.specs.Expansion.{IsExpansionOf};
 use super::messages::messages_of;
 use bspl_parser::{Adorn, Declaration, Formal, Word};
 use bspl_types::{
-    Adornment, Expanded, NameList, NoMemory, PARAM_LIMIT, ParamInfo, ParamInfoList, ROLE_LIMIT,
-    Seq, TryClone,
+    Adornment, Expanded, NameList, NoMemory, PARAM_LIMIT, ParamInfo, ParamInfoList, ROLE_LIMIT, Seq,
 };
 use std::alloc::Global;
 
@@ -33,7 +32,7 @@ pub fn expansion_of(alloc: Global, d: &Declaration) -> Result<Option<Expanded>, 
     };
     Expanded::assemble(
         alloc,
-        d.name.text.try_clone()?,
+        Seq::from_slice(alloc, d.name.text.as_slice())?,
         roles,
         params,
         public as u32,
@@ -42,18 +41,18 @@ pub fn expansion_of(alloc: Global, d: &Declaration) -> Result<Option<Expanded>, 
 }
 
 /// The names of the roles.
-fn role_names(alloc: Global, words: &[Word]) -> Result<NameList, NoMemory>
+pub(crate) fn role_names(alloc: Global, words: &[Word]) -> Result<NameList, NoMemory>
     ensures { IfOk result (λ names. names ≡ map (λ w. w.text) words.now) }
 {
     let mut names = Seq::new(alloc);
     for word in words {
-        names.push(word.text.try_clone()?)?;
+        names.push(Seq::from_slice(alloc, word.text.as_slice())?)?;
     }
     Ok(names)
 }
 
 /// The parameters, the public ones first.
-fn declared_params(
+pub(crate) fn declared_params(
     alloc: Global,
     public: &[Formal],
     private: &[Word],
@@ -63,31 +62,31 @@ fn declared_params(
 {
     let mut params = Seq::new(alloc);
     for f in public {
-        params.push(public_param(f)?)?;
+        params.push(public_param(alloc, f)?)?;
     }
     for w in private {
-        params.push(private_param(w)?)?;
+        params.push(private_param(alloc, w)?)?;
     }
     Ok(params)
 }
 
 /// A public parameter.
-fn public_param(f: &Formal) -> Result<ParamInfo, NoMemory>
+fn public_param(alloc: Global, f: &Formal) -> Result<ParamInfo, NoMemory>
     ensures { IfOk result (λ p. p ≡ public_param f.now) }
 {
     Ok(ParamInfo {
-        name: f.name.text.try_clone()?,
+        name: Seq::from_slice(alloc, f.name.text.as_slice())?,
         adornment: adornment_of(f.adorn),
         key: f.key.is_some(),
     })
 }
 
 /// A private parameter.
-fn private_param(w: &Word) -> Result<ParamInfo, NoMemory>
+fn private_param(alloc: Global, w: &Word) -> Result<ParamInfo, NoMemory>
     ensures { IfOk result (λ p. p ≡ private_param w.now) }
 {
     Ok(ParamInfo {
-        name: w.text.try_clone()?,
+        name: Seq::from_slice(alloc, w.text.as_slice())?,
         adornment: None,
         key: false,
     })

@@ -5,11 +5,11 @@ mod declaration;
 mod expansion;
 mod laws;
 mod messages;
+mod param_names;
 mod schemas;
+mod well_scoped;
 
 pub use declaration::declaration_of;
 pub use expansion::expansion_of;
-pub use laws::{
-    expansion_of_well_scoped, expansions_are_unique, expansions_keep_names,
-    well_scoped_protocols_expand,
-};
+pub use laws::{expansions_are_unique, expansions_keep_names, well_scoped_protocols_expand};
+pub use well_scoped::expansion_of_well_scoped;

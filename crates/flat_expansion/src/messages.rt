@@ -6,9 +6,10 @@ ghost use Rattle.flat_expansion.specs.Expansion.{role_index, param_index, IsCarr
 ghost use Rattle.flat_expansion.specs.Expansion.{IsMessageOfItem};
 
 use super::expansion::adornment_of;
+use super::param_names::param_index;
 use bspl_parser::{Formal, Item, Schema};
 use bspl_types::{
-    Carried, CarriedList, Message, MessageList, Name, NoMemory, ParamInfo, Seq, TryClone, index_of,
+    Carried, CarriedList, Message, MessageList, Name, NoMemory, ParamInfo, Seq, index_of,
 };
 use std::alloc::Global;
 
@@ -77,7 +78,7 @@ fn message_for(
         return Ok(None);
     };
     Ok(Some(Message {
-        name: schema.name.text.try_clone()?,
+        name: Seq::from_slice(alloc, schema.name.text.as_slice())?,
         sender,
         receiver,
         carried,
@@ -120,7 +121,7 @@ fn carried(params: &[ParamInfo], formal: &Formal) -> Option<Carried>
         ((c : SpecCarried) → ¬ IsCarried params.now formal.now c)
         (IsCarried params.now formal.now) }
 {
-    let index = index_of(params, formal.name.text.as_slice())?;
+    let index = param_index(params, formal.name.text.as_slice())?;
     let adornment = adornment_of(formal.adorn)?;
     Some(Carried {
         param: index as u32,

@@ -44,9 +44,9 @@ fn schema_of(
     ensures { IfOk result (IsSchemaOf roles.now params.now m.now) }
 {
     Ok(Schema {
-        sender: word_of(&roles[m.sender as usize])?,
-        receiver: word_of(&roles[m.receiver as usize])?,
-        name: word_of(&m.name)?,
+        sender: word_of(alloc, &roles[m.sender as usize])?,
+        receiver: word_of(alloc, &roles[m.receiver as usize])?,
+        name: word_of(alloc, &m.name)?,
         params: formals_of(alloc, params, m.carried.as_slice())?,
     })
 }
@@ -63,13 +63,13 @@ fn formals_of(
 {
     let mut formals = Seq::new(alloc);
     for c in carried {
-        formals.push(formal_of(params, *c)?)?;
+        formals.push(formal_of(alloc, params, *c)?)?;
     }
     Ok(formals)
 }
 
 /// One parameter of a message.
-fn formal_of(params: &[ParamInfo], c: Carried) -> Result<Formal, NoMemory>
+fn formal_of(alloc: Global, params: &[ParamInfo], c: Carried) -> Result<Formal, NoMemory>
     requires params { AreNamed (λ p. p.name) params.now }
     requires placed { c.param < length params.now }
     ensures { IfOk result (IsFormalOf params.now c) }
@@ -77,7 +77,7 @@ fn formal_of(params: &[ParamInfo], c: Carried) -> Result<Formal, NoMemory>
     Ok(Formal {
         adorn: adorn_of(c.adornment),
         offset: 0,
-        name: word_of(&params[c.param as usize].name)?,
+        name: word_of(alloc, &params[c.param as usize].name)?,
         key: None,
     })
 }

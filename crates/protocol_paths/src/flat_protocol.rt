@@ -73,7 +73,7 @@ fn flat_to<'a>(
     let mut body = Seq::new(context.alloc);
     add_messages(context, limit, &scope, &mut body)?;
     Ok(Declaration {
-        name: copied_word(&top.name)?,
+        name: copied_word(context.alloc, &top.name)?,
         roles: copied_words(context.alloc, top.roles.as_slice())?,
         public: copied_formals(context.alloc, top.public.as_slice())?,
         private,

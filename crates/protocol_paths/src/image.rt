@@ -16,9 +16,9 @@ pub(crate) fn image_of(alloc: Global, scope: &Scope, schema: &Schema) -> Result<
 {
     let prefix = prefix_of(alloc, scope)?;
     Ok(Schema {
-        sender: role_word(scope, &schema.sender)?,
-        receiver: role_word(scope, &schema.receiver)?,
-        name: prefix.word(&schema.name)?,
+        sender: role_word(alloc, scope, &schema.sender)?,
+        receiver: role_word(alloc, scope, &schema.receiver)?,
+        name: prefix.into_word(&schema.name)?,
         params: image_formals(alloc, scope, schema.params.as_slice())?,
     })
 }

@@ -8,7 +8,7 @@ ghost use Rattle.protocol_paths.specs.inner.ScopeOf.{scope_of};
 use super::link::Link;
 use super::scope::Scope;
 use bspl_parser::Word;
-use bspl_types::{Bytes, NoMemory, Seq, TryClone};
+use bspl_types::{Bytes, NoMemory, Seq};
 use std::alloc::Global;
 
 /// The prefix of the private names and message names of a protocol at the end of a path.
@@ -45,14 +45,30 @@ impl Prefix {
     }
 
     /// The word with the prefix.
-    pub fn word(&self, word: &Word) -> Result<Word, NoMemory>
+    pub fn word(&self, alloc: Global, word: &Word) -> Result<Word, NoMemory>
         ensures { IfOk result (IsSubstituted (self.now.text ++ word.now.text) word.now) }
     {
-        let mut text = self.text.try_clone()?;
+        self.copied(alloc)?.into_word(word)
+    }
+
+    /// The word with the prefix, in the prefix's memory.
+    pub fn into_word(self, word: &Word) -> Result<Word, NoMemory>
+        ensures { IfOk result (IsSubstituted (self.text ++ word.now.text) word.now) }
+    {
+        let mut text = self.text;
         text.append(word.text.as_slice())?;
         Ok(Word {
             text,
             offset: word.offset,
+        })
+    }
+
+    /// A prefix of the same bytes.
+    fn copied(&self, alloc: Global) -> Result<Prefix, NoMemory>
+        ensures { IfOk result (λ p. p.text ≡ self.now.text) }
+    {
+        Ok(Prefix {
+            text: Seq::from_slice(alloc, self.text.as_slice())?,
         })
     }
 }

@@ -10,6 +10,7 @@ use super::prefix::{Prefix, prefix_of};
 use super::scope::Scope;
 use bspl_parser::{Item, Word, WordList};
 use bspl_types::NoMemory;
+use std::alloc::Global;
 
 /// Adds the private parameters at the ends of the paths of at most `limit` references.
 #[cycle(privates)]
@@ -26,7 +27,12 @@ pub(crate) fn add_privates<'a>(
         ++ private_entries limit (protocols_of context.now) (scope_of scope.now)) }
 {
     let prefix = prefix_of(context.alloc, scope)?;
-    add_own(&prefix, scope.protocol.private.as_slice(), private)?;
+    add_own(
+        context.alloc,
+        &prefix,
+        scope.protocol.private.as_slice(),
+        private,
+    )?;
     if limit == 0 {
         return Ok(());
     }
@@ -67,12 +73,17 @@ fn add_after<'a>(
 }
 
 /// Adds the private parameters of one protocol.
-fn add_own(prefix: &Prefix, own: &[Word], private: &mut WordList) -> Result<(), NoMemory>
+fn add_own(
+    alloc: Global,
+    prefix: &Prefix,
+    own: &[Word],
+    private: &mut WordList,
+) -> Result<(), NoMemory>
     ensures { OnOk result (map entry private.new ≡ map entry private.old
         ++ map (λ w. (prefix.now.text ++ w.text, w.offset)) own.now) }
 {
     for word in own {
-        private.push(prefix.word(word)?)?;
+        private.push(prefix.word(alloc, word)?)?;
     }
     Ok(())
 }

@@ -10,16 +10,16 @@ use super::link::Link;
 use super::prefix::prefix_along;
 use super::scope::Scope;
 use bspl_parser::Word;
-use bspl_types::{NoMemory, TryClone};
+use bspl_types::{NoMemory, Seq};
 use std::alloc::Global;
 
 /// The role's word, under the name that is substituted for it in the scope.
-pub(crate) fn role_word(scope: &Scope, role: &Word) -> Result<Word, NoMemory>
+pub(crate) fn role_word(alloc: Global, scope: &Scope, role: &Word) -> Result<Word, NoMemory>
     ensures { IfOk result (IsSubstituted (role_at (scope_of scope.now) role.now.text) role.now) }
 {
     let given = given_role(scope.links.as_slice(), role);
     Ok(Word {
-        text: given.text.try_clone()?,
+        text: Seq::from_slice(alloc, given.text.as_slice())?,
         offset: role.offset,
     })
 }
@@ -59,17 +59,17 @@ fn given_param(alloc: Global, links: &[Link], param: &Word) -> Result<Word, NoMe
         w.text ≡ param_at (scope_along top links.now) param.now.text) }
 {
     let Some((link, outer)) = links.split_last() else {
-        return copied_word(param);
+        return copied_word(alloc, param);
     };
     let Some(index) = link.names.params.index(param.text.as_slice()) else {
-        return copied_word(param);
+        return copied_word(alloc, param);
     };
     let given = link.reference.params.as_slice();
     if let Some(formal) = given.get(index) {
         return given_param(alloc, outer, &formal.name);
     }
     match link.target.private.as_slice().get(index - given.len()) {
-        Some(own) => prefix_along(alloc, links)?.word(own),
-        None => copied_word(param),
+        Some(own) => prefix_along(alloc, links)?.into_word(own),
+        None => copied_word(alloc, param),
     }
 }

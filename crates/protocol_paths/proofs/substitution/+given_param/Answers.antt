@@ -50,8 +50,8 @@ returns-in_ok-prefix_along-in-Some-get-2 t c = λ top.
     let lends : IsItemAt l.target.now.private (k - length l.reference.now.params) c.get-2.result = rw (c.as_slice-2.ensures, c.as_slice-given.ensures) at c.get-2.ensures.lookup in
     let prefix = c.in_ok-prefix_along-in-Some-get-2.field-0 in
     let own = c.in-Some-get-2.own.now in
-    if_ok (IsSubstituted (prefix.text ++ own.text) own) (λ w. w.text ≡ param_at (scope_along top c.args.links.now) name) c.word.result
-    (λ w put. put.text ∙ ap (λ text. text ++ own.text) (c.in_ok-prefix_along-in-Some-get-2.ensures top) ∙ param_own top c.args.links.now c.in-Some.outer.now l name k c.get.result c.get-2.result c.in-Some-get-2.own at lacks c.in_default-get.is lends (cc (c.in-Some-get-2.is, c.in-Some-get-2.own-is))) c.word.ensures
+    if_ok (IsSubstituted (prefix.text ++ own.text) own) (λ w. w.text ≡ param_at (scope_along top c.args.links.now) name) c.into_word.result
+    (λ w put. put.text ∙ ap (λ text. text ++ own.text) (c.in_ok-prefix_along-in-Some-get-2.ensures top) ∙ param_own top c.args.links.now c.in-Some.outer.now l name k c.get.result c.get-2.result c.in-Some-get-2.own at lacks c.in_default-get.is lends (cc (c.in-Some-get-2.is, c.in-Some-get-2.own-is))) c.into_word.ensures
 
 pub returns-in-None : goal.returns-in-None
 returns-in-None t c = λ top.
