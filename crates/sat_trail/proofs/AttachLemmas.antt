@@ -6,13 +6,15 @@ use Rattle.list_base.proofs.Members.{here_same, there}
 use Rattle.clause_core.specs.declared.literal.Lit.{Lit}
 use Rattle.clause_core.specs.Literal.{rank}
 use Rattle.clause_core.specs.Clause.{IsAscending}
-use Rattle.clause_core.specs.Numbering.{Numbering, numbered, HasNumber}
+use Rattle.clause_core.specs.Numbering.{Numbering, HasNumber}
+use Rattle.sat_trail.specs.State.{live}
 use Rattle.sat_trail.specs.declared.entry.Entry.{Entry}
+use Rattle.sat_trail.specs.declared.watch.Watch.{Watch}
 use Rattle.sat_trail.specs.declared.watch.Cell.{Cell}
 use Rattle.sat_trail.specs.Entry.{entry_of}
 use Rattle.sat_trail.specs.inner.Attach.{IsOpenAt, HasOpenTwo, MayWatch, AreChosen, IsUnwatched, ArePair, IsAttachedTo}
 use Rattle.sat_trail.specs.inner.Excuse.{Progress, is_new, IsWatched, WatchesTwo, WatchesNone, AreWatched}
-use Rattle.sat_trail.specs.inner.Watches.{blank, cell_of, watch, HasLink, by_one, by_other, Watches, WatchesApart, head_of, IsChain, IsListed, AreLinked}
+use Rattle.sat_trail.specs.inner.Watches.{blank, cell_of, watch, HasLink, by_one, by_other, Watches, WatchesApart, head_of, IsChain, IsListed, IsWithin, AreLinked}
 use Rattle.sat_trail.proofs.LiteralLemmas.{cases_literal}
 use Rattle.sat_trail.proofs.CellLemmas.{rank-only, rank-within}
 use Rattle.sat_trail.proofs.ChainLemmas.{chain-frame, chain-member}
@@ -86,6 +88,13 @@ AreLinked-in : (vars : ℕ) (cells new : List Cell) (heads new_heads : List ℕ)
 AreLinked-in vars cells new heads new_heads n one other l many linked = record {
   many = many ∙ linked.many;
   some = omega (arith, l.within, l.as_many);
+  within = λ k. elim (cases_eq k n) [
+    | inl is ↦ subst (λ i. IsWithin vars (cell_of new i)) (sym is) (record {
+      one = subst (λ (w : Watch). w.lit.var ≤ vars) (sym l.is_one) l.pair.one_exists.1;
+      other = subst (λ (w : Watch). w.lit.var ≤ vars) (sym l.is_other) l.pair.other_exists.1;
+    })
+    | inr differs ↦ subst (IsWithin vars) (sym (l.same k differs)) (linked.within k)
+  ];
   listed = λ m some exists. elim (cases_literal m one) [
     | inl is ↦ subst (IsListed new new_heads) (sym is) (linked-in vars cells new heads new_heads n one other one l l.pair.one_exists.0 l.head_one (by_one l.is_one) (linked.listed one l.pair.one_exists.0 l.pair.one_exists.1))
     | inr not_one ↦ elim (cases_literal m other) [
@@ -154,7 +163,7 @@ two-literals (k ∷ []) l m differ l_among m_among = absurd (differ (first l l_a
 two-literals (k ∷ (h ∷ rest)) l m differ l_among m_among = omega arith
 
 -- one clause more is watched
-pub AreWatched-add : (clauses : List (List Lit)) (c : List Lit) (cells new : List Cell) (es : List Entry) (p : Progress) (watched : Option (Lit × Lit)) → IsOnce es → length clauses + 1 < length cells → IsUnwatched (cell_of cells (length clauses + 1)) → (length c < 2 → p.level ≡ 0) → ((one other : Lit) → watched ≡ Some (one, other) → AreChosen es p.level c one other) → (watched ≡ None → length c < 2) → IsAttachedTo cells new (length clauses + 1) watched → AreWatched (numbered clauses) (length clauses) cells es p → AreWatched (numbered (clauses ++ c ∷ [])) (length clauses + 1) new es p
+pub AreWatched-add : (clauses : List (Option (List Lit))) (c : List Lit) (cells new : List Cell) (es : List Entry) (p : Progress) (watched : Option (Lit × Lit)) → IsOnce es → length clauses + 1 < length cells → IsUnwatched (cell_of cells (length clauses + 1)) → (length c < 2 → p.level ≡ 0) → ((one other : Lit) → watched ≡ Some (one, other) → AreChosen es p.level c one other) → (watched ≡ None → length c < 2) → IsAttachedTo cells new (length clauses + 1) watched → AreWatched (live clauses) (length clauses) cells es p → AreWatched (live (clauses ++ Some c ∷ [])) (length clauses + 1) new es p
 AreWatched-add clauses c cells new es p watched once room unwatched low chosen none attached w = record {
   head_within = w.head_within;
   examined_within = omega (arith, w.examined_within);
@@ -183,12 +192,12 @@ AreWatched-add clauses c cells new es p watched once room unwatched low chosen n
     late : p.examined < length clauses + 1
     late = omega (arith, w.examined_within)
 
-    same-last : (n : ℕ) (d : List Lit) → n ≡ length clauses + 1 → HasNumber (numbered (clauses ++ c ∷ [])) n d → c ≡ d
+    same-last : (n : ℕ) (d : List Lit) → n ≡ length clauses + 1 → HasNumber (live (clauses ++ Some c ∷ [])) n d → c ≡ d
     same-last n d is has =
-        let both : Some c ≡ Some d = sym (added_last clauses c).there ∙ (subst (λ k. HasNumber (numbered (clauses ++ c ∷ [])) k d) is has).there in cc
+        let both : Some c ≡ Some d = sym (added_last clauses c).there ∙ (subst (λ k. HasNumber (live (clauses ++ Some c ∷ [])) k d) is has).there in cc
 
-    before : (n : ℕ) (d : List Lit) → n ≢ length clauses + 1 → HasNumber (numbered (clauses ++ c ∷ [])) n d → HasNumber (numbered clauses) n d
-    before n d differs has = record { there = sym (others_keep clauses c n differs) ∙ has.there }
+    before : (n : ℕ) (d : List Lit) → n ≢ length clauses + 1 → HasNumber (live (clauses ++ Some c ∷ [])) n d → HasNumber (live clauses) n d
+    before n d differs has = record { there = sym (others_keep clauses (Some c) n differs) ∙ has.there }
 
     last-two : (o : Option (Lit × Lit)) → watched ≡ o → 2 ≤ length c → WatchesTwo es p (length clauses + 1) c (cell_of new (length clauses + 1))
     last-two None is two = absurd (omega (arith, two, none is))

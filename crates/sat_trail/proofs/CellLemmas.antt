@@ -1,11 +1,11 @@
 -- What a cell watches, before and after one of its watches is replaced.
-use Rattle.std.proofs.Common.{◌≡◌, ◌≢◌, ℕ, ◌+◌, ◌*◌, ◌<◌, ◌≤◌, Bool, true, false, ◌⊎◌, inl, inr, sym, ap, refl, ◌∙◌, arith}
+use Rattle.std.proofs.Common.{◌≡◌, ◌≢◌, ℕ, ◌+◌, ◌*◌, ◌<◌, ◌≤◌, Bool, true, false, ◌⊎◌, inl, inr, sym, ap, refl, ◌∙◌, subst, arith}
 use Rattle.std.specs.Prelude.{if◌then◌else◌}
 use Rattle.clause_core.specs.declared.literal.Lit.{Lit}
 use Rattle.clause_core.specs.Literal.{rank}
 use Rattle.sat_trail.specs.declared.watch.Watch.{Watch}
 use Rattle.sat_trail.specs.declared.watch.Cell.{Cell}
-use Rattle.sat_trail.specs.inner.Watches.{watch, HasLink, by_one, by_other, Watches, WatchesApart, IsPut, at_one, at_other, IsTurn, KeepsLits}
+use Rattle.sat_trail.specs.inner.Watches.{watch, HasLink, by_one, by_other, Watches, WatchesApart, IsPut, at_one, at_other, IsTurn, KeepsLits, IsWithin}
 use Rattle.sat_trail.proofs.LiteralLemmas.{same_literal}
 
 -- a cell with a link watches its literal
@@ -53,6 +53,18 @@ put-same cell l next new (at_other is same) = record { one = ap (λ (c : Cell). 
 pub KeepsLits-watches : (cell new : Cell) (m : Lit) → KeepsLits cell new → Watches new m → Watches cell m
 KeepsLits-watches cell new m keeps (inl here) = inl (sym keeps.one ∙ here)
 KeepsLits-watches cell new m keeps (inr here) = inr (sym keeps.other ∙ here)
+
+-- and of the same variables
+pub KeepsLits-within : (vars : ℕ) (cell new : Cell) → KeepsLits cell new → IsWithin vars cell → IsWithin vars new
+KeepsLits-within vars cell new keeps within = record {
+  one = subst (λ (l : Lit). l.var ≤ vars) (sym keeps.one) within.one;
+  other = subst (λ (l : Lit). l.var ≤ vars) (sym keeps.other) within.other;
+}
+
+-- a new watch of one of the variables
+pub put-within : (vars : ℕ) (cell : Cell) (l : Lit) (w : Watch) (new : Cell) → IsPut cell l w new → w.lit.var ≤ vars → IsWithin vars cell → IsWithin vars new
+put-within vars cell l w new (at_one is same) exists within = subst (IsWithin vars) (sym same) (record { one = exists; other = within.other })
+put-within vars cell l w new (at_other is same) exists within = subst (IsWithin vars) (sym same) (record { one = within.one; other = exists })
 
 -- and differ alike
 pub KeepsLits-apart : (cell new : Cell) → KeepsLits cell new → WatchesApart cell → WatchesApart new

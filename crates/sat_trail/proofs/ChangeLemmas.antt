@@ -7,10 +7,10 @@ use Rattle.clause_core.specs.Clause.{VariablesExist}
 use Rattle.clause_core.specs.Propagation.{Falsifies, LeavesOnly, IsPropagated}
 use Rattle.sat_trail.specs.declared.entry.Entry.{Entry}
 use Rattle.sat_trail.specs.Entry.{entry_of, values_of, last_level, up_to, decided}
-use Rattle.clause_core.specs.Numbering.{Numbering, numbered, HasNumber}
+use Rattle.clause_core.specs.Numbering.{Numbering, HasNumber}
 use Rattle.sat_trail.specs.Growth.{IsDecision, IsForced}
 use Rattle.sat_trail.specs.inner.Growth.{Grows, IsGrown}
-use Rattle.sat_trail.specs.State.{State}
+use Rattle.sat_trail.specs.State.{State, live}
 use Rattle.sat_trail.specs.inner.Examination.{IsSettled}
 use Rattle.sat_trail.specs.inner.Storage.{Assigned, StartsWith}
 use Rattle.sat_trail.specs.Trail.{HasTwoOpen, Adds}
@@ -29,9 +29,9 @@ use Rattle.sat_trail.proofs.LevelLemmas.{levels-rise, levels-few, IsTop, IsTop-p
 use Rattle.sat_trail.specs.inner.Propagation.{state_of}
 
 -- a decision keeps a trail that is ready
-pub IsGrown-decide : (clauses : List (List Lit)) (set : Assigned) (level : ℕ) (l : Lit) (ready : Bool) → IsTrue ready → IsGrown (state_of clauses set level ready) → 0 < l.var → l.var ≤ set.vars → values_of set.entries l.var ≡ None → IsGrown (state_of clauses (record set { entries = set.entries ++ decided l (level + 1) ∷ [] }) (level + 1) false)
+pub IsGrown-decide : (clauses : List (Option (List Lit))) (set : Assigned) (level : ℕ) (l : Lit) (ready : Bool) → IsTrue ready → IsGrown (state_of clauses set level ready) → 0 < l.var → l.var ≤ set.vars → values_of set.entries l.var ≡ None → IsGrown (state_of clauses (record set { entries = set.entries ++ decided l (level + 1) ∷ [] }) (level + 1) false)
 IsGrown-decide clauses set level l ready is_ready trail from_one exists none = record {
-  grown = Grows-append (numbered clauses) [] set.entries (decided l (level + 1) ∷ []) trail.grown
+  grown = Grows-append (live clauses) [] set.entries (decided l (level + 1) ∷ []) trail.grown
       (record { no_value = none; cause = inl (record { no_reason = refl; raises = ap (λ n. n + 1) (sym trail.level); propagated = trail.ready_propagated is_ready }) }, tt);
   level = last_level-push set.entries (decided l (level + 1));
   exist = All-push (λ e. (0 < e.lit.var) × (e.lit.var ≤ set.vars)) set.entries (decided l (level + 1)) trail.exist (from_one, exists);
@@ -40,14 +40,14 @@ IsGrown-decide clauses set level l ready is_ready trail from_one exists none = r
 }
 
 -- the parts of a trail after a decision
-pub IsKept-decide : (clauses : List (List Lit)) (cells : List Cell) (heads : List ℕ) (set new : Assigned) (level head head' examined : ℕ) (l : Lit) (ready : Bool) → IsTrue ready → IsKept clauses cells heads set level head examined ready → 0 < l.var → l.var ≤ set.vars → values_of set.entries l.var ≡ None → new ≡ record set { entries = set.entries ++ decided l (level + 1) ∷ [] } → head' ≡ length set.entries → IsKept clauses cells heads new (level + 1) head' examined false
+pub IsKept-decide : (clauses : List (Option (List Lit))) (cells : List Cell) (heads : List ℕ) (set new : Assigned) (level head head' examined : ℕ) (l : Lit) (ready : Bool) → IsTrue ready → IsKept clauses cells heads set level head examined ready → 0 < l.var → l.var ≤ set.vars → values_of set.entries l.var ≡ None → new ≡ record set { entries = set.entries ++ decided l (level + 1) ∷ [] } → head' ≡ length set.entries → IsKept clauses cells heads new (level + 1) head' examined false
 IsKept-decide clauses cells heads set new level head head' examined l ready is_ready kept from_one exists none grows at_end = rw (grows, at_end, (kept.complete is_ready).1) (record {
   few = kept.few;
   trail = IsGrown-decide clauses set level l ready is_ready kept.trail from_one exists none;
   linked = kept.linked;
-  watched = AreWatched-more (numbered clauses) (length clauses) cells set.entries (decided l (level + 1) ∷ []) (record { level = level + 1; head = length set.entries; examined = length clauses })
+  watched = AreWatched-more (live clauses) (length clauses) cells set.entries (decided l (level + 1) ∷ []) (record { level = level + 1; head = length set.entries; examined = length clauses })
       (All-one (λ e. e.level ≡ level + 1) (decided l (level + 1)) refl)
-      (AreWatched-rise (numbered clauses) (length clauses) cells set.entries (record { level = level; head = head; examined = examined }) (level + 1) (kept.complete is_ready).0 (kept.complete is_ready).1 (number-last clauses) kept.watched);
+      (AreWatched-rise (live clauses) (length clauses) cells set.entries (record { level = level; head = head; examined = examined }) (level + 1) (kept.complete is_ready).0 (kept.complete is_ready).1 (number-last clauses) kept.watched);
   complete = λ impossible. cc;
 })
   where
@@ -56,8 +56,8 @@ IsKept-decide clauses cells heads set new level head head' examined l ready is_r
     All-one P e holds (suc k) d within = absurd (omega arith)
 
 -- the next level is still a number of 32 bits
-pub level-fits : (clauses : List (List Lit)) (set : Assigned) (level : ℕ) (ready : Bool) → IsGrown (state_of clauses set level ready) → level ≤ length set.entries
-level-fits clauses set level ready trail = subst (λ n. n ≤ length set.entries) trail.level (levels-few (numbered clauses) [] set.entries trail.grown (omega arith))
+pub level-fits : (clauses : List (Option (List Lit))) (set : Assigned) (level : ℕ) (ready : Bool) → IsGrown (state_of clauses set level ready) → level ≤ length set.entries
+level-fits clauses set level ready trail = subst (λ n. n ≤ length set.entries) trail.level (levels-few (live clauses) [] set.entries trail.grown (omega arith))
 
 -- a literal that is open at the last level had no value before the decision of that level
 open-before : (before rest : List Entry) (e : Entry) (level : ℕ) (l : Lit) (o : Option Entry) → entry_of before l.var ≡ o → IsTop before → last_level before < level → IfSome (entry_of (before ++ e ∷ rest) l.var) (λ d. d.level ≡ level) → values_of before l.var ≡ None
@@ -144,14 +144,14 @@ open-clause t clause is_open = elim is_open [
 ]
 
 -- below the first entry that is taken out a level is complete, and propagation had nothing to do
-back_to-parts : (clauses : List (List Lit)) (old kept : List Entry) (first : Entry) (rest : List Entry) (level : ℕ) → Grows (numbered clauses) [] old → old ≡ kept ++ first ∷ rest → last_level kept ≤ level → level < first.level → (Grows (numbered clauses) [] kept) × (last_level kept ≡ level) × IsPropagated (values_of kept) (numbered clauses)
+back_to-parts : (clauses : List (Option (List Lit))) (old kept : List Entry) (first : Entry) (rest : List Entry) (level : ℕ) → Grows (live clauses) [] old → old ≡ kept ++ first ∷ rest → last_level kept ≤ level → level < first.level → (Grows (live clauses) [] kept) × (last_level kept ≡ level) × IsPropagated (values_of kept) (live clauses)
 back_to-parts clauses old kept first rest level follows whole low high =
-    let parts = Grows-split (numbered clauses) [] kept (first ∷ rest) (subst (Grows (numbered clauses) []) whole follows) in
-    let last = decision-above (numbered clauses) kept first level parts.1.0 low high in
+    let parts = Grows-split (live clauses) [] kept (first ∷ rest) (subst (Grows (live clauses) []) whole follows) in
+    let last = decision-above (live clauses) kept first level parts.1.0 low high in
     (parts.0, last.0, last.1)
 
 -- the parts of a trail after the way back, by what was taken out
-IsKept-dropped : (clauses : List (List Lit)) (cells : List Cell) (heads : List ℕ) (old new : Assigned) (level level' head examined : ℕ) (ready : Bool) (dropped : List Entry) → IsKept clauses cells heads old level head examined ready → level' < level → new.vars ≡ old.vars → old.entries ≡ new.entries ++ dropped → All (λ e. level' < e.level) dropped → last_level new.entries ≤ level' → IsKept clauses cells heads new level' (length new.entries) examined false
+IsKept-dropped : (clauses : List (Option (List Lit))) (cells : List Cell) (heads : List ℕ) (old new : Assigned) (level level' head examined : ℕ) (ready : Bool) (dropped : List Entry) → IsKept clauses cells heads old level head examined ready → level' < level → new.vars ≡ old.vars → old.entries ≡ new.entries ++ dropped → All (λ e. level' < e.level) dropped → last_level new.entries ≤ level' → IsKept clauses cells heads new level' (length new.entries) examined false
 IsKept-dropped clauses cells heads old new level level' head examined ready [] kept lower vars whole above low =
     absurd (omega (arith, ap last_level (whole ∙ append-nil new.entries), kept.trail.level))
 IsKept-dropped clauses cells heads old new level level' head examined ready (first ∷ rest) kept lower vars whole above low = record {
@@ -166,40 +166,40 @@ IsKept-dropped clauses cells heads old new level level' head examined ready (fir
     ready_propagated = λ impossible. cc;
   };
   linked = subst (λ v. AreLinked v cells heads) (sym vars) kept.linked;
-  watched = AreWatched-back (numbered clauses) (length clauses) cells new.entries (first ∷ rest) (record { level = level; head = head; examined = examined }) level' lower
-      (subst (λ n. All (λ e. e.level ≤ n) new.entries) parts.1 (IsTop-grown (numbered clauses) [] new.entries parts.0 IsTop-none)) above
-      (subst (λ es. AreWatched (numbered clauses) (length clauses) cells es (record { level = level; head = head; examined = examined })) whole kept.watched);
+  watched = AreWatched-back (live clauses) (length clauses) cells new.entries (first ∷ rest) (record { level = level; head = head; examined = examined }) level' lower
+      (subst (λ n. All (λ e. e.level ≤ n) new.entries) parts.1 (IsTop-grown (live clauses) [] new.entries parts.0 IsTop-none)) above
+      (subst (λ es. AreWatched (live clauses) (length clauses) cells es (record { level = level; head = head; examined = examined })) whole kept.watched);
   complete = λ impossible. cc;
 }
   where
-    parts : (Grows (numbered clauses) [] new.entries) × (last_level new.entries ≡ level') × IsPropagated (values_of new.entries) (numbered clauses)
+    parts : (Grows (live clauses) [] new.entries) × (last_level new.entries ≡ level') × IsPropagated (values_of new.entries) (live clauses)
     parts = back_to-parts clauses old.entries new.entries first rest level' kept.trail.grown whole low (All-head (λ e. level' < e.level) first rest above)
 
 -- the parts of a trail after the way back
-pub IsKept-back : (clauses : List (List Lit)) (cells : List Cell) (heads : List ℕ) (old new : Assigned) (level level' head head' examined : ℕ) (ready : Bool) → IsKept clauses cells heads old level head examined ready → level' < level → StartsWith level' old new → last_level new.entries ≤ level' → head' ≡ length new.entries → IsKept clauses cells heads new level' head' examined false
+pub IsKept-back : (clauses : List (Option (List Lit))) (cells : List Cell) (heads : List ℕ) (old new : Assigned) (level level' head head' examined : ℕ) (ready : Bool) → IsKept clauses cells heads old level head examined ready → level' < level → StartsWith level' old new → last_level new.entries ≤ level' → head' ≡ length new.entries → IsKept clauses cells heads new level' head' examined false
 IsKept-back clauses cells heads old new level level' head head' examined ready kept lower begins low at_end =
     rw at_end (IsKept-dropped clauses cells heads old new level level' head examined ready begins.dropped kept lower begins.vars begins.whole begins.above low)
 
 -- the entries after the way back are those up to the level
-back_to-entries : (clauses : List (List Lit)) (cells : List Cell) (heads : List ℕ) (old new : Assigned) (level' head' examined : ℕ) → IsKept clauses cells heads new level' head' examined false → StartsWith level' old new → up_to level' old.entries ≡ new.entries
+back_to-entries : (clauses : List (Option (List Lit))) (cells : List Cell) (heads : List ℕ) (old new : Assigned) (level' head' examined : ℕ) → IsKept clauses cells heads new level' head' examined false → StartsWith level' old new → up_to level' old.entries ≡ new.entries
 back_to-entries clauses cells heads old new level' head' examined kept begins =
     ap (up_to level') begins.whole ∙ up_to-both level' new.entries begins.dropped
-    (subst (λ n. All (λ e. e.level ≤ n) new.entries) kept.trail.level (IsTop-grown (numbered clauses) [] new.entries kept.trail.grown IsTop-none)) begins.above
+    (subst (λ n. All (λ e. e.level ≤ n) new.entries) kept.trail.level (IsTop-grown (live clauses) [] new.entries kept.trail.grown IsTop-none)) begins.above
 
 -- no entry is above the last level
-pub back_to-same : (clauses : List (List Lit)) (set : Assigned) (level : ℕ) (ready : Bool) → IsGrown (state_of clauses set level ready) → up_to level set.entries ≡ set.entries
+pub back_to-same : (clauses : List (Option (List Lit))) (set : Assigned) (level : ℕ) (ready : Bool) → IsGrown (state_of clauses set level ready) → up_to level set.entries ≡ set.entries
 back_to-same clauses set level ready trail = up_to-low level set.entries
-    (subst (λ n. All (λ e. e.level ≤ n) set.entries) trail.level (IsTop-grown (numbered clauses) [] set.entries trail.grown IsTop-none))
+    (subst (λ n. All (λ e. e.level ≤ n) set.entries) trail.level (IsTop-grown (live clauses) [] set.entries trail.grown IsTop-none))
 
 -- what contracts see after the way back
-pub back_to-state : (clauses : List (List Lit)) (cells : List Cell) (heads : List ℕ) (old new : Assigned) (level level' head' examined : ℕ) (ready : Bool) → IsKept clauses cells heads new level' head' examined false → StartsWith level' old new → state_of clauses new level' false ≡ record (state_of clauses old level ready) { entries = up_to level' old.entries; level = level'; ready = false }
+pub back_to-state : (clauses : List (Option (List Lit))) (cells : List Cell) (heads : List ℕ) (old new : Assigned) (level level' head' examined : ℕ) (ready : Bool) → IsKept clauses cells heads new level' head' examined false → StartsWith level' old new → state_of clauses new level' false ≡ record (state_of clauses old level ready) { entries = up_to level' old.entries; level = level'; ready = false }
 back_to-state clauses cells heads old new level level' head' examined ready kept begins =
     ap (λ vars. let s : State = record { vars = vars; clauses = clauses; entries = new.entries; level = level'; ready = false } in s) begins.vars
     ∙ ap (λ es. let s : State = record { vars = old.vars; clauses = clauses; entries = es; level = level'; ready = false } in s)
     (sym (back_to-entries clauses cells heads old new level' head' examined kept begins))
 
 -- a trail that is no longer ready
-pub IsKept-unready : (clauses : List (List Lit)) (cells : List Cell) (heads : List ℕ) (set : Assigned) (level head examined : ℕ) (ready : Bool) → IsKept clauses cells heads set level head examined ready → IsKept clauses cells heads set level head examined false
+pub IsKept-unready : (clauses : List (Option (List Lit))) (cells : List Cell) (heads : List ℕ) (set : Assigned) (level head examined : ℕ) (ready : Bool) → IsKept clauses cells heads set level head examined ready → IsKept clauses cells heads set level head examined false
 IsKept-unready clauses cells heads set level head examined ready kept = record {
   few = kept.few;
   trail = record { grown = kept.trail.grown; level = kept.trail.level; exist = kept.trail.exist; clauses_exist = kept.trail.clauses_exist; ready_propagated = λ impossible. cc };
@@ -209,25 +209,25 @@ IsKept-unready clauses cells heads set level head examined ready kept = record {
 }
 
 -- what contracts see of an addition
-pub Adds-push : (old : State) (clause : List Lit) (new : State) (number : ℕ) → new ≡ record old { clauses = old.clauses ++ clause ∷ []; ready = false } → number ≡ length new.clauses → Adds old clause new number
+pub Adds-push : (old : State) (clause : List Lit) (new : State) (number : ℕ) → new ≡ record old { clauses = old.clauses ++ Some clause ∷ []; ready = false } → number ≡ length new.clauses → Adds old clause new number
 Adds-push old clause new number grows counted = rw grows (record {
   next = next;
   last = sym whole ∙ sym next;
-  has_number = subst (λ n. HasNumber (numbered (old.clauses ++ clause ∷ [])) n clause) (sym next) (added_last old.clauses clause);
-  others = λ n other. others_keep old.clauses clause n (λ same. other (same ∙ sym next));
+  has_number = subst (λ n. HasNumber (live (old.clauses ++ Some clause ∷ [])) n clause) (sym next) (added_last old.clauses clause);
+  others = λ n other. others_keep old.clauses (Some clause) n (λ same. other (same ∙ sym next));
   rest = refl;
 })
   where
-    whole : length old.clauses + 1 ≡ length (old.clauses ++ clause ∷ [])
-    whole = omega (arith, length-append old.clauses (clause ∷ []))
+    whole : length old.clauses + 1 ≡ length (old.clauses ++ Some clause ∷ [])
+    whole = omega (arith, length-append old.clauses (Some clause ∷ []))
 
     next : number ≡ length old.clauses + 1
     next = counted ∙ ap (λ (s : State). length s.clauses) grows ∙ sym whole
 
 -- a trail with one clause more that is open
-pub IsGrown-add : (clauses : List (List Lit)) (set : Assigned) (level : ℕ) (ready : Bool) (clause : List Lit) → IsGrown (state_of clauses set level ready) → VariablesExist set.vars clause → (level ≡ 0) ⊎ HasTwoOpen (state_of clauses set level ready) clause → IsGrown (state_of (clauses ++ clause ∷ []) set level false)
+pub IsGrown-add : (clauses : List (Option (List Lit))) (set : Assigned) (level : ℕ) (ready : Bool) (clause : List Lit) → IsGrown (state_of clauses set level ready) → VariablesExist set.vars clause → (level ≡ 0) ⊎ HasTwoOpen (state_of clauses set level ready) clause → IsGrown (state_of (clauses ++ Some clause ∷ []) set level false)
 IsGrown-add clauses set level ready clause trail exist is_open = record {
-  grown = Grows-add (numbered clauses) clause (numbered (clauses ++ clause ∷ [])) [] set.entries level (Widens-push clauses clause) trail.grown IsTop-none trail.level (open-clause (state_of clauses set level ready) clause is_open);
+  grown = Grows-add (live clauses) clause (live (clauses ++ Some clause ∷ [])) [] set.entries level (Widens-push clauses clause) trail.grown IsTop-none trail.level (open-clause (state_of clauses set level ready) clause is_open);
   level = trail.level;
   exist = trail.exist;
   clauses_exist = λ n c has. elim ((Widens-push clauses clause).only n c has) [

@@ -3,7 +3,7 @@ use Rattle.std.proofs.Common.{◌≡◌, ◌≢◌, ℕ, ◌+◌, ◌<◌, ◌�
 use Rattle.std.proofs.lemmas.List.{take_more, take_all}
 use Rattle.std.proofs.lemmas.List.Elements.{Contains-push, Contains-push_cases, Contains-get_or}
 use Rattle.clause_core.specs.declared.literal.Lit.{Lit}
-use Rattle.clause_core.specs.Numbering.{numbered}
+use Rattle.sat_trail.specs.State.{live}
 use Rattle.clause_core.specs.Propagation.{MakesFalse, OthersFalse, LeavesOnly, IsFalsified}
 use Rattle.sat_trail.specs.declared.entry.Entry.{Entry}
 use Rattle.sat_trail.specs.Entry.{values_of}
@@ -23,11 +23,11 @@ value-none (Some d) b other opposite = elim (cases_bool d b) [
 ]
 
 -- the literal is the only one that is left
-leaves-last : (clauses : List (List Lit)) (es : List Entry) (number : ℕ) (l : Lit) (left : IsLastLeft clauses es number l) → values_of es l.var ≡ None → LeavesOnly (values_of es) left.clause l
+leaves-last : (clauses : List (Option (List Lit))) (es : List Entry) (number : ℕ) (l : Lit) (left : IsLastLeft clauses es number l) → values_of es l.var ≡ None → LeavesOnly (values_of es) left.clause l
 leaves-last clauses es number l left none = record { among = left.among; no_value = none; others = left.others }
 
 -- the last literal that is left is set
-pub Extends-last : (clauses : List (List Lit)) (level number : ℕ) (l : Lit) (old new : Assigned) → IsLastLeft clauses old.entries number l → values_of old.entries l.var ≡ None → CanPropagate clauses old level → new ≡ record old { entries = old.entries ++ forced_entry l level number ∷ [] } → Extends clauses level old new
+pub Extends-last : (clauses : List (Option (List Lit))) (level number : ℕ) (l : Lit) (old new : Assigned) → IsLastLeft clauses old.entries number l → values_of old.entries l.var ≡ None → CanPropagate clauses old level → new ≡ record old { entries = old.entries ++ forced_entry l level number ∷ [] } → Extends clauses level old new
 Extends-last clauses level number l old new left none fits grows =
     Extends-force clauses level number left.clause l old new fits.reached left.has_number (leaves-last clauses old.entries number l left none)
     (CanPropagate-exists clauses old level number left.clause l fits left.has_number left.among) grows
@@ -38,7 +38,7 @@ IsTrueBy-last level number l old new grows = subst (λ (s : Assigned). IsTrueBy 
     (record { entry = forced_entry l level number; among = Contains-push old.entries (forced_entry l level number); sets = refl; low = omega arith })
 
 -- if the last literal is false too, the clause is false
-pub IsFalsified-last : (clauses : List (List Lit)) (es : List Entry) (number : ℕ) (l : Lit) → IsLastLeft clauses es number l → MakesFalse (values_of es) l → IsFalsified (numbered clauses) (values_of es) number
+pub IsFalsified-last : (clauses : List (Option (List Lit))) (es : List Entry) (number : ℕ) (l : Lit) → IsLastLeft clauses es number l → MakesFalse (values_of es) l → IsFalsified (live clauses) (values_of es) number
 IsFalsified-last clauses es number l left fails = record {
   clause = left.clause;
   has_number = left.has_number;

@@ -1,5 +1,6 @@
 mod EntryLemmas
 mod NumberLemmas
+mod StoreLemmas
 mod LiteralLemmas
 mod CellLemmas
 mod ChainLemmas
@@ -20,3 +21,4 @@ mod ChangeLemmas
 mod ChoiceLemmas
 mod AttachLemmas
 mod AdditionLemmas
+mod RemovalLemmas

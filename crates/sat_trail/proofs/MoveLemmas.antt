@@ -5,10 +5,10 @@ use Rattle.list_base.proofs.Members.{here, here_same, there, cons_cases}
 use Rattle.clause_core.specs.declared.literal.Lit.{Lit}
 use Rattle.clause_core.specs.Literal.{rank}
 use Rattle.sat_trail.specs.declared.watch.Cell.{Cell}
-use Rattle.sat_trail.specs.inner.Watches.{blank, cell_of, watch, HasLink, Watches, WatchesApart, IsPut, head_of, IsChain, IsBefore, IsDistinct, joined, last_of, IsListed, KeepsLits}
+use Rattle.sat_trail.specs.inner.Watches.{blank, cell_of, watch, HasLink, Watches, WatchesApart, IsPut, head_of, IsChain, IsBefore, IsDistinct, joined, last_of, IsListed, KeepsLits, IsWithin}
 use Rattle.sat_trail.specs.inner.Walk.{IsWalk, AreOthersListed, SetsLink, at_head, at_cell, PutsFront, MovesWatch, Walks, IsNewWatch}
 use Rattle.sat_trail.proofs.LiteralLemmas.{cases_literal}
-use Rattle.sat_trail.proofs.CellLemmas.{put-link, put-here, put-watched, put-leaves, put-apart, put-same, KeepsLits-watches, KeepsLits-apart, KeepsLits-same, rank-only}
+use Rattle.sat_trail.proofs.CellLemmas.{put-link, put-here, put-watched, put-leaves, put-apart, put-same, KeepsLits-watches, KeepsLits-within, put-within, KeepsLits-apart, KeepsLits-same, rank-only}
 use Rattle.sat_trail.proofs.ChainLemmas.{joined-left, joined-right, joined-cases, distinct-right, distinct-apart, distinct-last, distinct-weaker, chain-frame, before-frame, chain-member, before-member, walk-rest, walk-member}
 
 -- what the clause before keeps while its link is set
@@ -198,10 +198,21 @@ moving-to vars cells mid new heads mid_heads new_heads l to before number next m
 
 -- each list but that of the walk
 moving-others : (vars : ℕ) (cells mid new : List Cell) (heads mid_heads new_heads : List ℕ) (l to : Lit) (before number next : ℕ) → IsMoving vars cells mid new heads mid_heads new_heads l to before number next → AreOthersListed vars cells heads l → AreOthersListed vars new new_heads l
-moving-others vars cells mid new heads mid_heads new_heads l to before number next m listed k from_one exists other = elim (cases_literal k to) [
-  | inl is ↦ subst (IsListed new new_heads) (sym is) (moving-to vars cells mid new heads mid_heads new_heads l to before number next m (listed to m.new_watch.from_one m.new_watch.exists m.differs))
-  | inr not_to ↦ moving-listed vars cells mid new heads mid_heads new_heads l to before number next k m other not_to (listed k from_one exists other)
-]
+moving-others vars cells mid new heads mid_heads new_heads l to before number next m others = record {
+  listed = λ k from_one exists other. elim (cases_literal k to) [
+    | inl is ↦ subst (IsListed new new_heads) (sym is)
+        (moving-to vars cells mid new heads mid_heads new_heads l to before number next m
+        (others.listed to (subst (λ (j : Lit). 0 < j.var) is from_one) m.new_watch.exists m.differs))
+    | inr not_to ↦ moving-listed vars cells mid new heads mid_heads new_heads l to before number next k m other not_to (others.listed k from_one exists other)
+  ];
+  within = λ n. elim (cases_eq n number) [
+    | inl is ↦ subst (λ i. IsWithin vars (cell_of new i)) (sym is)
+        (put-within vars (cell_of cells number) l (watch to (head_of heads to)) (cell_of new number)
+        (moving-cell vars cells mid new heads mid_heads new_heads l to before number next m) m.new_watch.exists (others.within number))
+    | inr differs ↦ KeepsLits-within vars (cell_of cells n) (cell_of new n)
+        (moving-lits vars cells mid new heads mid_heads new_heads l to before number next n m differs) (others.within n)
+  ];
+}
 
 -- the walk goes on with the next clause
 moving-walk : (vars : ℕ) (cells mid new : List Cell) (heads mid_heads new_heads : List ℕ) (l to : Lit) (before number next : ℕ) → IsMoving vars cells mid new heads mid_heads new_heads l to before number next → (passed rest : List ℕ) → IsWalk cells heads l passed (number ∷ rest) before number → IsWalk new new_heads l passed rest before next

@@ -84,8 +84,8 @@ false-untrue es head l once at_head holds =
     true-false (values_of es l.var) l.positive holds (value-false es head at_head.entry l once at_head.there at_head.fails)
 
 -- what clauses watch after a move
-pub AreWatched-moved : (numbering : Numbering) (last vars : ℕ) (cells new : List Cell) (heads new_heads : List ℕ) (es : List Entry) (level head : ℕ) (l kept to : Lit) (before number next : ℕ) → IsOnce es → IsFalseAt es head l → 0 < l.var → 0 < to.var → ((n : ℕ) (c : List Lit) → HasNumber numbering n c → n ≤ last) → IsReplaced es numbering cells number l kept to → MovesWatch vars cells new heads new_heads l to before number next → AreWatched numbering last cells es (record { level = level; head = head; examined = last }) → AreWatched numbering last new es (record { level = level; head = head; examined = last })
-AreWatched-moved numbering last vars cells new heads new_heads es level head l kept to before number next once at_head from_one to_from_one numbers r moves watched = record {
+pub AreWatched-moved : (numbering : Numbering) (last vars : ℕ) (cells new : List Cell) (heads new_heads : List ℕ) (es : List Entry) (level head : ℕ) (l kept to : Lit) (before number next : ℕ) → IsOnce es → IsFalseAt es head l → 0 < l.var → ((n : ℕ) (c : List Lit) → HasNumber numbering n c → n ≤ last) → IsReplaced es numbering cells number l kept to → MovesWatch vars cells new heads new_heads l to before number next → AreWatched numbering last cells es (record { level = level; head = head; examined = last }) → AreWatched numbering last new es (record { level = level; head = head; examined = last })
+AreWatched-moved numbering last vars cells new heads new_heads es level head l kept to before number next once at_head from_one numbers r moves watched = record {
   head_within = watched.head_within;
   examined_within = watched.examined_within;
   room = omega (arith, watched.room, moves.as_many);
@@ -116,3 +116,27 @@ AreWatched-moved numbering last vars cells new heads new_heads es level head l k
   where
     p : Progress
     p = record { level = level; head = head; examined = last }
+
+-- what clauses watch after one without a clause left a list
+pub AreWatched-left : (numbering : Numbering) (last vars : ℕ) (cells new : List Cell) (heads new_heads : List ℕ) (es : List Entry) (p : Progress) (l to : Lit) (before number next : ℕ) → 0 < l.var → Watches (cell_of cells number) l → ((c : List Lit) → HasNumber numbering number c → ⊥) → MovesWatch vars cells new heads new_heads l to before number next → AreWatched numbering last cells es p → AreWatched numbering last new es p
+AreWatched-left numbering last vars cells new heads new_heads es p l to before number next from_one watches gone moves watched = record {
+  head_within = watched.head_within;
+  examined_within = watched.examined_within;
+  room = omega (arith, watched.room, moves.as_many);
+  waiting = watched.waiting;
+  long = λ n c has two. two-same es p n c (cell_of cells n) (cell_of new n) (moves.others n (other n c has)) (watched.long n c has two);
+  short = λ n c has few.
+      let w = watched.short n c has few in
+      record {
+        none = λ k some seen. w.none k some (KeepsLits-watches (cell_of cells n) (cell_of new n) k (moves.others n (other n c has)) seen);
+        old = w.old;
+        new = w.new;
+      };
+  only = λ n k some seen. elim (cases_eq n number) [
+    | inl is ↦ subst (λ j. (0 < j) × (j ≤ last)) (sym is) (watched.only number l from_one watches)
+    | inr differs ↦ watched.only n k some (KeepsLits-watches (cell_of cells n) (cell_of new n) k (moves.others n differs) seen)
+  ];
+}
+  where
+    other : (n : ℕ) (c : List Lit) → HasNumber numbering n c → n ≢ number
+    other n c has is = gone c (subst (λ k. HasNumber numbering k c) is has)

@@ -1,15 +1,13 @@
 -- When a clause is settled, and how that lasts.
-use Rattle.std.proofs.Common.{◌≡◌, ◌≢◌, ℕ, ◌+◌, ◌<◌, ◌≤◌, Bool, true, false, not, Option, Some, None, List, [], ◌∷◌, inl, inr, length, take, drop, get_or, is_some, sym, ap, refl, ◌∙◌, subst, arith, All, Contains}
+use Rattle.std.proofs.Common.{◌≡◌, ◌≢◌, ℕ, ◌+◌, ◌<◌, ◌≤◌, Bool, true, false, not, Option, Some, None, List, [], ◌∷◌, inl, inr, length, take, drop, get_or, is_some, sym, ap, refl, ◌∙◌, subst, arith, Contains}
 use Rattle.std.proofs.lemmas.List.{take_more, take_all, take-append-drop, get_or-take, get_or_default, length-take-le}
 use Rattle.std.proofs.lemmas.List.Elements.{All-contains, All-more, Contains-append_left, Contains-push, Contains-push_cases, Contains-get_or}
 use mathlib.Core.Bool.{beq}
 use Rattle.clause_core.specs.declared.literal.Lit.{Lit}
 use Rattle.clause_core.specs.Literal.{rank}
 use Rattle.clause_core.specs.Clause.{IsAscending}
-use Rattle.clause_core.specs.Propagation.{MakesFalse, Falsifies, OthersFalse, LeavesOnly, IsPropagated}
-use Rattle.clause_core.specs.Numbering.{numbered}
+use Rattle.clause_core.specs.Propagation.{MakesFalse, Falsifies, OthersFalse, LeavesOnly}
 use Rattle.sat_trail.specs.inner.Examination.{IsSettled}
-use Rattle.sat_trail.proofs.NumberLemmas.{number_all}
 use Rattle.sat_trail.proofs.LiteralLemmas.{cases_bool, cases_literal, not-differs}
 
 -- a value that is given is not missing
@@ -69,13 +67,6 @@ IsSettled-no_false values clause settled falsified =
 pub IsSettled-no_unit : (values : ℕ → Option Bool) (clause : List Lit) (l : Lit) → IsSettled values values clause → ¬ LeavesOnly values clause l
 IsSettled-no_unit values clause l settled leaves =
     some-none (values l.var) l.positive (settled.last_true l leaves.among leaves.others) leaves.no_value
-
--- if all clauses are settled, unit propagation has nothing to do
-pub IsPropagated-settled : (values : ℕ → Option Bool) (clauses : List (List Lit)) → All (IsSettled values values) clauses → IsPropagated values (numbered clauses)
-IsPropagated-settled values clauses settled = record {
-  no_false = λ n c has. IsSettled-no_false values c (number_all (IsSettled values values) clauses n c settled has);
-  no_unit = λ n c l has. IsSettled-no_unit values c l (number_all (IsSettled values values) clauses n c settled has);
-}
 
 -- the literal is false, and so are the others
 all_false_by : (values : ℕ → Option Bool) (clause : List Lit) (l m : Lit) → MakesFalse values l → OthersFalse values clause l → Contains clause m → MakesFalse values m

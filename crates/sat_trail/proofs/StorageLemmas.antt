@@ -1,7 +1,7 @@
 -- What the cells keep when an entry is set or taken out.
-use Rattle.std.proofs.Common.{option_map, ◌≡◌, ◌≢◌, ℕ, zero, suc, ◌+◌, ◌-◌, ◌<◌, ◌≤◌, Bool, true, false, Option, Some, None, List, [], ◌∷◌, ◌++◌, inl, inr, length, take, get_or, set, sym, ap, refl, ◌∙◌, subst, append_assoc, arith, is_some, AllPairs, Contains, cond, length-set, get_or-set_same, get_or-set_other}
+use Rattle.std.proofs.Common.{option_map, ◌≡◌, ◌≢◌, ℕ, zero, suc, ◌+◌, ◌-◌, ◌<◌, ◌≤◌, ◌↔◌, Bool, true, false, not, IsTrue, Option, Some, None, List, [], ◌∷◌, ◌++◌, inl, inr, length, take, get_or, set, sym, ap, refl, ◌∙◌, subst, append_assoc, arith, is_some, AllPairs, Contains, cond, length-set, get_or-set_same, get_or-set_other}
 use Rattle.std.specs.List.{count_by}
-use Rattle.std.proofs.lemmas.Bool.{cases_eq}
+use Rattle.std.proofs.lemmas.Bool.{cases_eq, false≢true}
 use Rattle.std.proofs.lemmas.List.{get_or_append_left, get_or_push, length_push, length-take-le, take_more, take_more_set, take_all, get_or_default}
 use Rattle.std.proofs.lemmas.List.Elements.{All-push, All-cons, All-contains, Contains-push}
 use Rattle.std.proofs.lemmas.List.Quantifiers.{all_pairs_push}
@@ -108,16 +108,49 @@ Agrees-pop es cells e agrees from_one exists = record {
     full = ap (λ (o : Option Entry). weight (is_some o)) (agrees.found (e.lit.var - 1) (omega arith) ∙ ap (entry_of (es ++ e ∷ [])) (let same : e.lit.var - 1 + 1 ≡ e.lit.var = omega arith in same) ∙ entry_of-push_same es e missing)
 
 -- a value and a cell that are written agree
-HasValues-set : (cells : List (Option Entry)) (values : List Value) (i : ℕ) (o : Option Entry) (value : Value) → HasValues cells values → i < length cells → seen value ≡ option_map (λ (e : Entry). e.lit.positive) o → HasValues (set cells i o) (set values i value)
-HasValues-set cells values i o value valued within is_seen = record {
-  many = length-set values i value ∙ valued.many ∙ sym (length-set cells i o);
-  same = λ v v_within. elim (cases_eq v i) [
-    | inl is ↦ rw is (ap seen (get_or-set_same values i value Unset (omega (arith, within, valued.many))) ∙ is_seen
-        ∙ sym (ap (option_map (λ (e : Entry). e.lit.positive)) (get_or-set_same cells i o None within)))
-    | inr differs ↦ ap seen (get_or-set_other values i v value Unset differs) ∙ valued.same v (omega (arith, v_within, length-set cells i o))
-        ∙ sym (ap (option_map (λ (e : Entry). e.lit.positive)) (get_or-set_other cells i v o None differs))
+HasValues-set : (cells : List (Option Entry)) (values : List Value) (n : ℕ) (o : Option Entry) (value : Value) → HasValues cells values → 0 < n → n ≤ length cells → seen value ≡ option_map (λ (e : Entry). e.lit.positive) o → HasValues (set cells (n - 1) o) (set values n value)
+HasValues-set cells values n o value valued from_one exists is_seen = record {
+  many = omega (arith, length-set values n value, valued.many, length-set cells (n - 1) o);
+  none = get_or-set_other values n 0 value Unset (λ same. omega (arith, same, from_one)) ∙ valued.none;
+  same = λ v v_within. elim (cases_eq (v + 1) n) [
+    | inl is ↦ ap (λ k. seen (get_or (set values n value) k Unset)) is ∙ ap seen (get_or-set_same values n value Unset (omega (arith, exists, valued.many))) ∙ is_seen
+        ∙ sym (ap (λ k. option_map (λ (e : Entry). e.lit.positive) (get_or (set cells (n - 1) o) k None)) (let back : v ≡ n - 1 = omega (arith, is) in back)
+        ∙ ap (option_map (λ (e : Entry). e.lit.positive)) (get_or-set_same cells (n - 1) o None (omega (arith, from_one, exists))))
+    | inr differs ↦ ap seen (get_or-set_other values n (v + 1) value Unset differs) ∙ valued.same v (omega (arith, v_within, length-set cells (n - 1) o))
+        ∙ sym (ap (option_map (λ (e : Entry). e.lit.positive)) (get_or-set_other cells (n - 1) v o None (λ same. differs (omega (arith, same, from_one)))))
   ];
 }
+
+-- the stored value of a variable, and of variable 0, which has none
+pub value-stored : (slots : List Entry) (len : ℕ) (cells : List (Option Entry)) (values : List Value) (v : ℕ) → IsStored slots len cells values → v ≤ length cells → seen (get_or values v Unset) ≡ values_of (take len slots) v
+value-stored slots len cells values v stored exists = elim (cases_eq v 0) [
+  | inl is ↦ rw is (ap seen stored.valued.none
+      ∙ sym (ap (option_map (λ (e : Entry). e.lit.positive)) (entry_of-absent (take len slots) 0 (λ k d within same. omega (arith, same, (stored.agrees.exist k d within).0)))))
+  | inr some ↦
+      let back : v - 1 + 1 ≡ v = omega (arith, some) in
+      let within : v - 1 < length cells = omega (arith, some, exists) in
+      subst (λ k. seen (get_or values k Unset) ≡ values_of (take len slots) k) back
+      (stored.valued.same (v - 1) within ∙ ap (option_map (λ (e : Entry). e.lit.positive)) (stored.agrees.found (v - 1) within))
+]
+
+-- what was read of the values
+pub value-read : (slots : List Entry) (len : ℕ) (cells : List (Option Entry)) (values : List Value) (v : ℕ) (w : Value) → IsStored slots len cells values → v ≤ length cells → w ≡ get_or values v w → seen w ≡ values_of (take len slots) v
+value-read slots len cells values v w stored exists read =
+    ap seen (read ∙ get_or_default values v w Unset (omega (arith, exists, stored.valued.many))) ∙ value-stored slots len cells values v stored exists
+
+-- a literal whose variable has no value is not true
+pub true-unset : (o : Option Bool) (b : Bool) → None ≡ o → IsTrue false ↔ (o ≡ Some b)
+true-unset o b is = (λ yes. absurd (false≢true yes), λ holds. absurd (let clash : None ≡ Some b = is ∙ holds in cc))
+
+-- a literal whose variable is false is true if it is negative
+pub true-false : (o : Option Bool) (b : Bool) → Some false ≡ o → IsTrue (not b) ↔ (o ≡ Some b)
+true-false o true is = (λ yes. absurd (false≢true yes), λ holds. absurd (let clash : Some false ≡ Some true = is ∙ holds in cc))
+true-false o false is = (λ yes. sym is, λ holds. refl)
+
+-- a literal whose variable is true is true if it is positive
+pub true-true : (o : Option Bool) (b : Bool) → Some true ≡ o → IsTrue b ↔ (o ≡ Some b)
+true-true o true is = (λ yes. sym is, λ holds. refl)
+true-true o false is = (λ yes. absurd (false≢true yes), λ holds. absurd (let clash : Some true ≡ Some false = is ∙ holds in cc))
 
 -- what is stored leaves room while a variable has no value
 pub HasRoom-stored : (slots : List Entry) (len : ℕ) (cells : List (Option Entry)) (values : List Value) → IsStored slots len cells values → HasRoom (record { vars = length cells; entries = take len slots })
@@ -132,13 +165,13 @@ slot_within slots len cells values v stored from_one exists none =
     omega (arith, room (take len slots) cells v stored.agrees from_one exists none, length-take-le len slots stored.filled, stored.room)
 
 -- one more entry is stored after the others
-pub IsStored-push : (slots : List Entry) (len : ℕ) (cells : List (Option Entry)) (values : List Value) (e : Entry) (value : Value) → IsStored slots len cells values → 0 < e.lit.var → e.lit.var ≤ length cells → values_of (take len slots) e.lit.var ≡ None → seen value ≡ Some e.lit.positive → IsStored (set slots len e) (len + 1) (set cells (e.lit.var - 1) (Some e)) (set values (e.lit.var - 1) value)
+pub IsStored-push : (slots : List Entry) (len : ℕ) (cells : List (Option Entry)) (values : List Value) (e : Entry) (value : Value) → IsStored slots len cells values → 0 < e.lit.var → e.lit.var ≤ length cells → values_of (take len slots) e.lit.var ≡ None → seen value ≡ Some e.lit.positive → IsStored (set slots len e) (len + 1) (set cells (e.lit.var - 1) (Some e)) (set values e.lit.var value)
 IsStored-push slots len cells values e value stored from_one exists none is_seen = record {
   room = length-set slots len e ∙ stored.room ∙ sym (length-set cells (e.lit.var - 1) (Some e));
   few = rw (length-set cells (e.lit.var - 1) (Some e)) stored.few;
   filled = omega (arith, within, length-set slots len e);
   agrees = rw (take_more_set slots len e within) (Agrees-push (take len slots) cells e stored.agrees from_one exists none);
-  valued = HasValues-set cells values (e.lit.var - 1) (Some e) value stored.valued (omega arith) is_seen;
+  valued = HasValues-set cells values e.lit.var (Some e) value stored.valued from_one exists is_seen;
 }
   where
     within : len < length slots
@@ -155,13 +188,13 @@ take_last slots len e some filled at_end =
     ∙ take_more slots (len - 1) e (omega arith) ∙ ap (λ x. take (len - 1) slots ++ x ∷ []) (sym at_end)
 
 -- one entry less is stored
-pub IsStored-pop : (slots : List Entry) (len : ℕ) (cells : List (Option Entry)) (values : List Value) (e : Entry) → IsStored slots len cells values → 0 < len → e ≡ get_or slots (len - 1) e → IsStored slots (len - 1) (set cells (e.lit.var - 1) None) (set values (e.lit.var - 1) Unset)
+pub IsStored-pop : (slots : List Entry) (len : ℕ) (cells : List (Option Entry)) (values : List Value) (e : Entry) → IsStored slots len cells values → 0 < len → e ≡ get_or slots (len - 1) e → IsStored slots (len - 1) (set cells (e.lit.var - 1) None) (set values e.lit.var Unset)
 IsStored-pop slots len cells values e stored some at_end = record {
   room = stored.room ∙ sym (length-set cells (e.lit.var - 1) None);
   few = rw (length-set cells (e.lit.var - 1) None) stored.few;
   filled = omega (arith, stored.filled);
   agrees = Agrees-pop (take (len - 1) slots) cells e (subst (λ es. Agrees es cells) (take_last slots len e some stored.filled at_end) stored.agrees) exists.0 exists.1;
-  valued = HasValues-set cells values (e.lit.var - 1) None Unset stored.valued (omega (arith, exists.0, exists.1)) refl;
+  valued = HasValues-set cells values e.lit.var None Unset stored.valued exists.0 exists.1 refl;
 }
   where
     exists : (0 < e.lit.var) × (e.lit.var ≤ length cells)

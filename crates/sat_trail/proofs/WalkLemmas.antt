@@ -1,17 +1,17 @@
 -- What a walk along the list of a false literal keeps.
-use Rattle.std.proofs.Common.{◌≡◌, ◌≢◌, ℕ, zero, suc, ◌+◌, ◌*◌, ◌<◌, ◌≤◌, List, [], ◌∷◌, inl, inr, length, get_or, slice_get, Some, sym, ap, refl, ◌∙◌, subst, arith, AllPairs, Contains}
+use Rattle.std.proofs.Common.{Option, ◌≡◌, ◌≢◌, ℕ, zero, suc, ◌+◌, ◌*◌, ◌<◌, ◌≤◌, List, [], ◌∷◌, inl, inr, length, get_or, slice_get, Some, sym, ap, refl, ◌∙◌, subst, arith, AllPairs, Contains}
 use Rattle.std.proofs.lemmas.Bool.{cases_eq}
 use Rattle.std.proofs.lemmas.List.{get_or_default}
 use Rattle.list_base.proofs.Members.{here_same, there, nowhere, cons_cases}
 use Rattle.list_base.proofs.Pigeonhole.{few_distinct}
 use Rattle.clause_core.specs.declared.literal.Lit.{Lit}
-use Rattle.clause_core.specs.Numbering.{numbered}
+use Rattle.sat_trail.specs.State.{live}
 use Rattle.sat_trail.specs.declared.watch.Cell.{Cell}
 use Rattle.sat_trail.specs.inner.Excuse.{IsTrueBy}
 use Rattle.sat_trail.specs.inner.Propagation.{CanPropagate, Extends, HasWatches}
 use Rattle.sat_trail.specs.inner.Storage.{Assigned}
 use Rattle.sat_trail.specs.declared.propagation.Visit.TheVariants.{Stays, Moves, Fails}
-use Rattle.sat_trail.specs.inner.Visit.{IsFalseAt, IsVisit, KeepsLengths}
+use Rattle.sat_trail.specs.inner.Visit.{IsFalseAt, CanVisit, IsVisit, KeepsLists}
 use Rattle.sat_trail.specs.inner.Walk.{IsWalk, AreOthersListed, Walks}
 use Rattle.sat_trail.specs.inner.Watches.{cell_of, IsTurn, HasLink, Watches, KeepsLits, head_of, IsDistinct, IsListed, AreLinked}
 use Rattle.sat_trail.proofs.ChainLemmas.{joined-cases, distinct-apart, chain-member, walk-start, walk-end, walk-member, walk-stays, walk-next, walk-none}
@@ -59,7 +59,7 @@ distinct-few list n distinct below =
     )
 
 -- the walk has come to a number, after some turns of the loop
-pub record IsWalking (clauses : List (List Lit)) (old now : Assigned) (cells : List Cell) (heads : List ℕ) (level position : ℕ) (l : Lit) (before number count : ℕ) : Type 0 where
+pub record IsWalking (clauses : List (Option (List Lit))) (old now : Assigned) (cells : List Cell) (heads : List ℕ) (level position : ℕ) (l : Lit) (before number count : ℕ) : Type 0 where
   pub runs : Runs clauses level old now
   pub watched : HasWatches clauses cells now level position (length clauses)
   pub many : length heads ≡ 2 * old.vars + 2
@@ -71,12 +71,12 @@ pub record IsWalking (clauses : List (List Lit)) (old now : Assigned) (cells : L
   pub satisfied : (n : ℕ) → Contains passed n → (turn : Cell) → IsTurn (cell_of cells n) turn → turn.one.lit ≡ l → IsTrueBy now.entries level turn.other.lit
 
 -- the walk begins
-pub walking-start : (clauses : List (List Lit)) (set : Assigned) (cells : List Cell) (heads : List ℕ) (level position : ℕ) (l : Lit) (number : ℕ) → CanPropagate clauses set level → HasWatches clauses cells set level position (length clauses) → AreLinked set.vars cells heads → (0 < l.var) × (l.var ≤ set.vars) → number ≡ head_of heads l → IsWalking clauses set set cells heads level position l 0 number 0
+pub walking-start : (clauses : List (Option (List Lit))) (set : Assigned) (cells : List Cell) (heads : List ℕ) (level position : ℕ) (l : Lit) (number : ℕ) → CanPropagate clauses set level → HasWatches clauses cells set level position (length clauses) → AreLinked set.vars cells heads → (0 < l.var) × (l.var ≤ set.vars) → number ≡ head_of heads l → IsWalking clauses set set cells heads level position l 0 number 0
 walking-start clauses set cells heads level position l number fits watched linked exists first = record {
   runs = Runs-none clauses level set fits;
   watched = watched;
   many = linked.many;
-  others = λ m from_one m_exists other. linked.listed m from_one m_exists;
+  others = record { listed = λ m from_one m_exists other. linked.listed m from_one m_exists; within = linked.within };
   passed = [];
   rest = listed.list;
   walk = subst (λ k. IsWalk cells heads l [] listed.list 0 k) (sym first) (walk-start cells heads l listed);
@@ -88,17 +88,17 @@ walking-start clauses set cells heads level position l number fits watched linke
     listed = linked.listed l exists.0 exists.1
 
 -- the next clause of the walk
-pub walking-walks : (clauses : List (List Lit)) (old now : Assigned) (cells : List Cell) (heads : List ℕ) (level position : ℕ) (l : Lit) (before number count : ℕ) → IsWalking clauses old now cells heads level position l before number count → number ≢ 0 → Walks cells heads l before number
+pub walking-walks : (clauses : List (Option (List Lit))) (old now : Assigned) (cells : List Cell) (heads : List ℕ) (level position : ℕ) (l : Lit) (before number count : ℕ) → IsWalking clauses old now cells heads level position l before number count → number ≢ 0 → Walks cells heads l before number
 walking-walks clauses old now cells heads level position l before number count w some =
     let next = walk-next cells heads l w.passed w.rest before number w.walk some in
     record { passed = w.passed; rest = next.0; walk = subst (λ xs. IsWalk cells heads l w.passed xs before number) next.1 w.walk }
 
 -- what is true stays true
-true-extends : (clauses : List (List Lit)) (now new : Assigned) (level low : ℕ) (k : Lit) → Extends clauses level now new → IsTrueBy now.entries low k → IsTrueBy new.entries low k
+true-extends : (clauses : List (Option (List Lit))) (now new : Assigned) (level low : ℕ) (k : Lit) → Extends clauses level now new → IsTrueBy now.entries low k → IsTrueBy new.entries low k
 true-extends clauses now new level low k extends t = subst (λ (s : Assigned). IsTrueBy s.entries low k) (sym extends.grows) (IsTrueBy-more now.entries extends.added low k t)
 
 -- the clause stays
-pub walking-stays : (clauses : List (List Lit)) (old now new : Assigned) (cells : List Cell) (heads : List ℕ) (level position : ℕ) (l : Lit) (before number count next : ℕ) → IsWalking clauses old now cells heads level position l before number count → number ≢ 0 → Extends clauses level now new → HasWatches clauses cells new level position (length clauses) → ((turn : Cell) → IsTurn (cell_of cells number) turn → turn.one.lit ≡ l → IsTrueBy new.entries level turn.other.lit) → HasLink (cell_of cells number) l next → IsWalking clauses old new cells heads level position l number next (count + 1)
+pub walking-stays : (clauses : List (Option (List Lit))) (old now new : Assigned) (cells : List Cell) (heads : List ℕ) (level position : ℕ) (l : Lit) (before number count next : ℕ) → IsWalking clauses old now cells heads level position l before number count → number ≢ 0 → Extends clauses level now new → HasWatches clauses cells new level position (length clauses) → ((turn : Cell) → IsTurn (cell_of cells number) turn → turn.one.lit ≡ l → IsTrueBy new.entries level turn.other.lit) → HasLink (cell_of cells number) l next → IsWalking clauses old new cells heads level position l number next (count + 1)
 walking-stays clauses old now new cells heads level position l before number count next w some extends watched satisfied link = record {
   runs = Runs-more clauses level old now new w.runs extends;
   watched = watched;
@@ -118,7 +118,7 @@ walking-stays clauses old now new cells heads level position l before number cou
     later = walk-next cells heads l w.passed w.rest before number w.walk some
 
 -- the clause moves
-pub walking-moves : (clauses : List (List Lit)) (old now new : Assigned) (cells new_cells : List Cell) (heads new_heads : List ℕ) (level position : ℕ) (l : Lit) (before number count next : ℕ) → IsWalking clauses old now cells heads level position l before number count → number ≢ 0 → Extends clauses level now new → HasWatches clauses new_cells new level position (length clauses) → length new_cells ≡ length cells → length new_heads ≡ length heads → AreOthersListed old.vars new_cells new_heads l → ((n : ℕ) → n ≢ number → KeepsLits (cell_of cells n) (cell_of new_cells n)) → ((passed rest : List ℕ) → IsWalk cells heads l passed (number ∷ rest) before number → IsWalk new_cells new_heads l passed rest before next) → IsWalking clauses old new new_cells new_heads level position l before next (count + 1)
+pub walking-moves : (clauses : List (Option (List Lit))) (old now new : Assigned) (cells new_cells : List Cell) (heads new_heads : List ℕ) (level position : ℕ) (l : Lit) (before number count next : ℕ) → IsWalking clauses old now cells heads level position l before number count → number ≢ 0 → Extends clauses level now new → HasWatches clauses new_cells new level position (length clauses) → length new_cells ≡ length cells → length new_heads ≡ length heads → AreOthersListed old.vars new_cells new_heads l → ((n : ℕ) → n ≢ number → KeepsLits (cell_of cells n) (cell_of new_cells n)) → ((passed rest : List ℕ) → IsWalk cells heads l passed (number ∷ rest) before number → IsWalk new_cells new_heads l passed rest before next) → IsWalking clauses old new new_cells new_heads level position l before next (count + 1)
 walking-moves clauses old now new cells new_cells heads new_heads level position l before number count next w some extends watched cells_many heads_many others keeps moves = record {
   runs = Runs-more clauses level old now new w.runs extends;
   watched = watched;
@@ -141,18 +141,19 @@ walking-moves clauses old now new cells new_cells heads new_heads level position
     walk = subst (λ xs. IsWalk cells heads l w.passed xs before number) later.1 w.walk
 
 -- the lists are whole
-pub walking-linked : (clauses : List (List Lit)) (old now : Assigned) (cells : List Cell) (heads : List ℕ) (level position : ℕ) (l : Lit) (before number count : ℕ) → IsWalking clauses old now cells heads level position l before number count → AreLinked old.vars cells heads
+pub walking-linked : (clauses : List (Option (List Lit))) (old now : Assigned) (cells : List Cell) (heads : List ℕ) (level position : ℕ) (l : Lit) (before number count : ℕ) → IsWalking clauses old now cells heads level position l before number count → AreLinked old.vars cells heads
 walking-linked clauses old now cells heads level position l before number count w = record {
   many = w.many;
   some = omega (arith, w.watched.room);
   listed = λ m from_one exists. elim (cases_literal m l) [
     | inl same ↦ subst (IsListed cells heads) (sym same) (walk-end cells heads l w.passed w.rest before number w.walk)
-    | inr other ↦ w.others m from_one exists other
+    | inr other ↦ w.others.listed m from_one exists other
   ];
+  within = w.others.within;
 }
 
 -- after as many turns as there are cells the walk has ended
-pub walking-ended : (clauses : List (List Lit)) (old now : Assigned) (cells : List Cell) (heads : List ℕ) (level position : ℕ) (l : Lit) (before number count : ℕ) → IsWalking clauses old now cells heads level position l before number count → length cells ≤ count → number ≡ 0
+pub walking-ended : (clauses : List (Option (List Lit))) (old now : Assigned) (cells : List Cell) (heads : List ℕ) (level position : ℕ) (l : Lit) (before number count : ℕ) → IsWalking clauses old now cells heads level position l before number count → length cells ≤ count → number ≡ 0
 walking-ended clauses old now cells heads level position l before number count w over = elim (cases_eq number 0) [
   | inl same ↦ same
   | inr some ↦
@@ -161,16 +162,16 @@ walking-ended clauses old now cells heads level position l before number count w
 ]
 
 -- where the walk has ended, the entry is passed
-pub walking-passed : (clauses : List (List Lit)) (old now : Assigned) (cells : List Cell) (heads : List ℕ) (level position : ℕ) (l : Lit) (before number count : ℕ) → IsWalking clauses old now cells heads level position l before number count → number ≡ 0 → IsFalseAt now.entries position l → HasWatches clauses cells now level (position + 1) (length clauses)
+pub walking-passed : (clauses : List (Option (List Lit))) (old now : Assigned) (cells : List Cell) (heads : List ℕ) (level position : ℕ) (l : Lit) (before number count : ℕ) → IsWalking clauses old now cells heads level position l before number count → number ≡ 0 → IsFalseAt now.entries position l → HasWatches clauses cells now level (position + 1) (length clauses)
 walking-passed clauses old now cells heads level position l before number count w none fails =
-    AreWatched-passed (numbered clauses) (length clauses) cells now.entries level position (length clauses) l fails
+    AreWatched-passed (live clauses) (length clauses) cells now.entries level position (length clauses) l fails
     (λ n turn turns is. elim (joined-cases w.passed w.rest n (w.walk.covers n (turn-watches (cell_of cells n) turn l turns is))) [
       | inl passed ↦ w.satisfied n passed turn turns is
       | inr comes ↦ absurd (nowhere n (subst (λ xs. Contains xs n) (walk-none cells heads l w.passed w.rest before number w.walk none) comes))
     ]) w.watched
 
 -- the entry stays at its position
-pub false-extends : (clauses : List (List Lit)) (old now : Assigned) (level position : ℕ) (l : Lit) → Extends clauses level old now → IsFalseAt old.entries position l → IsFalseAt now.entries position l
+pub false-extends : (clauses : List (Option (List Lit))) (old now : Assigned) (level position : ℕ) (l : Lit) → Extends clauses level old now → IsFalseAt old.entries position l → IsFalseAt now.entries position l
 false-extends clauses old now level position l extends at = record {
   entry = at.entry;
   there = subst (λ (s : Assigned). slice_get s.entries position ≡ Some at.entry) (sym extends.grows) (at-left old.entries extends.added position at.entry at.there);
@@ -178,18 +179,18 @@ false-extends clauses old now level position l extends at = record {
 }
 
 -- the variables stay the same
-pub vars-extends : (clauses : List (List Lit)) (old now : Assigned) (level : ℕ) → Extends clauses level old now → now.vars ≡ old.vars
+pub vars-extends : (clauses : List (Option (List Lit))) (old now : Assigned) (level : ℕ) → Extends clauses level old now → now.vars ≡ old.vars
 vars-extends clauses old now level extends = ap (λ (s : Assigned). s.vars) extends.grows
 
 -- the clause that was visited is still in the list
-pub stayed-member : (clauses : List (List Lit)) (old now new : Assigned) (cells new_cells : List Cell) (heads new_heads : List ℕ) (level position : ℕ) (l : Lit) (before number count : ℕ) → IsWalking clauses old now cells heads level position l before number count → number ≢ 0 → IsVisit cells new_cells heads new_heads new.entries level l before number Stays → (number < length new_cells) × Watches (cell_of new_cells number) l
+pub stayed-member : (clauses : List (Option (List Lit))) (old now new : Assigned) (cells new_cells : List Cell) (heads new_heads : List ℕ) (level position : ℕ) (l : Lit) (before number count : ℕ) → IsWalking clauses old now cells heads level position l before number count → number ≢ 0 → IsVisit cells new_cells heads new_heads new.entries level (record { position = position; lit = l; before = before; number = number }) Stays → (number < length new_cells) × Watches (cell_of new_cells number) l
 stayed-member clauses old now new cells new_cells heads new_heads level position l before number count w some visit =
     let walks = walking-walks clauses old now cells heads level position l before number count w some in
     subst (λ (cs : List Cell). (number < length cs) × Watches (cell_of cs number) l) (sym (visit.stays refl).0)
     (let member = walk-member cells heads l walks.passed walks.rest before number walks.walk in (member.1, member.2))
 
 -- the walk after a clause that stays
-pub walking-stayed : (clauses : List (List Lit)) (old now new : Assigned) (cells new_cells : List Cell) (heads new_heads : List ℕ) (level position : ℕ) (l : Lit) (before number count next : ℕ) → IsWalking clauses old now cells heads level position l before number count → number ≢ 0 → Extends clauses level now new → HasWatches clauses new_cells new level position (length clauses) → IsVisit cells new_cells heads new_heads new.entries level l before number Stays → HasLink (cell_of new_cells number) l next → IsWalking clauses old new new_cells new_heads level position l number next (count + 1)
+pub walking-stayed : (clauses : List (Option (List Lit))) (old now new : Assigned) (cells new_cells : List Cell) (heads new_heads : List ℕ) (level position : ℕ) (l : Lit) (before number count next : ℕ) → IsWalking clauses old now cells heads level position l before number count → number ≢ 0 → Extends clauses level now new → HasWatches clauses new_cells new level position (length clauses) → IsVisit cells new_cells heads new_heads new.entries level (record { position = position; lit = l; before = before; number = number }) Stays → HasLink (cell_of new_cells number) l next → IsWalking clauses old new new_cells new_heads level position l number next (count + 1)
 walking-stayed clauses old now new cells new_cells heads new_heads level position l before number count next w some extends watched visit link =
     let s = visit.stays refl in
     subst (λ (hs : List ℕ). IsWalking clauses old new new_cells hs level position l number next (count + 1)) (sym s.1)
@@ -197,15 +198,30 @@ walking-stayed clauses old now new cells new_cells heads new_heads level positio
     (λ old_watched old_link. walking-stays clauses old now new cells heads level position l before number count next w some extends old_watched s.2 old_link) watched link)
 
 -- the lists after a clause that is false
-pub walking-failed : (clauses : List (List Lit)) (old now new : Assigned) (cells new_cells : List Cell) (heads new_heads : List ℕ) (level position : ℕ) (l : Lit) (before number count : ℕ) → IsWalking clauses old now cells heads level position l before number count → IsVisit cells new_cells heads new_heads new.entries level l before number Fails → AreLinked old.vars new_cells new_heads
+pub walking-failed : (clauses : List (Option (List Lit))) (old now new : Assigned) (cells new_cells : List Cell) (heads new_heads : List ℕ) (level position : ℕ) (l : Lit) (before number count : ℕ) → IsWalking clauses old now cells heads level position l before number count → IsVisit cells new_cells heads new_heads new.entries level (record { position = position; lit = l; before = before; number = number }) Fails → AreLinked old.vars new_cells new_heads
 walking-failed clauses old now new cells new_cells heads new_heads level position l before number count w visit =
     let s = visit.fails refl in
     subst (λ (hs : List ℕ). AreLinked old.vars new_cells hs) (sym s.1)
     (subst (λ (cs : List Cell). AreLinked old.vars cs heads) (sym s.0) (walking-linked clauses old now cells heads level position l before number count w))
 
 -- the walk after a clause that moves
-pub walking-moved : (clauses : List (List Lit)) (old now new : Assigned) (cells new_cells : List Cell) (heads new_heads : List ℕ) (level position : ℕ) (l : Lit) (before number count next : ℕ) → IsWalking clauses old now cells heads level position l before number count → number ≢ 0 → Extends clauses level now new → HasWatches clauses new_cells new level position (length clauses) → KeepsLengths cells new_cells heads new_heads → AreOthersListed now.vars new_cells new_heads l → IsVisit cells new_cells heads new_heads new.entries level l before number (Moves next) → IsWalking clauses old new new_cells new_heads level position l before next (count + 1)
-walking-moved clauses old now new cells new_cells heads new_heads level position l before number count next w some extends watched many others visit =
+pub walking-moved : (clauses : List (Option (List Lit))) (old now new : Assigned) (cells new_cells : List Cell) (heads new_heads : List ℕ) (level position : ℕ) (l : Lit) (before number count next : ℕ) → IsWalking clauses old now cells heads level position l before number count → number ≢ 0 → Extends clauses level now new → HasWatches clauses new_cells new level position (length clauses) → KeepsLists now.vars cells new_cells heads new_heads l → IsVisit cells new_cells heads new_heads new.entries level (record { position = position; lit = l; before = before; number = number }) (Moves next) → IsWalking clauses old new new_cells new_heads level position l before next (count + 1)
+walking-moved clauses old now new cells new_cells heads new_heads level position l before number count next w some extends watched keeps visit =
     let m = visit.moves next refl in
-    walking-moves clauses old now new cells new_cells heads new_heads level position l before number count next w some extends watched many.cells_as_many many.heads_as_many
-    (subst (λ vars. AreOthersListed vars new_cells new_heads l) (vars-extends clauses old now level w.runs.extends) others) m.0 m.1
+    walking-moves clauses old now new cells new_cells heads new_heads level position l before number count next w some extends watched keeps.cells_as_many keeps.heads_as_many
+    (subst (λ vars. AreOthersListed vars new_cells new_heads l) (vars-extends clauses old now level w.runs.extends) keeps.others) m.0 m.1
+
+-- the next clause can be visited
+pub walking-visits : (clauses : List (Option (List Lit))) (old now : Assigned) (cells : List Cell) (heads : List ℕ) (level position : ℕ) (l : Lit) (before number count : ℕ) → IsWalking clauses old now cells heads level position l before number count → number ≢ 0 → IsFalseAt now.entries position l → (0 < l.var) × (l.var ≤ old.vars) → CanVisit clauses cells heads now level (record { position = position; lit = l; before = before; number = number })
+walking-visits clauses old now cells heads level position l before number count w some fails exists = record {
+  fits = w.runs.fits;
+  watched = w.watched;
+  fails = fails;
+  exists = (exists.0, subst (λ vars. l.var ≤ vars) (sym same) exists.1);
+  many = subst (λ vars. length heads ≡ 2 * vars + 2) (sym same) w.many;
+  walk = walking-walks clauses old now cells heads level position l before number count w some;
+  others = subst (λ vars. AreOthersListed vars cells heads l) (sym same) w.others;
+}
+  where
+    same : now.vars ≡ old.vars
+    same = vars-extends clauses old now level w.runs.extends

@@ -1,20 +1,26 @@
 -- What contracts see of a trail.
-use Rattle.std.specs.Prelude.{ℕ, Bool, List, length}
+use Rattle.std.specs.Prelude.{ℕ, ◌-◌, ◌==◌, Bool, Option, None, List, length, slice_index_or}
+use Rattle.std.specs.Prelude.{if◌then◌else◌}
 use Rattle.clause_core.specs.declared.literal.Lit.{Lit}
-use Rattle.clause_core.specs.Numbering.{Numbering, numbered}
+use Rattle.clause_core.specs.Numbering.{Numbering}
 use Rattle.sat_trail.specs.declared.entry.Entry.{Entry}
 
--- the clauses in the order of their numbers, and the entries in the order of setting
+-- the clauses in the order of their numbers, with none where one was removed, and the entries in
+-- the order of setting
 pub record State : Type 0 where
   pub vars : ℕ
-  pub clauses : List (List Lit)
+  pub clauses : List (Option (List Lit))
   pub entries : List Entry
   pub level : ℕ
   pub ready : Bool
 
--- the clause of each number, if there is one
+-- the clauses of a list have the numbers from 1 on; a number has none where one was removed
+abbrev pub live : List (Option (List Lit)) → Numbering
+live clauses number = if number == 0 then None else slice_index_or clauses (number - 1) None
+
+-- the live clause of each number, if there is one
 abbrev pub numbering_of : State → Numbering
-numbering_of t = numbered t.clauses
+numbering_of t = live t.clauses
 
 -- the last number that was given to a clause
 abbrev pub last_number : State → ℕ

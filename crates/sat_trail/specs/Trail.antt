@@ -1,6 +1,6 @@
 -- What every trail keeps, and what its calls do.
-use Rattle.std.specs.Prelude.{◌≡◌, ◌≢◌, ℕ, ◌+◌, ◌<◌, ◌≤◌, IsTrue, IsSome, IfSome, false, List, []}
-use Rattle.std.specs.Prelude.{◌++◌, length, All, Contains}
+use Rattle.std.specs.Prelude.{◌≡◌, ◌≢◌, ℕ, ◌+◌, ◌<◌, ◌≤◌, IsTrue, Some, None, IsSome, IfSome}
+use Rattle.std.specs.Prelude.{false, List, [], ◌++◌, length, All, Contains}
 use Rattle.clause_core.specs.declared.literal.Lit.{Lit}
 use Rattle.clause_core.specs.declared.formula.Formula.{Formula}
 use Rattle.clause_core.specs.Clause.{VariablesExist}
@@ -15,7 +15,7 @@ use Rattle.sat_trail.specs.State.{State, numbering_of, last_number}
 abbrev pub EntriesExist : State → Type 0
 EntriesExist t = All (λ e. (0 < e.lit.var) × (e.lit.var ≤ t.vars)) t.entries
 
--- the variables of the clauses exist
+-- the variables of the live clauses exist
 abbrev pub ClausesExist : State → Type 0
 ClausesExist t = (number : ℕ) (clause : List Lit) →
     HasNumber (numbering_of t) number clause → VariablesExist t.vars clause
@@ -45,6 +45,17 @@ pub record Adds (old : State) (clause : List Lit) (new : State) (number : ℕ) :
   pub has_number : HasNumber (numbering_of new) number clause
   pub others : (n : ℕ) → n ≢ number → numbering_of new n ≡ numbering_of old n
   pub rest : new ≡ record old { clauses = new.clauses; ready = false }
+
+-- no entry has the clause of the number as its reason
+abbrev pub IsNoReason : State → ℕ → Type 0
+IsNoReason t number = All (λ e. e.reason ≢ Some number) t.entries
+
+-- the number has no clause any more, the other numbers keep theirs, and all else stays
+pub record Removes (old : State) (number : ℕ) (new : State) : Type 0 where
+  pub gone : numbering_of new number ≡ None
+  pub others : (n : ℕ) → n ≢ number → numbering_of new n ≡ numbering_of old n
+  pub last : last_number new ≡ last_number old
+  pub rest : new ≡ record old { clauses = new.clauses }
 
 -- the literal is unset, or was set at the current level
 abbrev pub IsOpen : State → Lit → Type 0

@@ -1,14 +1,14 @@
 ghost use Rattle.std.specs.Prelude.{◌≡◌, ◌≢◌, ◌-◌, ◌+◌, ◌*◌, ◌<◌, ◌≤◌, ◌∷◌, length, IfSome, IfNone, Some};
 ghost use Rattle.std.specs.Prelude.{ℕ};
 ghost use Rattle.std.specs.Bool.{OnTrue, OnFalse};
-ghost use Rattle.clause_core.specs.Numbering.{numbered};
 ghost use Rattle.clause_core.specs.Propagation.{IsFalsified};
 ghost use Rattle.sat_trail.specs.Entry.{values_of};
+ghost use Rattle.sat_trail.specs.State.{live};
 ghost use Rattle.sat_trail.specs.inner.Examination.{IsSettledAt};
 ghost use Rattle.sat_trail.specs.inner.Excuse.{IsTrueBy};
 ghost use Rattle.sat_trail.specs.inner.Propagation.{CanPropagate, Extends, HasWatches};
-ghost use Rattle.sat_trail.specs.inner.Visit.{IsLastLeft, IsVisit, IsFalseAt, KeepsLengths};
-ghost use Rattle.sat_trail.specs.inner.Walk.{Walks, AreOthersListed};
+ghost use Rattle.sat_trail.specs.inner.Visit.{IsLastLeft, CanPass, CanVisit, IsVisit, KeepsLists};
+ghost use Rattle.sat_trail.specs.declared.propagation.Cursor.{Cursor as Place};
 ghost use Rattle.sat_trail.specs.inner.Watches.{AreLinked};
 
 use super::clause_store::ClauseStore;
@@ -18,6 +18,39 @@ use super::set_literals::Entries;
 use super::watch_choice::not_false;
 use super::watch_lists::WatchLists;
 use clause_core::Lit;
+
+/// Where a walk along the list of a false literal has come to.
+#[derive(Clone, Copy)]
+struct Cursor {
+    /// The position of the entry that makes the literal false.
+    position: usize,
+    /// The literal whose list it is.
+    lit: Lit,
+    /// The number of the clause before, or 0.
+    before: u32,
+    /// The number of the clause here, or 0 at the end.
+    number: u32,
+}
+
+impl Cursor {
+    /// The place of a clause in the list of the literal.
+    fn new(position: usize, lit: Lit, before: u32, number: u32) -> Cursor
+        ensures { let at : Place = record {
+          position = position;
+          lit = lit;
+          before = before;
+          number = number;
+        } in
+            result ≡ at }
+    {
+        Cursor {
+            position,
+            lit,
+            before,
+            number,
+        }
+    }
+}
 
 /// What becomes of a clause's place in the list of a literal that is false.
 enum Visit {
@@ -29,8 +62,8 @@ enum Visit {
     Fails,
 }
 
-/// Examines the new clause of the number, and sets its literal if that is the only one left. True
-/// if the clause is false.
+/// Examines the new clause of the number, if it is live, and sets its literal if that is the only
+/// one left. True if the clause is false.
 fn propagate_new(store: &ClauseStore, set: &mut Entries, number: u32, level: u32) -> bool
     requires fits { CanPropagate store.now set.old level }
     requires from_one { 0 < number }
@@ -38,8 +71,11 @@ fn propagate_new(store: &ClauseStore, set: &mut Entries, number: u32, level: u32
     ensures extends { Extends store.now level set.old set.new }
     ensures settled { OnFalse result (IsSettledAt store.now number (values_of set.new.entries)) }
     ensures falsified { OnTrue result
-        (IsFalsified (numbered store.now) (values_of set.new.entries) number) }
+        (IsFalsified (live store.now) (values_of set.new.entries) number) }
 {
+    if !store.is_live(number) {
+        return false;
+    }
     match examine(set, store.clause(number).lits()) {
         Finding::Settled => false,
         Finding::Forces(lit) => {
@@ -69,7 +105,7 @@ pub fn examine_new(
     ensures watched { HasWatches store.now lists.now.cells.items set.new level head examined.new }
     ensures all { IfNone result (examined.new ≡ length store.now) }
     ensures falsified { IfSome result
-        (IsFalsified (numbered store.now) (values_of set.new.entries)) }
+        (IsFalsified (live store.now) (values_of set.new.entries)) }
 {
     while *examined < store.len() {
         let number = *examined as u32 + 1;
@@ -90,7 +126,7 @@ fn force(store: &ClauseStore, set: &mut Entries, lit: Lit, number: u32, level: u
     ensures stays { result ≡ Visit.Stays → IsTrueBy set.new.entries level lit }
     ensures moves { (next : ℕ) → result ≢ Visit.Moves next }
     ensures fails { result ≡ Visit.Fails →
-        IsFalsified (numbered store.now) (values_of set.new.entries) number }
+        IsFalsified (live store.now) (values_of set.new.entries) number }
 {
     if set.is_false(lit) {
         return Visit::Fails;
@@ -103,47 +139,36 @@ fn force(store: &ClauseStore, set: &mut Entries, lit: Lit, number: u32, level: u
     Visit::Stays
 }
 
-/// Visits the clause of the number, which comes after `before` in the list of the literal. The
-/// clause is not touched if its other watched literal is true.
+/// Visits the clause that the cursor has come to. The clause is not touched if its other watched
+/// literal is true. A clause that was removed leaves the list.
 fn visit_clause(
     store: &ClauseStore,
     lists: &mut WatchLists,
     set: &mut Entries,
-    lit: Lit,
-    before: u32,
-    number: u32,
-    position: usize,
+    at: Cursor,
     level: u32,
 ) -> Visit
-    requires fits { CanPropagate store.now set.old level }
-    requires watched { HasWatches store.now lists.old.cells.items set.old level position
-        (length store.now) }
-    requires fails { IsFalseAt set.old.entries position lit }
-    requires exists { (0 < lit.var) × (lit.var ≤ set.old.vars) }
-    requires many { length lists.old.heads.items ≡ 2 * set.old.vars + 2 }
-    requires walk { Walks lists.old.cells.items lists.old.heads.items lit before number }
-    requires others { AreOthersListed set.old.vars lists.old.cells.items lists.old.heads.items lit }
+    requires { CanVisit store.now lists.old.cells.items lists.old.heads.items set.old level at }
     ensures extends { Extends store.now level set.old set.new }
-    ensures watched { HasWatches store.now lists.new.cells.items set.new level position
+    ensures watched { HasWatches store.now lists.new.cells.items set.new level at.position
         (length store.now) }
-    ensures many { KeepsLengths lists.old.cells.items lists.new.cells.items
-        lists.old.heads.items lists.new.heads.items }
-    ensures others { AreOthersListed set.old.vars lists.new.cells.items lists.new.heads.items lit }
+    ensures linked { KeepsLists set.old.vars lists.old.cells.items lists.new.cells.items
+        lists.old.heads.items lists.new.heads.items at.lit }
     ensures visit { IsVisit lists.old.cells.items lists.new.cells.items lists.old.heads.items
-        lists.new.heads.items set.new.entries level lit before number result }
+        lists.new.heads.items set.new.entries level at result }
     ensures falsified { result ≡ Visit.Fails →
-        IsFalsified (numbered store.now) (values_of set.new.entries) number }
+        IsFalsified (live store.now) (values_of set.new.entries) at.number }
 {
-    let kept = lists.watches(number, lit).other.lit;
+    let kept = lists.watches(at.number, at.lit).other.lit;
     if set.is_true(kept) {
         return Visit::Stays;
     }
-    match not_false(set, store.clause(number).lits(), kept) {
-        Some(to) => {
-            let next = lists.move_watch(set.vars(), lit, before, number, to);
-            Visit::Moves(next)
-        }
-        None => force(store, set, kept, number, level),
+    if !store.is_live(at.number) {
+        return Visit::Moves(lists.unlink(set.vars(), at.lit, at.before, at.number));
+    }
+    match not_false(set, store.clause(at.number).lits(), kept) {
+        Some(to) => Visit::Moves(lists.move_watch(set.vars(), at.lit, at.before, at.number, to)),
+        None => force(store, set, kept, at.number, level),
     }
 }
 
@@ -156,11 +181,8 @@ fn propagate_entry(
     position: usize,
     level: u32,
 ) -> Option<u32>
-    requires fits { CanPropagate store.now set.old level }
-    requires within { position < length set.old.entries }
-    requires watched { HasWatches store.now lists.old.cells.items set.old level position
-        (length store.now) }
-    requires linked { AreLinked set.old.vars lists.old.cells.items lists.old.heads.items }
+    requires { CanPass store.now lists.old.cells.items lists.old.heads.items set.old level
+        position }
     ensures extends { Extends store.now level set.old set.new }
     ensures watched { HasWatches store.now lists.new.cells.items set.new level position
         (length store.now) }
@@ -168,7 +190,7 @@ fn propagate_entry(
         (position + 1) (length store.now)) }
     ensures linked { AreLinked set.old.vars lists.new.cells.items lists.new.heads.items }
     ensures falsified { IfSome result
-        (IsFalsified (numbered store.now) (values_of set.new.entries)) }
+        (IsFalsified (live store.now) (values_of set.new.entries)) }
 {
     let lit = set.at(position).lit.negation();
     let mut before = 0;
@@ -177,7 +199,8 @@ fn propagate_entry(
         if number == 0 {
             return None;
         }
-        match visit_clause(store, lists, set, lit, before, number, position, level) {
+        let at = Cursor::new(position, lit, before, number);
+        match visit_clause(store, lists, set, at, level) {
             Visit::Stays => {
                 before = number;
                 number = lists.watches(number, lit).one.link;
@@ -207,7 +230,7 @@ pub fn propagate_entries(
     ensures linked { AreLinked set.old.vars lists.new.cells.items lists.new.heads.items }
     ensures all { IfNone result (head.new ≡ length set.new.entries) }
     ensures falsified { IfSome result
-        (IsFalsified (numbered store.now) (values_of set.new.entries)) }
+        (IsFalsified (live store.now) (values_of set.new.entries)) }
 {
     while *head < set.len() {
         if let Some(number) = propagate_entry(store, lists, set, *head, level) {

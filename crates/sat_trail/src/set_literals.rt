@@ -12,7 +12,7 @@ use std::alloc::Global;
 use std::marker::Model;
 
 /// Set literals in the order of setting. Each variable has a cell with its entry, and all memory
-/// is taken at the start.
+/// is taken at the start. A variable's value also stands in one byte, at the variable's number.
 #[derive(Drop)]
 pub struct Entries {
     slots: Vec<Entry>,
@@ -52,7 +52,7 @@ impl Entries {
             slots: vec![in alloc; blank; vars as usize]?,
             len: 0,
             cells: vec![in alloc; None; vars as usize]?,
-            values: vec![in alloc; Value::Unset; vars as usize]?,
+            values: vec![in alloc; Value::Unset; vars as usize + 1]?,
         })
     }
 
@@ -100,13 +100,12 @@ impl Entries {
         self.of(var).map(|entry| entry.lit.positive)
     }
 
-    /// Whether the literal is true.
+    /// Whether the literal is true. A literal of variable 0 is not.
     pub fn is_true(&self, lit: Lit) -> bool
-        requires from_one { 0 < lit.var }
-        requires exists { lit.var ≤ self.now.vars }
+        requires { lit.var ≤ self.now.vars }
         ensures { IsTrue result ↔ (values_of self.now.entries lit.var ≡ Some lit.positive) }
     {
-        match self.values[lit.var as usize - 1] {
+        match self.values[lit.var as usize] {
             Value::Unset => false,
             Value::False => !lit.positive,
             Value::True => lit.positive,
@@ -119,7 +118,7 @@ impl Entries {
         requires exists { lit.var ≤ self.now.vars }
         ensures { IsTrue result ↔ MakesFalse (values_of self.now.entries) lit }
     {
-        match self.values[lit.var as usize - 1] {
+        match self.values[lit.var as usize] {
             Value::Unset => false,
             Value::False => lit.positive,
             Value::True => !lit.positive,
@@ -149,7 +148,7 @@ impl Entries {
         self.slots[self.len] = entry;
         self.len += 1;
         self.cells[entry.lit.var as usize - 1] = Some(entry);
-        self.values[entry.lit.var as usize - 1] = value_of(entry.lit);
+        self.values[entry.lit.var as usize] = value_of(entry.lit);
     }
 
     /// Takes the last entry out.
@@ -161,7 +160,7 @@ impl Entries {
         self.len -= 1;
         let last = self.slots[self.len];
         self.cells[last.lit.var as usize - 1] = None;
-        self.values[last.lit.var as usize - 1] = Value::Unset;
+        self.values[last.lit.var as usize] = Value::Unset;
     }
 
     /// Takes the entries above the level out, which are the last.

@@ -1,20 +1,17 @@
-ghost use Rattle.std.specs.Prelude.{◌≡◌, ◌-◌, ◌+◌, ◌*◌, ◌^◌, ◌<◌, ◌≤◌, ◌++◌, ◌⊎◌, ◌↔◌, [], ◌∷◌, None};
-ghost use Rattle.std.specs.Prelude.{Some, false, length, replicate, IsTrue, IsSome, IfOk, OnErr, IfSome};
-ghost use Rattle.std.specs.Prelude.{IfNone, is_none, slice_get, map, All};
+ghost use Rattle.std.specs.Prelude.{◌≡◌, ◌-◌, ◌+◌, ◌^◌, ◌<◌, ◌≤◌, ◌++◌, ◌⊎◌, ◌↔◌, [], ◌∷◌, None, Some, false, length};
+ghost use Rattle.std.specs.Prelude.{IsTrue, IsSome, IfOk, OnErr, IfSome, IfNone, is_none, slice_get, map};
 ghost use Rattle.clause_core.specs.Clause.{VariablesExist};
-ghost use Rattle.clause_core.specs.Numbering.{numbered, HasNumber};
+ghost use Rattle.clause_core.specs.Numbering.{HasNumber};
 ghost use Rattle.clause_core.specs.Propagation.{IsFalsified, IsPropagated};
 ghost use Rattle.sat_trail.specs.Entry.{values_of, reason_of, level_of, up_to, decided};
 ghost use Rattle.sat_trail.specs.State.{numbering_of, last_number};
-ghost use Rattle.sat_trail.specs.inner.Attach.{IsAttached};
-ghost use Rattle.sat_trail.specs.inner.Watches.{blank};
-ghost use Rattle.sat_trail.specs.Trail.{IsTrail, IsStart, Adds, HasTwoOpen, Propagates};
+ghost use Rattle.sat_trail.specs.Trail.{IsTrail, IsStart, Adds, HasTwoOpen, IsNoReason, Removes, Propagates};
 
 use super::clause_store::ClauseStore;
 use super::entry::Entry;
 use super::propagation::{examine_new, propagate_entries};
 use super::set_literals::Entries;
-use super::watch_choice::choose;
+use super::watch_choice::{choose, watch_all};
 use super::watch_lists::WatchLists;
 use clause_core::{Clause, Formula, Lit};
 use list_base::{NoMemory, TryClone};
@@ -23,7 +20,8 @@ use std::marker::Model;
 
 /// Set literals over numbered clauses, of which each watches two literals (Moskewicz et al. 2001).
 /// The list of the set literals is also the queue of unit propagation: its first `head` entries are
-/// propagated, and the first `examined` clauses were examined since they were added.
+/// propagated, and the first `examined` clauses were examined since they were added. A clause that
+/// was removed leaves the lists of its watched literals when propagation meets it there.
 #[derive(Drop)]
 pub struct Trail<'f> {
     store: ClauseStore<'f>,
@@ -56,11 +54,12 @@ impl<'f> Trail<'f> {
         ensures sound { IfOk result IsTrail }
     {
         let given = f.clauses.as_slice();
+        let store = ClauseStore::new(alloc, given)?;
         let set = Entries::new(alloc, f.vars)?;
         let mut lists = WatchLists::new(alloc, f.vars, given.len())?;
         watch_all(&mut lists, &set, given);
         Ok(Trail {
-            store: ClauseStore::new(alloc, given),
+            store,
             lists,
             set,
             level: 0,
@@ -86,6 +85,16 @@ impl<'f> Trail<'f> {
         self.lists.attach(self.set.vars(), number, watched);
         self.ready = false;
         Ok(number)
+    }
+
+    /// Removes the clause: propagation passes it over from here on.
+    pub fn remove(&mut self, clause: u32)
+        requires live { IsSome (numbering_of self.old clause) }
+        requires no_reason { IsNoReason self.old clause }
+        ensures removes { Removes self.old clause self.new }
+        ensures sound { IsTrail self.new }
+    {
+        self.store.remove(clause);
     }
 
     /// Sets what unit clauses force, until none is left or a clause is false. Gives the number of
@@ -143,11 +152,7 @@ impl<'f> Trail<'f> {
     {
         self.head = self.set.len();
         self.level += 1;
-        self.set.push(Entry {
-            lit,
-            level: self.level,
-            reason: None,
-        });
+        self.set.push(Entry::decision(lit, self.level));
         self.ready = false;
     }
 
@@ -227,35 +232,18 @@ impl<'f> Trail<'f> {
         self.store.len() as u32
     }
 
-    /// Whether a clause has the number.
+    /// Whether a live clause has the number.
     pub fn has_clause(&self, number: u32) -> bool
         ensures { IsTrue result ↔ IsSome (numbering_of self.now number) }
     {
-        number > 0 && number as usize <= self.store.len()
+        number > 0 && number as usize <= self.store.len() && self.store.is_live(number)
     }
 
-    /// The clause of the number.
+    /// The live clause of the number.
     pub fn clause(&self, number: u32) -> &Clause
         requires { IsSome (numbering_of self.now number) }
         ensures { HasNumber (numbering_of self.now) number result.now }
     {
         self.store.clause(number)
-    }
-}
-
-/// Lets each clause watch two of its literals, if it has as many.
-fn watch_all(lists: &mut WatchLists, set: &Entries, clauses: &[Clause])
-    requires few { length clauses.now < 2 ^ 32 }
-    requires exist { All (VariablesExist set.now.vars) clauses.now }
-    requires none { set.now.entries ≡ [] }
-    requires room { lists.old.cells.items ≡ replicate (length clauses.now + 1) blank }
-    requires empty { lists.old.heads.items ≡ replicate (2 * set.now.vars + 2) 0 }
-    ensures { IsAttached set.now.vars (length clauses.now) clauses.now lists.new.cells.items
-        lists.new.heads.items }
-{
-    let mut number = 0;
-    for clause in clauses {
-        number += 1;
-        lists.attach(set.vars(), number, choose(set, clause.lits(), 0));
     }
 }

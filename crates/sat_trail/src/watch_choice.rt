@@ -1,12 +1,16 @@
-ghost use Rattle.std.specs.Prelude.{◌≡◌, ◌≢◌, ◌<◌, ◌≤◌, length, Contains, IfSome, IfNone};
+ghost use Rattle.std.specs.Prelude.{◌≡◌, ◌≢◌, ◌+◌, ◌*◌, ◌^◌, ◌<◌, ◌≤◌, [], length, replicate, All, Contains};
+ghost use Rattle.std.specs.Prelude.{IfSome, IfNone};
 ghost use Rattle.std.specs.Bool.{OnTrue, OnFalse};
 ghost use Rattle.clause_core.specs.Clause.{VariablesExist};
 ghost use Rattle.clause_core.specs.Propagation.{MakesFalse, OthersFalse};
 ghost use Rattle.sat_trail.specs.Entry.{values_of};
 ghost use Rattle.sat_trail.specs.inner.Attach.{IsOpenAt, HasOpenTwo, MayWatch, AreClosed, AreChosen};
+ghost use Rattle.sat_trail.specs.inner.Attach.{IsAttached};
+ghost use Rattle.sat_trail.specs.inner.Watches.{blank};
 
 use super::set_literals::Entries;
-use clause_core::Lit;
+use super::watch_lists::WatchLists;
+use clause_core::{Clause, Lit};
 
 /// Whether the literal is another one and not false.
 fn may_take(set: &Entries, lit: Lit, kept: Lit) -> bool
@@ -79,4 +83,21 @@ pub fn choose(set: &Entries, clause: &[Lit], level: u32) -> Option<(Lit, Lit)>
     let one = best(set, clause, none, level)?;
     let other = best(set, clause, one, level)?;
     Some((one, other))
+}
+
+/// Lets each clause watch two of its literals, if it has as many.
+pub fn watch_all(lists: &mut WatchLists, set: &Entries, clauses: &[Clause])
+    requires few { length clauses.now < 2 ^ 32 }
+    requires exist { All (VariablesExist set.now.vars) clauses.now }
+    requires none { set.now.entries ≡ [] }
+    requires room { lists.old.cells.items ≡ replicate (length clauses.now + 1) blank }
+    requires empty { lists.old.heads.items ≡ replicate (2 * set.now.vars + 2) 0 }
+    ensures { IsAttached set.now.vars (length clauses.now) clauses.now lists.new.cells.items
+        lists.new.heads.items }
+{
+    let mut number = 0;
+    for clause in clauses {
+        number += 1;
+        lists.attach(set.vars(), number, choose(set, clause.lits(), 0));
+    }
 }

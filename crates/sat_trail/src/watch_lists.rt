@@ -1,11 +1,11 @@
 ghost use Rattle.std.specs.Prelude.{◌≡◌, ◌≢◌, ◌+◌, ◌*◌, ◌^◌, ◌<◌, ◌≤◌, ◌∷◌, length, IfOk, OnOk, IfSome, replicate, slice_set};
 ghost use Rattle.clause_core.specs.Literal.{rank};
-ghost use Rattle.sat_trail.specs.inner.Watches.{blank, cell_of, Watches, IsTurn, IsPut, ReservesCells};
+ghost use Rattle.sat_trail.specs.inner.Watches.{blank, cell_of, Watches, IsTurn, IsPut};
 ghost use Rattle.sat_trail.specs.inner.Watches.{watch, head_of, AreLinked};
-ghost use Rattle.sat_trail.specs.inner.Attach.{IsUnwatched, ArePair, IsAttachedTo};
+ghost use Rattle.sat_trail.specs.inner.Attach.{ReservesCells, IsUnwatched, ArePair, IsAttachedTo};
 ghost use Rattle.sat_trail.specs.declared.watch.Cell.{Cell as SpecCell};
 ghost use Rattle.sat_trail.specs.inner.Walk.{AreOthersListed, SetsLink, PutsFront, MovesWatch};
-ghost use Rattle.sat_trail.specs.inner.Walk.{Walks, IsNewWatch};
+ghost use Rattle.sat_trail.specs.inner.Walk.{Unlinks, Walks, IsNewWatch};
 
 use super::watch::{Cell, Watch};
 use clause_core::Lit;
@@ -124,6 +124,25 @@ impl WatchLists {
         self.set_link(lit, before, next);
         self.put_front(lit, number, to);
         next
+    }
+
+    /// Takes the clause of the number, which comes after `before` in the list of the literal, out
+    /// of it. Gives the number that came next. What the clause watches in place of the literal is
+    /// one of variable 0, whose list is never walked.
+    pub fn unlink(&mut self, vars: u32, lit: Lit, before: u32, number: u32) -> u32
+        requires vars { length self.old.heads.items ≡ 2 * vars + 2 }
+        requires walk { Walks self.old.cells.items self.old.heads.items lit before number }
+        requires others { AreOthersListed vars self.old.cells.items self.old.heads.items lit }
+        requires exists { (0 < lit.var) × (lit.var ≤ vars) }
+        ensures { Unlinks vars self.old.cells.items self.new.cells.items self.old.heads.items
+            self.new.heads.items lit before number result }
+    {
+        let other = self.watches(number, lit).other.lit;
+        let none = Lit {
+            var: 0,
+            positive: !other.positive,
+        };
+        self.move_watch(vars, lit, before, number, none)
     }
 
     /// Lets the clause of the number, or the list if that is 0, go on with another.

@@ -70,3 +70,23 @@ fn units_and_empty_clauses_are_found(rt: HostRuntime) -> Result<(), Fail> {
     assert_eq!(rt; trail.propagate(), Some(2));
     Ok(())
 }
+
+#[test]
+fn a_removed_clause_forces_nothing(rt: HostRuntime) -> Result<(), Fail> {
+    let f = formula(rt.alloc(), 3, &[&[-1, 2], &[-1, 3]])?;
+    assert_eq!(rt; f.clauses.len(), 2);
+    let mut trail = Trail::new(rt.alloc(), &f)?;
+    assert_eq!(rt; (trail.len(), trail.has_clause(1)), (0, true));
+    trail.remove(1);
+    assert_eq!(rt; (trail.last_number(), trail.has_clause(1)), (2, false));
+    assert_eq!(rt; trail.propagate(), None);
+    assert!(rt; trail.ready());
+    assert!(rt; trail.value(1).is_none());
+    trail.decide(Lit {
+        var: 1,
+        positive: true,
+    });
+    assert_eq!(rt; trail.propagate(), None);
+    assert_eq!(rt; (trail.value(2), trail.value(3)), (None, Some(true)));
+    Ok(())
+}

@@ -1,12 +1,12 @@
 -- Which literals a new clause is to watch.
 use Rattle.std.specs.Prelude.{◌≡◌, ◌≢◌, ℕ, ◌<◌, ◌≤◌, Option, Some, None, List, [], length, take}
-use Rattle.std.specs.Prelude.{Contains, IfSome}
+use Rattle.std.specs.Prelude.{Contains, IfSome, map}
 use Rattle.clause_core.specs.declared.literal.Lit.{Lit}
-use Rattle.clause_core.specs.Numbering.{numbered}
 use Rattle.clause_core.specs.Propagation.{MakesFalse, OthersFalse}
 use Rattle.sat_trail.specs.declared.entry.Entry.{Entry}
 use Rattle.sat_trail.specs.declared.watch.Cell.{Cell}
 use Rattle.sat_trail.specs.Entry.{entry_of, values_of}
+use Rattle.sat_trail.specs.State.{live}
 use Rattle.sat_trail.specs.inner.Excuse.{AreWatched}
 use Rattle.sat_trail.specs.inner.Watches.{cell_of, Watches, AreLinked}
 
@@ -48,6 +48,11 @@ pub record AreChosen
 abbrev pub IsUnwatched : Cell → Type 0
 IsUnwatched cell = (l : Lit) → 0 < l.var → ¬ Watches cell l
 
+-- a cell that watches nothing may have been added at the end
+pub record ReservesCells (cells new_cells : List Cell) : Type 0 where
+  pub more : length cells ≤ length new_cells
+  pub same : (n : ℕ) → cell_of new_cells n ≡ cell_of cells n
+
 -- two literals exist and differ
 pub record ArePair (vars : ℕ) (one other : Lit) : Type 0 where
   pub differ : one ≢ other
@@ -68,6 +73,7 @@ pub record IsAttached
     (vars count : ℕ) (clauses : List (List Lit)) (cells : List Cell) (heads : List ℕ)
     : Type 0 where
   pub linked : AreLinked vars cells heads
-  pub watched : AreWatched (numbered (take count clauses)) (length (take count clauses)) cells []
+  pub watched : let first = map Some (take count clauses) in
+      AreWatched (live first) (length first) cells []
       (record { level = 0; head = 0; examined = 0 })
   pub room : length clauses < length cells

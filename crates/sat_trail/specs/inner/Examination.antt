@@ -1,10 +1,11 @@
 -- What the values of the set literals say of one clause.
 use Rattle.std.specs.Prelude.{◌≡◌, ℕ, Bool, Option, Some, List, Contains}
 use Rattle.clause_core.specs.declared.literal.Lit.{Lit}
-use Rattle.clause_core.specs.Numbering.{numbered, HasNumber}
+use Rattle.clause_core.specs.Numbering.{HasNumber}
 use Rattle.clause_core.specs.Propagation.{OthersFalse, Falsifies, LeavesOnly}
 use Rattle.sat_trail.specs.declared.examination.Finding.{Finding}
 use Rattle.sat_trail.specs.declared.examination.Finding.TheVariants.{Settled, Forces, Falsified}
+use Rattle.sat_trail.specs.State.{live}
 
 -- if the known values make all literals but one false, that one is true by now
 pub record IsSettled (known now : ℕ → Option Bool) (clause : List Lit) : Type 0 where
@@ -19,7 +20,7 @@ IsFinding values clause Settled = IsSettled values values clause
 IsFinding values clause (Forces l) = LeavesOnly values clause l
 IsFinding values clause Falsified = Falsifies values clause
 
--- the clause of the number is settled
-abbrev pub IsSettledAt : List (List Lit) → ℕ → (ℕ → Option Bool) → Type 0
+-- the clause of the number, if it is live, is settled
+abbrev pub IsSettledAt : List (Option (List Lit)) → ℕ → (ℕ → Option Bool) → Type 0
 IsSettledAt clauses number values = (clause : List Lit) →
-    HasNumber (numbered clauses) number clause → IsSettled values values clause
+    HasNumber (live clauses) number clause → IsSettled values values clause

@@ -1,12 +1,19 @@
--- How the entries and the clauses are stored, so that a variable or a literal finds them.
+-- How the clauses and the entries are stored, so that a number or a variable finds them.
 use Rattle.std.specs.Prelude.{◌≡◌, ◌≢◌, ℕ, ◌+◌, ◌^◌, ◌<◌, ◌≤◌, Bool, true, false, Option, Some, None}
-use Rattle.std.specs.Prelude.{List, ◌++◌, length, All, AllPairs, is_some, count_by, take}
-use Rattle.std.specs.Prelude.{slice_index_or}
+use Rattle.std.specs.Prelude.{List, [], ◌∷◌, ◌++◌, length, All, AllPairs, is_some, count_by, take}
+use Rattle.std.specs.Prelude.{slice_index_or, if◌then◌else◌}
 use Rattle.std.specs.Option.{option_map}
+use Rattle.clause_core.specs.declared.literal.Lit.{Lit}
 use Rattle.sat_trail.specs.declared.entry.Entry.{Entry}
 use Rattle.sat_trail.specs.declared.value.Value.{Value}
 use Rattle.sat_trail.specs.declared.value.Value.TheVariants.{Unset, False, True}
 use Rattle.sat_trail.specs.Entry.{entry_of, values_of}
+
+-- each clause whose mark says that it is live
+abbrev pub marked : List (List Lit) → List Bool → List (Option (List Lit))
+marked [] marks = []
+marked (c ∷ rest) [] = None ∷ marked rest []
+marked (c ∷ rest) (live ∷ marks) = (if live then Some c else None) ∷ marked rest marks
 
 -- the entries, over the variables from 1 to `vars`
 pub record Assigned : Type 0 where
@@ -26,11 +33,13 @@ seen Unset = None
 seen False = Some false
 seen True = Some true
 
--- the value of each variable is that of its cell
+-- the value of each variable is that of its cell; the first value, which is no variable's, stays
+-- unset
 pub record HasValues (cells : List (Option Entry)) (values : List Value) : Type 0 where
-  pub many : length values ≡ length cells
-  pub same : (v : ℕ) → v < length cells →
-      seen (slice_index_or values v Unset) ≡ option_map (λ e. e.lit.positive) (slice_index_or cells v None)
+  pub many : length values ≡ length cells + 1
+  pub none : slice_index_or values 0 Unset ≡ Unset
+  pub same : (v : ℕ) → v < length cells → seen (slice_index_or values (v + 1) Unset)
+      ≡ option_map (λ e. e.lit.positive) (slice_index_or cells v None)
 
 -- the first `len` slots are the entries; there is a slot and a cell for each variable
 pub record IsStored

@@ -6,6 +6,7 @@ use Rattle.clause_core.specs.Literal.{rank}
 use Rattle.sat_trail.specs.declared.watch.Cell.{Cell}
 use Rattle.sat_trail.specs.inner.Watches.{cell_of, watch, Watches, IsPut, head_of, IsChain, IsBefore}
 use Rattle.sat_trail.specs.inner.Watches.{IsDistinct, joined, last_of, IsListed, KeepsLits, WatchesApart}
+use Rattle.sat_trail.specs.inner.Watches.{IsWithin}
 
 -- in the list of the literal, these clauses were passed, and those come
 pub record IsWalk
@@ -18,10 +19,10 @@ pub record IsWalk
   pub covers : (n : ℕ) → Watches (cell_of cells n) l → Contains (joined passed rest) n
   pub apart : (n : ℕ) → Watches (cell_of cells n) l → WatchesApart (cell_of cells n)
 
--- the lists of the other literals
-abbrev pub AreOthersListed : ℕ → List Cell → List ℕ → Lit → Type 0
-AreOthersListed vars cells heads l =
-    (m : Lit) → 0 < m.var → m.var ≤ vars → m ≢ l → IsListed cells heads m
+-- the other literals have their lists, and cells watch literals of the variables
+pub record AreOthersListed (vars : ℕ) (cells : List Cell) (heads : List ℕ) (l : Lit) : Type 0 where
+  pub listed : (m : Lit) → 0 < m.var → m.var ≤ vars → m ≢ l → IsListed cells heads m
+  pub within : (n : ℕ) → IsWithin vars (cell_of cells n)
 
 -- the next clause after that of the number, or the first one after number 0, is set
 pub data SetsLink
@@ -55,6 +56,14 @@ pub record MovesWatch
       IsWalk new_cells new_heads l passed rest before next
   pub others_listed : AreOthersListed vars new_cells new_heads l
 
+-- the clause of the number left the list of the literal, and watches none in its place
+pub record Unlinks
+    (vars : ℕ) (cells new_cells : List Cell) (heads new_heads : List ℕ) (l : Lit)
+    (before number next : ℕ) : Type 0 where
+  pub to : Lit
+  pub none : to.var ≡ 0
+  pub moves : MovesWatch vars cells new_cells heads new_heads l to before number next
+
 -- the clause of the number comes after another in the list of the literal, or is the first in it
 pub record Walks
     (cells : List Cell) (heads : List ℕ) (l : Lit) (before number : ℕ) : Type 0 where
@@ -62,8 +71,8 @@ pub record Walks
   pub rest : List ℕ
   pub walk : IsWalk cells heads l passed (number ∷ rest) before number
 
--- the literal exists, and the cell does not watch it
+-- the literal is of a variable or of variable 0, which stands for none, and the cell does not watch
+-- it
 pub record IsNewWatch (vars : ℕ) (cell : Cell) (to : Lit) : Type 0 where
-  pub from_one : 0 < to.var
   pub exists : to.var ≤ vars
   pub absent : ¬ Watches cell to

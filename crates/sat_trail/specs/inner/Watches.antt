@@ -81,18 +81,19 @@ pub record IsListed (cells : List Cell) (heads : List ℕ) (l : Lit) : Type 0 wh
   pub covers : (n : ℕ) → Watches (cell_of cells n) l → Contains list n
   pub apart : (n : ℕ) → Watches (cell_of cells n) l → WatchesApart (cell_of cells n)
 
--- each literal has its list
+-- the watched literals are of the variables up to `vars`, or of variable 0, which stands for none
+pub record IsWithin (vars : ℕ) (cell : Cell) : Type 0 where
+  pub one : cell.one.lit.var ≤ vars
+  pub other : cell.other.lit.var ≤ vars
+
+-- each literal has its list, and cells watch literals of the variables
 pub record AreLinked (vars : ℕ) (cells : List Cell) (heads : List ℕ) : Type 0 where
   pub many : length heads ≡ 2 * vars + 2
   pub some : 0 < length cells
   pub listed : (l : Lit) → 0 < l.var → l.var ≤ vars → IsListed cells heads l
+  pub within : (n : ℕ) → IsWithin vars (cell_of cells n)
 
 -- the cell watches the same literals
 pub record KeepsLits (cell new : Cell) : Type 0 where
   pub one : new.one.lit ≡ cell.one.lit
   pub other : new.other.lit ≡ cell.other.lit
-
--- a cell that watches nothing may have been added at the end
-pub record ReservesCells (cells new_cells : List Cell) : Type 0 where
-  pub more : length cells ≤ length new_cells
-  pub same : (n : ℕ) → cell_of new_cells n ≡ cell_of cells n

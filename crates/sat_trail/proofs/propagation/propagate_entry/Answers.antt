@@ -3,7 +3,7 @@ use Rattle.std.proofs.Common.{◌≤◌, ◌<◌, sym, subst, arith, ◌∙◌, 
 use Rattle.clause_core.specs.declared.literal.Lit.{Lit}
 use Rattle.sat_trail.proofs.CellLemmas.{link-turn}
 use Rattle.sat_trail.proofs.GrowthLemmas.{Extends-more}
-use Rattle.sat_trail.proofs.WalkLemmas.{walking-start, walking-walks, walking-linked, walking-ended, walking-passed, false-extends, stayed-member, walking-stayed, walking-failed, walking-moved}
+use Rattle.sat_trail.proofs.WalkLemmas.{walking-start, walking-visits, walking-linked, walking-ended, walking-passed, false-extends, stayed-member, walking-stayed, walking-failed, walking-moved}
 use Rattle.sat_trail.proofs.propagation.propagate_entry.Goals as goal
 use Rattle.sat_trail.proofs.propagation.propagate_entry.Goals.{in-Stays, in-Moves}
 
@@ -24,34 +24,33 @@ returns-then-number-eq0-clause-passed c =
 pub returns-then-number-eq0-clause-linked : goal.returns-then-number-eq0-clause-linked
 returns-then-number-eq0-clause-linked c = walking-linked _ _ _ _ _ _ _ _ _ _ _ c.loop-passed.invariant.walking
 
-pub visit_clause-requires-clause-fails : goal.visit_clause-requires-clause-fails
-visit_clause-requires-clause-fails c =
-    false-extends c.args.store.now c.args.set.now c.loop-passed.set c.args.level c.args.position c.negation-lit.result c.loop-passed.invariant.walking.runs.extends
-    (record { entry = c.at.result; there = c.at.ensures.entry; fails = sym c.negation-lit.ensures.exact })
-
-pub visit_clause-requires-clause-walk : goal.visit_clause-requires-clause-walk
-visit_clause-requires-clause-walk c = walking-walks _ _ _ _ _ _ _ _ _ _ _ c.loop-passed.invariant.walking c.if-number-eq0.false
+pub visit_clause-requires : goal.visit_clause-requires
+visit_clause-requires c = rw c.new-at.ensures
+    (walking-visits _ _ _ _ _ _ _ _ _ _ _ c.loop-passed.invariant.walking c.if-number-eq0.false
+    (false-extends c.args.store.now c.args.set.now c.loop-passed.set c.args.level c.args.position c.negation-lit.result c.loop-passed.invariant.walking.runs.extends
+    (record { entry = c.at.result; there = c.at.ensures.entry; fails = sym c.negation-lit.ensures.exact }))
+    (subst (λ (k : Lit). (0 < k.var) × (k.var ≤ c.args.set.now.vars)) (sym c.negation-lit.ensures.exact) (c.at.ensures.from_one, c.at.ensures.exists)))
 
 pub watches-number-requires-clause-within : goal.watches-number-requires-clause-within
-watches-number-requires-clause-within c = (stayed-member _ _ _ c.visit_clause.new.set _ _ _ _ _ _ _ _ _ _ c.loop-passed.invariant.walking c.if-number-eq0.false c.in-Stays.ensures.visit).0
+watches-number-requires-clause-within c = (stayed-member _ _ _ c.visit_clause.new.set _ _ _ _ _ _ _ _ _ _ c.loop-passed.invariant.walking c.if-number-eq0.false (rw c.new-at.ensures at c.in-Stays.ensures.visit)).0
 
 pub watches-number-requires-clause-there : goal.watches-number-requires-clause-there
-watches-number-requires-clause-there c = (stayed-member _ _ _ c.visit_clause.new.set _ _ _ _ _ _ _ _ _ _ c.loop-passed.invariant.walking c.if-number-eq0.false c.in-Stays.ensures.visit).1
+watches-number-requires-clause-there c = (stayed-member _ _ _ c.visit_clause.new.set _ _ _ _ _ _ _ _ _ _ c.loop-passed.invariant.walking c.if-number-eq0.false (rw c.new-at.ensures at c.in-Stays.ensures.visit)).1
 
 pub returns-in-Fails-clause-extends : goal.returns-in-Fails-clause-extends
 returns-in-Fails-clause-extends c = Extends-more _ _ _ c.loop-passed.set _ c.loop-passed.invariant.walking.runs.extends c.visit_clause.ensures.extends
 
 pub returns-in-Fails-clause-linked : goal.returns-in-Fails-clause-linked
-returns-in-Fails-clause-linked c = walking-failed _ _ _ c.visit_clause.new.set _ _ _ _ _ _ _ _ _ _ c.loop-passed.invariant.walking c.in-Fails.ensures.visit
+returns-in-Fails-clause-linked c = walking-failed _ _ _ c.visit_clause.new.set _ _ _ _ _ _ _ _ _ _ c.loop-passed.invariant.walking (rw c.new-at.ensures at c.in-Fails.ensures.visit)
 
 pub loop-passed-preserved : goal.loop-passed-preserved
 loop-passed-preserved c = record {
   walking = elim c.match-visit_clause.branch [
-    | in-Stays w ↦ rw (w.before-is, w.number-is) (walking-stayed _ _ _ c.visit_clause.new.set _ _ _ _ _ _ _ _ _ _ _ c.loop-passed.invariant.walking c.if-number-eq0.false c.visit_clause.ensures.extends c.visit_clause.ensures.watched w.in-Stays.ensures.visit
+    | in-Stays w ↦ rw (w.before-is, w.number-is) (walking-stayed _ _ _ c.visit_clause.new.set _ _ _ _ _ _ _ _ _ _ _ c.loop-passed.invariant.walking c.if-number-eq0.false c.visit_clause.ensures.extends (rw c.new-at.ensures at c.visit_clause.ensures.watched) (rw c.new-at.ensures at w.in-Stays.ensures.visit)
         (link-turn _ w.watches-number.result _ w.watches-number.ensures.turns w.watches-number.ensures.here))
-    | in-Moves w ↦ rw (w.before-is, w.number-is) (walking-moved _ _ _ c.visit_clause.new.set _ _ _ _ _ _ _ _ _ _ _ c.loop-passed.invariant.walking c.if-number-eq0.false c.visit_clause.ensures.extends c.visit_clause.ensures.watched c.visit_clause.ensures.many c.visit_clause.ensures.others w.in-Moves.ensures.visit)
+    | in-Moves w ↦ rw (w.before-is, w.number-is) (walking-moved _ _ _ c.visit_clause.new.set _ _ _ _ _ _ _ _ _ _ _ c.loop-passed.invariant.walking c.if-number-eq0.false c.visit_clause.ensures.extends (rw c.new-at.ensures at c.visit_clause.ensures.watched) (rw c.new-at.ensures at c.visit_clause.ensures.linked) (rw c.new-at.ensures at w.in-Moves.ensures.visit))
   ];
-  cells = c.visit_clause.ensures.many.cells_as_many ∙ c.loop-passed.invariant.cells;
+  cells = c.visit_clause.ensures.linked.cells_as_many ∙ c.loop-passed.invariant.cells;
 }
 
 pub returns-clause-passed : goal.returns-clause-passed

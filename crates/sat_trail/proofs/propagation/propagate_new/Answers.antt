@@ -4,6 +4,7 @@ use Rattle.clause_core.specs.Propagation.{LeavesOnly}
 use Rattle.sat_trail.specs.Entry.{values_of}
 use Rattle.sat_trail.specs.inner.Examination.{IsSettled}
 use Rattle.sat_trail.proofs.GrowthLemmas.{Extends-force, IsSettled-force, CanPropagate-exists}
+use Rattle.sat_trail.proofs.NumberLemmas.{removed-none}
 use Rattle.sat_trail.proofs.propagation.propagate_new.Goals as goal
 
 pub returns-in-Forces-clause-extends : goal.returns-in-Forces-clause-extends
@@ -19,3 +20,6 @@ returns-in-Forces-clause-settled c clause has =
     subst (IsSettled (values_of c.push.new.self.entries) (values_of c.push.new.self.entries))
     (c.lits.ensures.same ∙ same)
     (IsSettled-force _ _ _ _ c.args.set.now _ c.in-Forces.ensures c.push.ensures)
+
+pub returns-then-not-is_live-clause-settled : goal.returns-then-not-is_live-clause-settled
+returns-then-not-is_live-clause-settled c clause has = absurd (removed-none c.args.store.now c.args.number clause _ c.if-not-is_live.true c.is_live.ensures.1 has)

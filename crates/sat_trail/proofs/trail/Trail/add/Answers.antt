@@ -1,5 +1,5 @@
 -- The clause is open, so it was settled at each lower level.
-use Rattle.std.proofs.Common.{◌≤◌, length, sym, ap, subst, arith, false, List, [], ◌∷◌, length-append}
+use Rattle.std.proofs.Common.{◌≤◌, Option, Some, length, sym, ap, subst, arith, false, List, [], ◌∷◌, length-append}
 use Rattle.sat_trail.specs.inner.Attach.{HasOpenTwo}
 use Rattle.sat_trail.proofs.AdditionLemmas.{IsKept-reserved, IsKept-attached, open-two}
 use Rattle.sat_trail.proofs.AttachLemmas.{spare-unwatched}
@@ -53,4 +53,4 @@ returns-clause-sound c = IsTrail-grown _
 
 pub returns-clause-ok : goal.returns-clause-ok
 returns-clause-ok c = rw (← c.self.view_is)
-    (Adds-push _ c.args.c _ _ (ap (λ (store : List (List Lit)). state_of store c.self.inside.set c.self.inside.level false) c.in_ok-push.ensures.ok) (omega (arith, c.len.ensures, ap length c.in_ok-push.ensures.ok, length-append c.self.inside.store (c.args.c ∷ []))))
+    (Adds-push _ c.args.c _ _ (ap (λ (store : List (Option (List Lit))). state_of store c.self.inside.set c.self.inside.level false) c.in_ok-push.ensures.ok) (omega (arith, c.len.ensures, ap length c.in_ok-push.ensures.ok, length-append c.self.inside.store (Some c.args.c ∷ []))))

@@ -14,12 +14,12 @@ overflow_add-self c =
 pub invariant_of-self : goal.invariant_of-self
 invariant_of-self c =
     IsKept-decide _ _ _ _ _ _ _ _ _ c.args.lit _ (rw (← c.self.view_is) at c.requires.ready) c.self.invariant c.requires.from_one (rw (← c.self.view_is) at c.requires.exists)
-    (rw (← c.self.view_is) at c.requires.no_value) c.push.ensures c.len-self-inside.ensures.count
+    (rw (← c.self.view_is) at c.requires.no_value) (rw c.decision.ensures at c.push.ensures) c.len-self-inside.ensures.count
 
 pub returns-clause-sound : goal.returns-clause-sound
 returns-clause-sound c =
     IsTrail-grown _ (IsKept-decide _ _ _ _ _ _ _ _ _ c.args.lit _ (rw (← c.self.view_is) at c.requires.ready) c.self.invariant c.requires.from_one (rw (← c.self.view_is) at c.requires.exists)
-    (rw (← c.self.view_is) at c.requires.no_value) c.push.ensures c.len-self-inside.ensures.count).trail
+    (rw (← c.self.view_is) at c.requires.no_value) (rw c.decision.ensures at c.push.ensures) c.len-self-inside.ensures.count).trail
 
 pub returns-clause-room : goal.returns-clause-room
 returns-clause-room c =

@@ -1,7 +1,7 @@
 -- The clauses that were passed are watched.
 use Rattle.std.proofs.Common.{◌≡◌}
 use Rattle.sat_trail.specs.inner.Attach.{IsAttached}
-use Rattle.sat_trail.proofs.trail.watch_all.Given as goal
+use Rattle.sat_trail.proofs.watch_choice.watch_all.Given as goal
 
 abbrev pub invariant-loop-clause : goal.invariant-loop-clause
 invariant-loop-clause l = record {

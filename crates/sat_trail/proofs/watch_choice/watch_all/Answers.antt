@@ -2,7 +2,7 @@
 use Rattle.std.proofs.Common.{◌+◌, ◌≤◌, length, sym, ap, subst, rules}
 use Rattle.sat_trail.specs.inner.Attach.{HasOpenTwo}
 use Rattle.sat_trail.proofs.AdditionLemmas.{attached-start, open-empty, attached-blank, attached-next}
-use Rattle.sat_trail.proofs.trail.watch_all.Goals as goal
+use Rattle.sat_trail.proofs.watch_choice.watch_all.Goals as goal
 
 pub loop-clause-init : goal.loop-clause-init
 loop-clause-init c = record { counted = search rules; attached = attached-start _ _ _ _ c.requires.room c.requires.empty }
