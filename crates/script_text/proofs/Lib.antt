@@ -1,2 +1,11 @@
 pub mod FieldLemmas
+pub mod FormLemmas
+pub mod KeyLemmas
+pub mod LineLemmas
+pub mod NameLemmas
 pub mod NumberLemmas
+pub mod ReadingLemmas
+pub mod RuleLemmas
+pub mod SaidLemmas
+pub mod StatementLemmas
+pub mod ValueLemmas

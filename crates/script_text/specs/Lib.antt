@@ -1,2 +1,3 @@
--- What the reader's functions say of lines.
+-- What is read of a text; what private functions cite is last.
+pub mod Reading
 pub mod inner

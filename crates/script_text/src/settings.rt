@@ -1,4 +1,4 @@
-ghost use Rattle.std.specs.Prelude.{◌≡◌, ◌≢◌, ◌↔◌, IsTrue, MatchOption};
+ghost use Rattle.std.specs.Prelude.{◌≡◌, ◌≢◌, ◌<◌, ◌^◌, ◌↔◌, IsTrue, MatchOption};
 ghost use Rattle.agent_scripts.specs.declared.statement.Setting.{Setting};
 ghost use Rattle.agent_scripts.specs.Table.{setting_word, IsSetting};
 
@@ -24,7 +24,8 @@ pub fn setting_of(word: &[u8]) -> Option<Setting>
 
 /// Whether the setting can have the number.
 pub fn is_setting(setting: Setting, n: u64) -> bool
-    ensures { IsTrue result ↔ IsSetting setting n }
+    ensures exact { IsTrue result ↔ IsSetting setting n }
+    ensures number { n < 2 ^ 64 }
 {
     match setting {
         Setting::Keys => 1 <= n && n <= 10_000,

@@ -9,3 +9,7 @@ is_blank b = b == 32 || b == 9
 abbrev pub BeginsField : List ℕ → Type 0
 BeginsField [] = Unit {0}
 BeginsField (b ∷ _) = is_blank b ≡ false
+
+-- LF
+abbrev pub is_line_end : ℕ → Bool
+is_line_end b = b == 10

@@ -1,0 +1,27 @@
+-- What is learnt by reading a line, or a part of one.
+use Rattle.std.specs.Prelude.{◌≡◌, ◌≢◌, ℕ, List, map, Result, Ok, Err}
+use Rattle.std.specs.List.{All}
+use Rattle.bspl_types.specs.declared.expanded.Expanded.{Expanded}
+use Rattle.agent_scripts.specs.declared.statement.Statement.{Statement}
+use Rattle.agent_scripts.specs.Lines.{Field}
+use Rattle.agent_scripts.specs.Statement.{HasForm, IsSentBy, Says, message_name}
+use Rattle.script_text.specs.declared.line_error.LineError.{LineError}
+use Rattle.script_text.specs.declared.line_error.LineError.TheVariants.{Form, Unknown, NoMemory}
+
+-- the fields say the statement that is read, or have no form of the table, or have one and say
+-- nothing of the protocol
+abbrev pub ReadsFields : Expanded → List Field → Result Statement LineError → Type 0
+ReadsFields x fields (Ok statement) = Says x fields statement
+ReadsFields x fields (Err Form) = ¬ HasForm x fields
+ReadsFields x fields (Err Unknown) =
+    HasForm x fields × ((s : Statement) → ¬ Says x fields s)
+ReadsFields x fields (Err NoMemory) = Unit {0}
+
+-- the fields name messages that the role sends, or there are none with these names
+abbrev pub ReadsOrder : Expanded → ℕ → List Field → Result (List ℕ) LineError → Type 0
+ReadsOrder x role fields (Ok messages) =
+    All (IsSentBy x role) messages × (fields ≡ map (message_name x) messages)
+ReadsOrder x role fields (Err Form) = ⊥
+ReadsOrder x role fields (Err Unknown) =
+    (messages : List ℕ) → All (IsSentBy x role) messages → fields ≢ map (message_name x) messages
+ReadsOrder x role fields (Err NoMemory) = Unit {0}
