@@ -1,0 +1,16 @@
+pub mod EmissionLemmas
+pub mod EmitLemmas
+pub mod EntryLemmas
+pub mod FinishLemmas
+pub mod GrowLemmas
+pub mod InboxLemmas
+pub mod MergeLemmas
+pub mod OpenLemmas
+pub mod OwedLemmas
+pub mod RoundLemmas
+pub mod SetLemmas
+pub mod SoundLemmas
+pub mod TableLemmas
+pub mod TakeLemmas
+pub mod WholeLemmas
+pub mod WorldLemmas

@@ -1,0 +1,41 @@
+-- What posting one envelope leaves.
+use Rattle.std.proofs.Common.{subst, sym}
+use Rattle.adapter.specs.Kept.{IsFor, IsKept}
+use Rattle.stamped_history.specs.Explained.{history_at}
+use Rattle.world_run.specs.World.{histories_of}
+use Rattle.world_run.proofs.OwedLemmas.{item_there, owed_arrives, posted_failed, posted_none, posted_one}
+use Rattle.world_run.proofs.inboxes.post.Goals as goal
+
+pub returns-in_default-clause-posted : goal.returns-in_default-clause-posted
+returns-in_default-clause-posted c = posted_none c.args.job.now c.args.desks.now c.requires.sound
+
+pub at_mut-requires : goal.at_mut-requires
+at_mut-requires c =
+    let entry = item_there (history_at (histories_of c.args.desks.now) c.args.role) c.args.index c.requires.index in
+    (c.in-Some.ensures entry.0 entry.1).within
+
+pub accept-requires-clause-kept : goal.accept-requires-clause-kept
+accept-requires-clause-kept c =
+    let is : IsKept c.args.job.now c.in-Some.envelope.to c.at_mut.result.now = c.requires.sound.kept.each c.in-Some.envelope.to c.at_mut.result.now c.at_mut.ensures.item in
+    subst (λ r. IsKept c.args.job.now r c.at_mut.result.now) (sym is.role_is) is
+
+pub accept-requires-clause-own : goal.accept-requires-clause-own
+accept-requires-clause-own c = λ some.
+    let is : IsKept c.args.job.now c.in-Some.envelope.to c.at_mut.result.now = c.requires.sound.kept.each c.in-Some.envelope.to c.at_mut.result.now c.at_mut.ensures.item in
+    let entry = item_there (history_at (histories_of c.args.desks.now) c.args.role) c.args.index c.requires.index in
+    subst (λ r. IsFor c.args.job.now r c.in-Some.envelope) (sym is.role_is) (c.in-Some.ensures entry.0 entry.1).is_for
+
+pub returns-in_err-accept-clause-posted : goal.returns-in_err-accept-clause-posted
+returns-in_err-accept-clause-posted c =
+    posted_failed c.args.job.now c.args.desks.now c.in-Some.envelope c.at_mut.result.now c.accept.new.desk c.requires.sound c.at_mut.ensures.item c.in_err-accept.ensures.err
+
+pub returns-clause-posted : goal.returns-clause-posted
+returns-clause-posted c =
+    let is : IsKept c.args.job.now c.in-Some.envelope.to c.at_mut.result.now = c.requires.sound.kept.each c.in-Some.envelope.to c.at_mut.result.now c.at_mut.ensures.item in
+    let entry = item_there (history_at (histories_of c.args.desks.now) c.args.role) c.args.index c.requires.index in
+    posted_one c.args.job.now c.args.desks.now c.in-Some.envelope c.at_mut.result.now c.accept.new.desk c.requires.sound c.at_mut.ensures.item
+    (subst (λ r. IsKept c.args.job.now r c.accept.new.desk) is.role_is c.accept.ensures.kept) c.accept.ensures.store (c.in-Some.ensures entry.0 entry.1).sent c.in_ok-accept.ensures.ok
+
+pub returns-clause-arrive : goal.returns-clause-arrive
+returns-clause-arrive c = λ entry at.
+    owed_arrives c.args.job.now c.args.desks.now entry c.in-Some.envelope c.at_mut.result.now c.accept.new.desk (c.in-Some.ensures entry at) c.at_mut.ensures.item c.in_ok-accept.ensures.ok

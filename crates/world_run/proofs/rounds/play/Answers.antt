@@ -1,0 +1,20 @@
+-- The rounds one after another.
+use Rattle.std.proofs.Common.{◌≡◌, false, arith}
+use Rattle.world_run.proofs.RoundLemmas.{extend_twice}
+use Rattle.world_run.proofs.rounds.play.Goals as goal
+
+pub returns-in_err-acted-clause-extend : goal.returns-in_err-acted-clause-extend
+returns-in_err-acted-clause-extend c =
+    extend_twice c.args.job.now c.args.desks.now c.rounds.desks c.round.new.desks c.rounds.invariant.extend c.round.ensures.extend
+
+pub returns-then-not-acted-clause-idle : goal.returns-then-not-acted-clause-idle
+returns-then-not-acted-clause-idle c =
+    let rested : c.in_ok-acted.acted ≡ false = grind (arith, c.if-not-acted.true) in
+    c.in_ok-acted.ensures.idle rested
+
+pub rounds-preserved : goal.rounds-preserved
+rounds-preserved c =
+    record {
+      extend = extend_twice c.args.job.now c.args.desks.now c.rounds.desks c.round.new.desks c.rounds.invariant.extend c.round.ensures.extend;
+      whole = c.in_ok-acted.ensures.progress.whole;
+    }

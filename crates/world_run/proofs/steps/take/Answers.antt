@@ -1,0 +1,41 @@
+-- What a taking leaves, from its lemmas.
+use Rattle.std.proofs.Common.{ℕ, List, slice_set, sym, ◌∙◌, subst}
+use Rattle.adapter.specs.Desk.{DeskState}
+use Rattle.adapter.specs.Kept.{IsKept}
+use Rattle.agent_scripts.specs.Job.{Job}
+use Rattle.world_run.specs.inner.Steps.{IsProgress}
+use Rattle.world_run.proofs.TakeLemmas.{Taken, taken}
+use Rattle.world_run.proofs.steps.take.Goals as goal
+
+pub returns-clause-extend : goal.returns-clause-extend
+returns-clause-extend c =
+    let job : Job = c.args.job.now in
+    let desks : List DeskState = c.args.desks.now in
+    let role : ℕ = c.args.role in
+    let old : DeskState = c.at_mut.result.now in
+    let new : DeskState = c.desk_take.new.desk in
+    let kept : IsKept job role new = subst (λ r. IsKept job r new) (c.requires.sound.kept.each role old c.at_mut.ensures.item).role_is c.desk_take.ensures.kept in
+    let left : Taken job desks role c.desk_take.result (slice_set desks role new) = taken c.extended_stay_explained.ensures.receipt job desks role old new c.requires.safe c.requires.sound c.requires.whole c.at_mut.ensures.item kept c.args.rng.now c.desk_take.result c.desk_take.ensures.taken in
+    left.extend
+
+pub returns-clause-progress : goal.returns-clause-progress
+returns-clause-progress c =
+    let job : Job = c.args.job.now in
+    let desks : List DeskState = c.args.desks.now in
+    let role : ℕ = c.args.role in
+    let old : DeskState = c.at_mut.result.now in
+    let new : DeskState = c.desk_take.new.desk in
+    let kept : IsKept job role new = subst (λ r. IsKept job r new) (c.requires.sound.kept.each role old c.at_mut.ensures.item).role_is c.desk_take.ensures.kept in
+    let left : Taken job desks role c.desk_take.result (slice_set desks role new) = taken c.extended_stay_explained.ensures.receipt job desks role old new c.requires.safe c.requires.sound c.requires.whole c.at_mut.ensures.item kept c.args.rng.now c.desk_take.result c.desk_take.ensures.taken in
+    subst (λ b. IsProgress job desks b (slice_set desks role new)) (sym c.is_some.ensures) left.progress
+
+pub returns-clause-empty : goal.returns-clause-empty
+returns-clause-empty c = λ rested d d_at.
+    let job : Job = c.args.job.now in
+    let desks : List DeskState = c.args.desks.now in
+    let role : ℕ = c.args.role in
+    let old : DeskState = c.at_mut.result.now in
+    let new : DeskState = c.desk_take.new.desk in
+    let kept : IsKept job role new = subst (λ r. IsKept job r new) (c.requires.sound.kept.each role old c.at_mut.ensures.item).role_is c.desk_take.ensures.kept in
+    let left : Taken job desks role c.desk_take.result (slice_set desks role new) = taken c.extended_stay_explained.ensures.receipt job desks role old new c.requires.safe c.requires.sound c.requires.whole c.at_mut.ensures.item kept c.args.rng.now c.desk_take.result c.desk_take.ensures.taken in
+    left.empty (sym c.is_some.ensures ∙ rested) d d_at

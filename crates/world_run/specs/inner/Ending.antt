@@ -1,0 +1,12 @@
+-- When desks are at their end.
+use Rattle.std.specs.Prelude.{List}
+use Rattle.adapter.specs.Desk.{DeskState}
+use Rattle.agent_scripts.specs.Job.{Job}
+use Rattle.world_run.specs.Finished.{IsFinished}
+use Rattle.world_run.specs.inner.Idle.{AreIdle}
+use Rattle.world_run.specs.inner.Underway.{AreSound, AreWhole}
+
+-- sound desks at which all that is emitted arrives, and that are idle, are finished
+abbrev pub IdleDesksFinish : Job → Type 0
+IdleDesksFinish job = (desks : List DeskState) →
+    AreSound job desks → AreWhole job desks → AreIdle job desks → IsFinished job desks

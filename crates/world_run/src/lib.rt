@@ -1,0 +1,20 @@
+//! All roles of a protocol in one world: their run on one thread, what it leaves, and its table.
+#![tactic(auto)]
+
+mod desk_history;
+mod emissions;
+mod inboxes;
+mod laws;
+mod merged_run;
+mod opening;
+mod rounds;
+mod run;
+mod steps;
+mod table_value;
+mod world;
+
+pub use laws::kept_desks_merge;
+pub use merged_run::merge;
+pub use run::{run_one, settle};
+pub use table_value::table;
+pub use world::{DeskList, World};

@@ -1,0 +1,72 @@
+ghost use Rattle.std.specs.Prelude.{◌≡◌, ◌<◌, length, IfOk, OnOk};
+ghost use Rattle.local_store.specs.State.{new_store};
+ghost use Rattle.world_run.specs.inner.Opening.{AreOpened, incoming, IsOpened, own};
+
+use super::world::DeskList;
+use adapter::Desk;
+use agent_scripts::{Job, scripts_fit};
+use bspl_types::Message;
+use list_base::{NoMemory, Seq};
+use local_store::Store;
+use reorder_net::Inbox;
+use std::alloc::Global;
+
+/// Desks for all roles of the job, without events, with all room that a run takes.
+pub fn open_desks(alloc: Global, job: &Job) -> Result<DeskList, NoMemory>
+    ensures { IfOk result (AreOpened job.now) }
+{
+    let roles = job.admitted().expanded().roles.len();
+    let mut desks = Seq::new(alloc);
+    for role in 0..roles {
+        let desk = open_desk(alloc, job, role as u32)?;
+        desks.push(desk)?;
+    }
+    Ok(desks)
+}
+
+/// A desk for the role.
+fn open_desk(alloc: Global, job: &Job, role: u32) -> Result<Desk, NoMemory>
+    requires { role < length job.now.protocol.roles }
+    ensures { IfOk result (IsOpened job.now role) }
+{
+    let messages = job.admitted().expanded().messages.as_slice();
+    let keys = job.script().count();
+    let mut store = Store::new(alloc, job.admitted(), role)?;
+    hold_keys(&mut store, job)?;
+    store.reserve(keys as u32 * count_own(messages, role) as u32 + 1)?;
+    let mut inbox = Inbox::new(alloc);
+    inbox.reserve(keys as usize * count_incoming(messages, role))?;
+    prove!(store.len() == 0);
+    Ok(Desk::of(store, inbox))
+}
+
+/// Makes all workload keys held.
+fn hold_keys(store: &mut Store, job: &Job) -> Result<(), NoMemory>
+    requires { store.old ≡ new_store job.now.protocol store.old.role }
+    ensures { OnOk result (store.new ≡ record store.old { keys = job.now.script.keys }) }
+{
+    // law: the workload keys have a value for each key parameter
+    scripts_fit();
+    let script = job.script();
+    for index in 0..script.count() {
+        store.add_key(&script.key(index + 1))?;
+    }
+    Ok(())
+}
+
+/// How many of the messages the role sends or receives.
+fn count_own(messages: &[Message], role: u32) -> usize
+    ensures { result ≡ length (own messages.now role) }
+{
+    messages
+        .iter()
+        .filter(|m| m.sender == role || m.receiver == role)
+        .count()
+}
+
+/// How many of the messages go to the role.
+fn count_incoming(messages: &[Message], role: u32) -> usize
+    ensures { result ≡ length (incoming messages.now role) }
+{
+    messages.iter().filter(|m| m.receiver == role).count()
+}

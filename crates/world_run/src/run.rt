@@ -1,0 +1,50 @@
+ghost use Rattle.std.specs.Prelude.{IfOk, OnOk};
+ghost use Rattle.enactment_model.specs.Safety.{SafeProtocol};
+ghost use Rattle.stamped_history.specs.Explained.{AreExplained};
+ghost use Rattle.world_run.specs.Finished.{IsFinished};
+ghost use Rattle.world_run.specs.World.{AreKept, HistoriesGrow, histories_of};
+
+use super::inboxes::renew_inboxes;
+use super::laws::idle_desks_finish;
+use super::opening::open_desks;
+use super::rounds::play;
+use super::world::World;
+use agent_scripts::Job;
+use list_base::NoMemory;
+use rand_core::SeedableRng;
+use rand_pcg::Pcg32;
+use std::alloc::Global;
+
+/// Runs all roles on one thread, in an order that the plan's seed gives, and settles.
+pub fn run_one(alloc: Global, job: &Job) -> Result<World, NoMemory>
+    requires safe { SafeProtocol job.now.protocol }
+    ensures { IfOk result (λ world. IsFinished job.now world.desks) }
+{
+    let mut desks = open_desks(alloc, job)?;
+    play(&mut desks, job, &mut first_generator(job))?;
+    let mut world = World { desks };
+    settle(alloc, job, &mut world)?;
+    Ok(world)
+}
+
+/// Delivers what is owed and lets the agents act until nothing is left. The inboxes are made anew, in
+/// their old room, so what they held before does not matter. Out of memory leaves longer histories.
+pub fn settle(alloc: Global, job: &Job, world: &mut World) -> Result<(), NoMemory>
+    requires safe { SafeProtocol job.now.protocol }
+    requires kept { AreKept job.now world.old.desks }
+    requires explained { AreExplained job.now.protocol (histories_of world.old.desks) }
+    ensures ok { OnOk result (IsFinished job.now world.new.desks) }
+    ensures grow { HistoriesGrow (histories_of world.old.desks) (histories_of world.new.desks) }
+    ensures kept { AreKept job.now world.new.desks }
+    ensures explained { AreExplained job.now.protocol (histories_of world.new.desks) }
+{
+    // law: desks at which nothing is left to do are finished
+    idle_desks_finish(job);
+    renew_inboxes(alloc, job, &mut world.desks)?;
+    play(&mut world.desks, job, &mut first_generator(job))
+}
+
+/// The generator of the plan's seed.
+fn first_generator(job: &Job) -> Pcg32 {
+    Pcg32::seed_from_u64(job.plan().seed)
+}
