@@ -50,8 +50,9 @@ fn input_reply<R: Source>(
     request: Request<'_>,
     input: &mut R,
 ) -> Result<Reply, Aborted>
-    ensures ok { (args : List (List ℕ)) → Requests args request.entry.name.now request.entry.property
-        → IfOk result (IsReply args (R.remaining input.old) (R.remaining input.new)) }
+    ensures ok { (args : List (List ℕ)) →
+        Requests args request.entry.name.now request.entry.property →
+        IfOk result (IsReply args (R.remaining input.old) (R.remaining input.new)) }
     ensures counted { IsErrOf result Aborted.ReadFault →
         HasCounted (R.faults input.old) (R.faults input.new) }
     ensures still { ¬ IsErrOf result Aborted.ReadFault → R.faults input.new ≡ R.faults input.old }
