@@ -1,11 +1,8 @@
 pub mod ChainLemmas
 pub mod Folding
 pub mod Failing
-pub mod FailingEntries
+pub mod FailingSteps
 pub mod MarkLemmas
 pub mod OneAnswer
-pub mod Running
-pub mod RunningLog
 pub mod Soundness
-pub mod TableLemmas
 pub mod TakingLemmas

@@ -3,13 +3,11 @@
 
 mod chains;
 mod checker;
-mod clause_table;
 mod laws;
-mod log_run;
 mod lookup;
 mod mark_table;
 mod refusal;
-mod removals;
+mod steps;
 
 pub use checker::check_log;
 pub use laws::fails_once;
