@@ -5,7 +5,8 @@ use Rattle.clause_core.specs.declared.literal.Lit.{Lit}
 use Rattle.clause_core.specs.Resolvent.{ResolventsAgree}
 use Rattle.refutation_log.specs.declared.refutation.Entry.{Entry}
 use Rattle.refutation_log.specs.declared.refutation.Entry.TheVariants.{Step, Drop}
-use Rattle.refutation_log.specs.Ledger.{Ledger, live, all_live, AllRemoved, IsLive}
+use Rattle.clause_core.specs.Numbering.{live}
+use Rattle.refutation_log.specs.Ledger.{Ledger, all_live, AllRemoved, IsLive}
 use Rattle.refutation_log.specs.Resolution.{Runs}
 use Rattle.log_checker.specs.declared.refusal.Reject.{Reject}
 use Rattle.log_checker.specs.declared.refusal.Reject.TheVariants.{NoClause, NoPivot, NoDrop, NotEmpty, NoMemory}

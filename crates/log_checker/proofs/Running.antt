@@ -6,7 +6,8 @@ use Rattle.clause_core.specs.declared.literal.Lit.{Lit}
 use Rattle.clause_core.specs.Resolvent.{ResolventsAgree}
 use Rattle.refutation_log.specs.declared.refutation.Entry.{Entry}
 use Rattle.refutation_log.specs.declared.refutation.Entry.TheVariants.{Step, Drop}
-use Rattle.refutation_log.specs.Ledger.{Ledger, live, without, without_all, AllRemoved, IsLive}
+use Rattle.clause_core.specs.Numbering.{live}
+use Rattle.refutation_log.specs.Ledger.{Ledger, without, without_all, AllRemoved, IsLive}
 use Rattle.refutation_log.specs.Resolution.{Runs}
 use Rattle.log_checker.specs.FirstFailure.{LacksLive}
 use Rattle.log_checker.proofs.Folding.{derives_one}

@@ -8,7 +8,8 @@ use Rattle.refutation_log.specs.declared.refutation.Chain.{Chain}
 use Rattle.refutation_log.specs.declared.refutation.Entry.{Entry}
 use Rattle.refutation_log.specs.declared.refutation.Entry.TheVariants.{Step, Drop}
 use Rattle.refutation_log.specs.Entries.{steps_of}
-use Rattle.refutation_log.specs.Ledger.{Ledger, live, all_live, without_all, AllRemoved, IsLive}
+use Rattle.clause_core.specs.Numbering.{live}
+use Rattle.refutation_log.specs.Ledger.{Ledger, all_live, without_all, AllRemoved, IsLive}
 use Rattle.refutation_log.specs.Resolution.{Derives, Runs}
 use Rattle.refutation_log.specs.ResolutionLaws.{RunsAppend}
 use Rattle.log_checker.specs.declared.refusal.ChainError.{ChainError}

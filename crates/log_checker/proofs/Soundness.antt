@@ -6,7 +6,7 @@ use Rattle.std.proofs.lemmas.List.Elements.{All-contains, All-append, All-from_r
 use Rattle.clause_core.specs.declared.literal.Lit.{Lit}
 use Rattle.clause_core.specs.declared.formula.Formula.{Formula}
 use Rattle.clause_core.specs.Clause.{Satisfies, IsUnsatisfiable}
-use Rattle.clause_core.specs.Numbering.{HasNumber}
+use Rattle.clause_core.specs.Numbering.{HasNumber, live}
 use Rattle.clause_core.specs.Resolvent.{ResolventsFollow}
 use Rattle.refutation_log.specs.declared.refutation.Link.{Link}
 use Rattle.refutation_log.specs.declared.refutation.Chain.{Chain}
@@ -14,7 +14,7 @@ use Rattle.refutation_log.specs.declared.refutation.Entry.{Entry}
 use Rattle.refutation_log.specs.declared.refutation.Entry.TheVariants.{Step, Drop}
 use Rattle.refutation_log.specs.declared.refutation.Log.{Log}
 use Rattle.refutation_log.specs.Entries.{entries}
-use Rattle.refutation_log.specs.Ledger.{Ledger, live, all_live, without, without_all, IsLive}
+use Rattle.refutation_log.specs.Ledger.{Ledger, all_live, without, without_all, IsLive}
 use Rattle.refutation_log.specs.Resolution.{Folds, Derives, Runs, Accepts}
 use Rattle.log_checker.specs.declared.refusal.Reject.{Reject}
 

@@ -3,8 +3,8 @@ use Rattle.std.proofs.Common.{◌≡◌, ◌↔◌, ℕ, zero, suc, ◌-◌, ◌
 use Rattle.std.proofs.lemmas.Bool.{cond-false, ne_eqb}
 use Rattle.std.proofs.lemmas.List.{append_assoc, append-nil}
 use Rattle.clause_core.specs.declared.literal.Lit.{Lit}
-use Rattle.clause_core.specs.Numbering.{numbered, HasNumber}
-use Rattle.refutation_log.specs.Ledger.{Ledger, live, all_live, IsLive}
+use Rattle.clause_core.specs.Numbering.{numbered, HasNumber, live}
+use Rattle.refutation_log.specs.Ledger.{Ledger, all_live, IsLive}
 use Rattle.log_checker.specs.ChainFailure.{HasNoClause}
 use Rattle.log_checker.specs.inner.Table.{ledger_of}
 use Rattle.log_checker.proofs.Folding.{names_one}

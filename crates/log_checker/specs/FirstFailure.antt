@@ -2,13 +2,13 @@
 use Rattle.std.specs.Prelude.{◌≡◌, ℕ, ◌+◌, Some, List, [], ◌∷◌, ◌++◌, length, take, Contains, slice_get}
 use Rattle.clause_core.specs.declared.literal.Lit.{Lit}
 use Rattle.clause_core.specs.declared.formula.Formula.{Formula}
-use Rattle.clause_core.specs.Numbering.{Numbering}
+use Rattle.clause_core.specs.Numbering.{Numbering, live}
 use Rattle.refutation_log.specs.declared.refutation.Chain.{Chain}
 use Rattle.refutation_log.specs.declared.refutation.Log.{Log}
 use Rattle.refutation_log.specs.declared.refutation.Entry.{Entry}
 use Rattle.refutation_log.specs.declared.refutation.Entry.TheVariants.{Step, Drop}
 use Rattle.refutation_log.specs.Entries.{entries}
-use Rattle.refutation_log.specs.Ledger.{Ledger, live, all_live, without_all, AllRemoved, IsLive}
+use Rattle.refutation_log.specs.Ledger.{Ledger, all_live, without_all, AllRemoved, IsLive}
 use Rattle.refutation_log.specs.Resolution.{Accepts, Runs}
 use Rattle.log_checker.specs.ChainFailure.{HasNoClause, LacksClause, LacksPivot}
 use Rattle.log_checker.specs.declared.refusal.Reject.{Reject}
@@ -28,7 +28,7 @@ abbrev pub AtStep : ℕ → (Numbering → Chain → Type 0) → ℕ → Ledger 
 AtStep step Failure done ledger (Step chain) = (step ≡ done + 1) × Failure (live ledger) chain
 AtStep step Failure done ledger (Drop numbers) = ⊥
 
--- the entry is a removal after that many steps, of which the item-th number is not live
+-- the entry is a removal after `after` steps, of which the item-th number is not live
 abbrev pub AtDrop : ℕ → ℕ → ℕ → Ledger → Entry → Type 0
 AtDrop after item done ledger (Step chain) = ⊥
 AtDrop after item done ledger (Drop numbers) = (after ≡ done) × LacksLive ledger numbers item

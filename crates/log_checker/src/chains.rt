@@ -1,7 +1,7 @@
 ghost use Rattle.std.specs.Prelude.{◌≡◌, ◌++◌, [], List, All, IfOk, IfErr, OnOk};
 ghost use Rattle.clause_core.specs.declared.literal.Lit.{Lit};
 ghost use Rattle.clause_core.specs.Clause.{VariablesExist};
-ghost use Rattle.refutation_log.specs.Ledger.{live};
+ghost use Rattle.clause_core.specs.Numbering.{live};
 ghost use Rattle.refutation_log.specs.Resolution.{Derives, Resolved};
 ghost use Rattle.log_checker.specs.inner.Marks.{Marks};
 ghost use Rattle.log_checker.specs.inner.Stops.{LinkStops, ChainStops};

@@ -1,6 +1,6 @@
 ghost use Rattle.std.specs.Prelude.{◌≡◌, ◌-◌, ◌<◌, ◌↔◌, [], ◌∷◌, ◌++◌, length, Contains, Some, IsTrue, IfOk, IfSome, IfNone, OnOk};
-ghost use Rattle.clause_core.specs.Numbering.{numbered, HasNumber};
-ghost use Rattle.refutation_log.specs.Ledger.{live, all_live, without, IsLive};
+ghost use Rattle.clause_core.specs.Numbering.{numbered, HasNumber, live};
+ghost use Rattle.refutation_log.specs.Ledger.{all_live, without, IsLive};
 ghost use Rattle.log_checker.specs.ChainFailure.{HasNoClause};
 
 use super::lookup::{any_empty, clause_of};

@@ -7,7 +7,7 @@ pub enum Reject {
     NoClause { step: u32 },
     /// The link's pivot is not in the clause so far, or its negation not in the link's clause.
     NoPivot { step: u32, link: u64 },
-    /// The number at this place of a removal after that many steps is of no live clause.
+    /// The item-th number of the removal after `after` steps is of no live clause.
     NoDrop { after: u32, item: u64 },
     /// All steps resolve, all removals name live clauses, and no clause is empty.
     NotEmpty,

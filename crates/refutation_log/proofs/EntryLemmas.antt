@@ -133,7 +133,7 @@ steps_of_entries done steps (removal ∷ removals) left =
     ∙ ap (λ xs. take (removal.after - done) (drop done steps) ++ xs) (steps_of_entries removal.after steps removals (left_others done steps removal removals left))
     ∙ drop_further done removal.after steps (All-first (ComesAfter done) removal removals left.later)
 
--- the removals among the entries, from that many steps on
+-- the removals among the entries, of which the first stands after `done` steps
 abbrev pub removals_of : ℕ → List Entry → List Removal
 removals_of done [] = []
 removals_of done (Step step ∷ entries) = removals_of (done + 1) entries

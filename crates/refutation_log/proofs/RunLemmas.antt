@@ -3,14 +3,14 @@ use Rattle.std.proofs.Common.{◌≡◌, ◌↔◌, ℕ, zero, suc, ◌-◌, eqb
 use Rattle.std.proofs.lemmas.List.{append_assoc, append-nil, map-append}
 use Rattle.clause_core.specs.declared.literal.Lit.{Lit}
 use Rattle.clause_core.specs.declared.formula.Formula.{Formula}
-use Rattle.clause_core.specs.Numbering.{Numbering, numbered, HasNumber}
+use Rattle.clause_core.specs.Numbering.{Numbering, numbered, HasNumber, live}
 use Rattle.refutation_log.specs.declared.refutation.Chain.{Chain}
 use Rattle.refutation_log.specs.declared.refutation.Link.{Link}
 use Rattle.refutation_log.specs.declared.refutation.Entry.{Entry}
 use Rattle.refutation_log.specs.declared.refutation.Entry.TheVariants.{Step, Drop}
 use Rattle.refutation_log.specs.declared.refutation.Log.{Log}
 use Rattle.refutation_log.specs.Entries.{entries, entries_after, steps_of}
-use Rattle.refutation_log.specs.Ledger.{Ledger, live, all_live, without, without_all, AllRemoved, IsLive, IsContaining}
+use Rattle.refutation_log.specs.Ledger.{Ledger, all_live, without, without_all, AllRemoved, IsLive, IsContaining}
 use Rattle.refutation_log.specs.Resolution.{Folds, Derives, DerivesAll, Runs, ResolvesBy, LogResolves, IsNew}
 use Rattle.refutation_log.proofs.LogLemmas.{log_steps}
 

@@ -6,7 +6,7 @@ use Rattle.refutation_log.specs.declared.refutation.Log.{Log}
 use Rattle.refutation_log.specs.declared.refutation.Entry.{Entry}
 use Rattle.refutation_log.specs.declared.refutation.Entry.TheVariants.{Step, Drop}
 
--- what comes after that many of the steps: up to each removal stand the steps that it counts
+-- what comes after `done` steps: up to each removal stand the steps that it counts
 abbrev pub entries_after : ℕ → List Chain → List Removal → List Entry
 entries_after done steps [] = map Step (drop done steps)
 entries_after done steps (removal ∷ removals) =

@@ -1,16 +1,11 @@
 -- Which of the clauses so far are live, and which of them may be removed.
-use Rattle.std.specs.Prelude.{ℕ, ◌-◌, ◌==◌, List, [], ◌∷◌, map, Option, Some, None, Contains}
-use Rattle.std.specs.Prelude.{slice_index_or, slice_set, if◌then◌else◌}
+use Rattle.std.specs.Prelude.{ℕ, ◌-◌, List, [], ◌∷◌, map, Option, Some, None, Contains, slice_set}
 use Rattle.clause_core.specs.declared.literal.Lit.{Lit}
-use Rattle.clause_core.specs.Numbering.{Numbering, HasNumber}
+use Rattle.clause_core.specs.Numbering.{HasNumber, live}
 
 -- all clauses so far, in the order of their numbers; one that was removed is none any more
 abbrev pub Ledger : Type 0
 Ledger = List (Option (List Lit))
-
--- the live clause of each number, if there is one
-abbrev pub live : Ledger → Numbering
-live ledger number = if number == 0 then None else slice_index_or ledger (number - 1) None
 
 -- nothing was removed yet
 abbrev pub all_live : List (List Lit) → Ledger

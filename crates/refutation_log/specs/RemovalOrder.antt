@@ -9,7 +9,7 @@ pub record IsInOrder (steps : List Chain) (removals : List Removal) : Type 0 whe
   pub within : All (λ removal. removal.after ≤ length steps) removals
   pub named : All (λ removal. removal.clauses ≢ []) removals
 
--- the same of those that are left once that many steps were made
+-- the same of those that are left after `done` steps
 pub record IsLeft (done : ℕ) (steps : List Chain) (removals : List Removal) : Type 0 where
   pub made : done ≤ length steps
   pub order : IsInOrder steps removals

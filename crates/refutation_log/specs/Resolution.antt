@@ -2,7 +2,7 @@
 use Rattle.std.specs.Prelude.{◌≡◌, ◌≢◌, ℕ, List, [], ◌∷◌, ◌++◌, Some, All, Contains}
 use Rattle.clause_core.specs.declared.literal.Lit.{Lit}
 use Rattle.clause_core.specs.declared.formula.Formula.{Formula}
-use Rattle.clause_core.specs.Numbering.{Numbering, numbered, HasNumber}
+use Rattle.clause_core.specs.Numbering.{Numbering, numbered, HasNumber, live}
 use Rattle.clause_core.specs.Resolvent.{IsResolvent}
 use Rattle.clause_core.specs.Propagation.{IsLacked}
 use Rattle.refutation_log.specs.declared.refutation.Link.{Link}
@@ -11,7 +11,7 @@ use Rattle.refutation_log.specs.declared.refutation.Log.{Log}
 use Rattle.refutation_log.specs.declared.refutation.Entry.{Entry}
 use Rattle.refutation_log.specs.declared.refutation.Entry.TheVariants.{Step, Drop}
 use Rattle.refutation_log.specs.Entries.{entries}
-use Rattle.refutation_log.specs.Ledger.{Ledger, live, all_live, without_all, AllRemoved, IsLive, IsContaining}
+use Rattle.refutation_log.specs.Ledger.{Ledger, all_live, without_all, AllRemoved, IsLive, IsContaining}
 
 -- a clause resolves with that of the link, and something holds of the resolvent
 pub record Resolved

@@ -3,7 +3,7 @@ ghost use Rattle.refutation_log.specs.declared.refutation.Removal.{Removal};
 
 use super::refutation::Removal;
 
-/// The first of the removals and the others, if it comes after that many steps.
+/// The first of the removals and the others, if it stands after `done` steps.
 pub fn due(removals: &[Removal], done: usize) -> Option<(&Removal, &[Removal])>
     ensures { MatchOption result
         ((removal : Removal) (others : List Removal) →

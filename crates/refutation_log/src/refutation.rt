@@ -41,7 +41,7 @@ pub struct Chain {
 /// Steps, in order.
 pub type ChainList = Seq<Chain>;
 
-/// Clauses that are live no more, by their numbers, once that many steps were made.
+/// The numbers of clauses that are live no more after the first `after` steps.
 #[derive(Drop)]
 pub struct Removal {
     pub after: u32,

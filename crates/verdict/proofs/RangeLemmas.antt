@@ -7,14 +7,14 @@ use Rattle.std.proofs.lemmas.List.{get_or_past, length-map, length-set}
 use Rattle.std.proofs.lemmas.List.Elements.{All-cons, All-contains, All-contains_itself, All-map, All-nil, All-push, All-set, All-weaker}
 use Rattle.clause_core.specs.declared.literal.Lit.{Lit}
 use Rattle.clause_core.specs.Clause.{VariablesExist}
-use Rattle.clause_core.specs.Numbering.{HasNumber}
+use Rattle.clause_core.specs.Numbering.{HasNumber, live}
 use Rattle.clause_core.specs.Resolvent.{IsResolvent}
 use Rattle.refutation_log.specs.declared.refutation.Chain.{Chain}
 use Rattle.refutation_log.specs.declared.refutation.Entry.{Entry}
 use Rattle.refutation_log.specs.declared.refutation.Entry.TheVariants.{Drop, Step}
 use Rattle.refutation_log.specs.declared.refutation.Link.{Link}
 use Rattle.refutation_log.specs.Entries.{entries}
-use Rattle.refutation_log.specs.Ledger.{AllRemoved, IsLive, Ledger, all_live, live, without, without_all}
+use Rattle.refutation_log.specs.Ledger.{AllRemoved, IsLive, Ledger, all_live, without, without_all}
 use Rattle.refutation_log.specs.LogText.{EntryInRange, IsInRange, LinkInRange}
 use Rattle.refutation_log.specs.Resolution.{Folds, Runs}
 use Rattle.refutation_log.specs.ResolutionLaws.{StepsAreCounted}

@@ -34,7 +34,7 @@ rejection step NoClause = rejects.NoClause step
 rejection step (NoPivot link) = rejects.NoPivot step link
 rejection step NoMemory = rejects.NoMemory
 
--- why the entry stops after that many steps
+-- why the entry stops after `done` steps
 abbrev pub EntryStops : ℕ → Ledger → Entry → Reject → Type 0
 EntryStops done ledger entry (rejects.NoClause step) = AtStep step LacksClause done ledger entry
 EntryStops done ledger entry (rejects.NoPivot step link) =

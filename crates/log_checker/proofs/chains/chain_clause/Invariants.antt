@@ -1,6 +1,6 @@
 -- What the walk along the links of a chain keeps.
 use Rattle.std.proofs.Common.{◌≡◌}
-use Rattle.refutation_log.specs.Ledger.{live}
+use Rattle.clause_core.specs.Numbering.{live}
 use Rattle.log_checker.proofs.ChainLemmas.{IsFolded}
 use Rattle.log_checker.proofs.chains.chain_clause.Given as goal
 
