@@ -1,4 +1,4 @@
-//! The texts that report on a run and on the verdicts of a protocol.
+//! The texts that report on a run, on the verdicts of a protocol, and on a world of its agents.
 #![tactic(auto)]
 
 mod fields;
@@ -8,8 +8,10 @@ mod replay;
 mod replay_lines;
 mod status;
 mod verdict_lines;
+mod world;
 
 pub use laws::{replay_is_once, right_runs_fit};
 pub use replay::{Replay, replay_text};
 pub use status::Status;
 pub use verdict_lines::verdict_text;
+pub use world::world_text;

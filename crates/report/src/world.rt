@@ -1,0 +1,29 @@
+ghost use Rattle.bspl_types.specs.declared.event.Event.{Event};
+ghost use Rattle.std.specs.Prelude.{List, IfOk};
+ghost use Rattle.agent_scripts.specs.Refusal.{IsScriptFor};
+ghost use Rattle.stamped_history.specs.Explained.{AreLocal};
+ghost use Rattle.world_run.specs.World.{AreDesksOf, HasHistories, histories_of};
+ghost use Rattle.report.specs.WorldText.{IsWorldText};
+
+use agent_scripts::Script;
+use bspl_types::Admitted;
+use list_base::{Bytes, NoMemory};
+use std::alloc::Global;
+use world_run::World;
+
+/// The text of a world: how often each message was sent and received over all stores, and a row of
+/// values for each workload key.
+pub fn world_text(
+    alloc: Global,
+    a: &Admitted,
+    script: &Script,
+    world: &World,
+) -> Result<Bytes, NoMemory>
+    requires desks { AreDesksOf a.now world.now.desks }
+    requires script { IsScriptFor a.now script.now }
+    ensures { IfOk result (λ text. (run : List Event) →
+        AreLocal a.now (histories_of world.now.desks) →
+        HasHistories a.now world.now.desks run → IsWorldText a.now script.now run text) }
+{
+    Err(NoMemory)
+}
