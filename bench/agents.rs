@@ -103,7 +103,7 @@ fn protocol_of(text: &str) -> Protocol {
 fn message_of(p: &Protocol, sender: &str, rest: &str) -> Message {
     let (receiver, rest) = rest.split_once(": ").unwrap();
     let (name, rest) = rest.trim_end_matches(']').split_once('[').unwrap();
-    let carried = items(rest).iter().map(|words| {
+    let carried = items(rest).into_iter().map(|words| {
         let adornment = match words[0] {
             "in" => Adornment::In,
             "out" => Adornment::Out,
