@@ -11,7 +11,7 @@ use Rattle.agent_scripts.specs.Script.{Script}
 pub record IsSameScript (s t : Script) : Type 0 where
   pub keys : s.keys ≡ t.keys
   pub orders : s.orders ≡ t.orders
-  pub declines : map (λ d. (d.message, d.every)) s.declines
+  pub declines : map {B = ℕ × ℕ} (λ d. (d.message, d.every)) s.declines
       ≡ map (λ d. (d.message, d.every)) t.declines
   pub rules : s.rules ≡ t.rules
 
