@@ -1,0 +1,2 @@
+-- Lemmas that proofs of functions share.
+pub mod OrderLemmas
