@@ -1,2 +1,4 @@
 -- Lemmas that proofs of functions share.
+pub mod KeyLemmas
 pub mod OrderLemmas
+pub mod StatedLemmas

@@ -33,13 +33,16 @@ pub(crate) fn keys_of(
     width: usize,
     statements: StatementList,
 ) -> Result<IndexSet<Key>, NoMemory>
-    requires some { 0 < width }
-    requires few { width ≤ key_limit }
+    requires some_values { 0 < width }
+    requires few_values { width ≤ key_limit }
     ensures keys { IfOk result (λ set. set.keys ≡ keys_given width (statements_of statements)) }
     ensures distinct { IfOk result (λ set. AllPairs (λ k l. k ≢ l) set.keys) }
+    ensures some { IfOk result (λ set. 0 < length set.keys) }
+    ensures few { IfOk result (λ set. length set.keys ≤ 10000) }
 {
+    let count = key_count(&statements);
     let table = if statements.key_lines() == 0 {
-        counted_keys(alloc, width, key_count(&statements))?
+        counted_keys(alloc, width, count)?
     } else {
         statements.into_keys()
     };

@@ -60,7 +60,8 @@ impl StatementList {
 
     /// How many `key` lines there are.
     pub fn key_lines(&self) -> usize
-        ensures { result ≡ length (flat_map key_in (statements_of self.now)) }
+        ensures count { result ≡ length (flat_map key_in (statements_of self.now)) }
+        ensures few { result ≤ 10000 }
     {
         self.keys.len()
     }
