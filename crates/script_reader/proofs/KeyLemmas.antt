@@ -40,3 +40,10 @@ keys_are_counted width statements none = rw (eq-eqb (length (flat_map key_in sta
 
 pub keys_are_listed : (width : ℕ) (statements : List Statement) → length (flat_map key_in statements) ≢ 0 → keys_given width statements ≡ flat_map key_in statements
 keys_are_listed width statements some = grind (arith, nat_tests)
+
+-- counted keys are given where there are as many as are given
+pub counted_are_given : (width n : ℕ) (statements : List Statement) → length (flat_map key_in statements) ≡ 0 → n ≡ length (keys_given width statements) → counted_keys width n ≡ keys_given width statements
+counted_are_given width n statements none as_many =
+    let counted = keys_are_counted width statements none in
+    let number : n ≡ setting_of statements Keys 1 = as_many ∙ ap (length {A = List Value}) counted ∙ length-counted_keys width (setting_of statements Keys 1) in
+    ap (counted_keys width) number ∙ sym counted
