@@ -1,5 +1,5 @@
 -- The messages that a role sends, without those of its order.
-use Rattle.std.proofs.Common.{◌≡◌, ◌≢◌, ◌==◌, ◌+◌, ◌<◌, ◌≤◌, ℕ, Bool, true, false, not, cond, List, [], ◌∷◌, ◌++◌, length, map, take, get_or, refl, sym, ap, ◌∙◌, arith, eq-eqb}
+use Rattle.std.proofs.Common.{◌≡◌, ◌≢◌, ◌==◌, ◌+◌, ◌<◌, ◌≤◌, ℕ, Bool, true, false, not, List, [], ◌∷◌, ◌++◌, length, map, take, get_or, refl, sym, ap, ◌∙◌, arith, eq-eqb}
 use Rattle.std.specs.List.{filter, list_any, enumerate_from}
 use Rattle.std.proofs.lemmas.Bool.Decides.{nat_tests}
 use Rattle.std.proofs.lemmas.List.{take_more, take_all, map-append, append-nil, get_or-map, length-map}
@@ -52,6 +52,7 @@ not_sent x role first i m within is_item other = one_more x role first i m withi
   where
     apart : (m.sender == role) ≡ false
     apart = grind (arith, nat_tests)
+
     none : others_of role first ((i, m) ∷ []) ≡ []
     none = rw apart refl
 
@@ -78,6 +79,6 @@ orders_more x statements role within =
     let counted : 0 + role ≡ role = omega arith in
     take_more (orders_given x statements) role [] (omega (arith, within, length-orders_given x statements))
     ∙ ap (λ (o : List ℕ). take role (orders_given x statements) ++ o ∷ [])
-        (get_or-map order numbered role (0, []) [] inside
-        ∙ ap order (get_or-enumerate_from 0 x.roles role (0, []) within)
-        ∙ ap (order_of x statements) counted)
+    (get_or-map order numbered role (0, []) [] inside
+    ∙ ap order (get_or-enumerate_from 0 x.roles role (0, []) within)
+    ∙ ap (order_of x statements) counted)

@@ -13,7 +13,7 @@ pub(crate) fn first_out_of_range(stated: &[Stated], count: u64) -> Option<u64>
     ensures { (x : Expanded) →
         count ≡ length (keys_given (length x.keys) (statements_of stated.now)) →
         MatchOption result (All (IsInRange x stated.now) stated.now)
-            (IsFirstOutOfRange x stated.now) }
+        (IsFirstOutOfRange x stated.now) }
 {
     for s in stated {
         if !value_fits(&s.statement, count) {

@@ -1,5 +1,5 @@
 -- The script is fitting: its keys are some, few and different, and the values of its rules fit.
-use Rattle.std.proofs.Common.{length, rules}
+use Rattle.std.proofs.Common.{length}
 use Rattle.agent_scripts.specs.Given.{keys_given}
 use Rattle.agent_scripts.specs.ScriptText.{statements_of}
 use Rattle.script_reader.proofs.StatedLemmas.{rules_fit}

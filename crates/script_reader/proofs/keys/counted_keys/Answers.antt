@@ -1,6 +1,5 @@
 -- A key of the next number is new.
-use Rattle.std.proofs.Common.{◌+◌, subst, sym, arith}
-use Rattle.std.specs.List.{Contains}
+use Rattle.std.proofs.Common.{◌+◌, arith}
 use Rattle.script_reader.proofs.KeyLemmas.{later_is_new}
 use Rattle.script_reader.proofs.keys.counted_keys.Goals as goal
 

@@ -1,5 +1,5 @@
 -- The order of the next role comes next.
-use Rattle.std.proofs.Common.{[], ◌∷◌, ◌++◌, List, ℕ, ap, sym, arith, ◌∙◌}
+use Rattle.std.proofs.Common.{arith, ◌∙◌}
 use Rattle.std.proofs.lemmas.List.{take_all}
 use Rattle.agent_scripts.specs.Given.{orders_given}
 use Rattle.agent_scripts.specs.ScriptText.{statements_of}

@@ -1,5 +1,5 @@
 -- The other messages so far.
-use Rattle.std.proofs.Common.{◌≡◌, take}
+use Rattle.std.proofs.Common.{◌≡◌}
 use Rattle.script_reader.proofs.OrderLemmas.{others_to}
 use Rattle.script_reader.proofs.orders.other_messages.Given as goal
 

@@ -13,9 +13,9 @@ parted : (stated : List Stated) (i : ℕ) (s : Stated) → i < length stated →
 parted stated i s within is_item =
     sym (take-append-drop i stated)
     ∙ ap (λ (rest : List Stated). take i stated ++ rest)
-        (drop-cons stated i s within
-        ∙ ap (λ (t : Stated). t ∷ drop (suc i) stated) (sym is_item)
-        ∙ ap (λ k. s ∷ drop k stated) (sym (add-one i)))
+    (drop-cons stated i s within
+    ∙ ap (λ (t : Stated). t ∷ drop (suc i) stated) (sym is_item)
+    ∙ ap (λ k. s ∷ drop k stated) (sym (add-one i)))
 
 pub returns-then-not-value_fits : goal.returns-then-not-value_fits
 returns-then-not-value_fits c = λ x count.
