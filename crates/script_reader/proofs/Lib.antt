@@ -1,3 +1,7 @@
+-- Lemmas that proofs of functions share.
+pub mod KeyLemmas
+pub mod OrderLemmas
+pub mod StatedLemmas
 pub mod OneName
 pub mod OneWord
 pub mod OneSpelling
