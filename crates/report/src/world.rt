@@ -1,10 +1,14 @@
 ghost use Rattle.bspl_types.specs.declared.event.Event.{Event};
-ghost use Rattle.std.specs.Prelude.{List, IfOk};
+ghost use Rattle.std.specs.Prelude.{◌≡◌, ◌++◌, List, IfOk, OnOk};
 ghost use Rattle.agent_scripts.specs.Refusal.{IsScriptFor};
 ghost use Rattle.stamped_history.specs.Explained.{AreLocal};
 ghost use Rattle.world_run.specs.World.{AreDesksOf, HasHistories, histories_of};
-ghost use Rattle.report.specs.WorldText.{IsWorldText};
+ghost use Rattle.report.specs.WorldText.{IsWorldText, world_line};
 
+use super::fields::push_count;
+use super::world_counts::count_events;
+use super::world_messages::push_messages;
+use super::world_rows::push_rows;
 use agent_scripts::Script;
 use bspl_types::Admitted;
 use list_base::{Bytes, NoMemory};
@@ -25,5 +29,21 @@ pub fn world_text(
         AreLocal a.now (histories_of world.now.desks) →
         HasHistories a.now world.now.desks run → IsWorldText a.now script.now run text) }
 {
-    Err(NoMemory)
+    let x = a.expanded();
+    let counts = count_events(x, world);
+    let mut text = Bytes::new(alloc);
+    push_world(&mut text, script)?;
+    push_messages(&mut text, x, &counts)?;
+    push_rows(&mut text, x, script, world)?;
+    text.append(b"end\n")?;
+    Ok(text)
+}
+
+/// Appends the first line.
+fn push_world(text: &mut Bytes, script: &Script) -> Result<(), NoMemory>
+    ensures { OnOk result (text.new ≡ text.old ++ world_line script.now) }
+{
+    text.append(b"world")?;
+    push_count(text, script.count() as usize)?;
+    text.push(b'\n')
 }
