@@ -132,7 +132,7 @@ pub verify_texts : (brief : Bool) (budget : ℕ) → CommandTexts (IsAnswer (Ver
 verify_texts brief budget = record {
   ends = λ x part out status given. subst IsEnd (sym given.answer.ends) (verdict_ends given.verdicts.safety given.verdicts.liveness);
   honest = λ x part out status n given.
-    subst (λ text. IsHonest x (take n text)) (append-nil (verdict_text x given.verdicts brief) ∙ sym given.answer.text) (verdict_is_honest brief budget x given.verdicts [] n given.answer.right no_lines);
+      subst (λ text. IsHonest x (take n text)) (append-nil (verdict_text x given.verdicts brief) ∙ sym given.answer.text) (verdict_is_honest brief budget x given.verdicts [] n given.answer.right no_lines);
   names = λ x part r refused. absurd refused;
 }
 

@@ -4,8 +4,9 @@ ghost use Rattle.bspl_tool.specs.inner.Error.{error_for, read_error};
 
 use super::limits::INPUT_LIMIT;
 use super::refusal::InputRefusal;
-use super::rejection::{Rejection, input_rejection, log_rejection, run_rejection};
-use super::rejection::{script_rejection, text_rejection};
+use super::rejection::{
+    Rejection, input_rejection, log_rejection, run_rejection, script_rejection, text_rejection,
+};
 use agent_scripts::ScriptRefusal;
 use bspl_io::ReadRefusal;
 use bspl_types::{NoMemory, Refusal};

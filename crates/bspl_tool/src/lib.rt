@@ -30,8 +30,10 @@ pub use laws::{answers_are_distinct, one_answer, texts_are_judged_once};
 pub use limits::{INPUT_LIMIT, TEXT_LIMIT};
 pub use parts::Part;
 pub use refusal::InputRefusal;
-pub use rejection::{Code, Field, Rejection, input_rejection, log_rejection, run_rejection};
-pub use rejection::{script_rejection, text_rejection};
+pub use rejection::{
+    Code, Field, Rejection, input_rejection, log_rejection, run_rejection, script_rejection,
+    text_rejection,
+};
 pub use rejection_text::rejection_line;
 pub use request::Task;
 pub use status::Status;

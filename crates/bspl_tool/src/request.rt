@@ -14,7 +14,10 @@ pub enum Task {
     /// Its expansion is printed.
     Expand,
     /// It is verified, with at most these conflicts for each verdict. A brief verdict has no log.
-    Verify { brief: bool, conflicts: u32 },
+    Verify {
+        brief: bool,
+        conflicts: u32,
+    },
     /// A log is checked against its safety or its liveness formula.
     Check,
     /// A run of it is replayed.

@@ -36,17 +36,14 @@ pub fn run(
     if threads > 0 {
         return Err(AnswerError::from(InputRefusal::NotBuilt));
     }
-    let VerdictReply { verdicts, reply } =
-        reply_with_verdicts(alloc, brief, conflicts, &protocol)?;
-    let mut text = reply.text;
-    if let Safety::Safe(_) = verdicts.safety {
-        let world = played_text(alloc, &Job::of(protocol, agents))?;
-        text.append(world.as_slice())?;
-    }
-    Ok(Reply {
-        status: reply.status,
-        text,
-    })
+    let VerdictReply { verdicts, reply } = reply_with_verdicts(alloc, brief, conflicts, &protocol)?;
+    let Safety::Safe(_) = verdicts.safety else {
+        return Ok(reply);
+    };
+    let Reply { status, mut text } = reply;
+    let world = played_text(alloc, &Job::of(protocol, agents))?;
+    text.append(world.as_slice())?;
+    Ok(Reply { status, text })
 }
 
 /// The text of a world that the agents of the job play.
