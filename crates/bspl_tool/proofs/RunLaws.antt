@@ -39,9 +39,10 @@ agents_are_block job (Undecided log) text none = subst IsBlock (sym none) no_lin
 run_is_honest : (brief : Bool) (budget threads : ℕ) (x : Expanded) (part out : List ℕ) (status : Status) (n : ℕ) → IsRunAnswer brief budget threads x part out status → IsHonest x (take n out)
 run_is_honest brief budget threads x part out status n answer =
     let job : Job = record { protocol = x; script = answer.script; plan = answer.plan } in
-    let agents = agents_are_block job answer.verdicts.safety answer.agents_text answer.played in
-    let is = answer.text ∙ ap (λ verdicts. verdicts ++ answer.agents_text) answer.verified.text in
-    subst (λ text. IsHonest x (take n text)) (sym is) (verdict_is_honest brief budget x answer.verdicts answer.agents_text n answer.verified.right agents)
+    let of = answer.answer in
+    let agents = agents_are_block job of.verdicts.safety of.agents_text of.played in
+    let is = of.text ∙ ap (λ verdicts. verdicts ++ of.agents_text) of.verified.text in
+    subst (λ text. IsHonest x (take n text)) (sym is) (verdict_is_honest brief budget x of.verdicts of.agents_text n of.verified.right agents)
 
 -- a line of a text is no name
 line_names : (refusal : ScriptRefusal) → IfSome (script_rejection refusal) HasNames
@@ -57,7 +58,7 @@ run_names threads x part (not_supported script plan given more) = record { first
 -- what is said
 pub run_texts : (brief : Bool) (budget threads : ℕ) → CommandTexts (IsAnswer (Run brief budget threads)) (IsPartRefused (Run brief budget threads))
 run_texts brief budget threads = record {
-  ends = λ x part out status answer. subst IsEnd (sym answer.verified.ends) (verdict_ends answer.verdicts.safety answer.verdicts.liveness);
+  ends = λ x part out status answer. subst IsEnd (sym answer.answer.verified.ends) (verdict_ends answer.answer.verdicts.safety answer.answer.verdicts.liveness);
   honest = run_is_honest brief budget threads;
   names = λ x part r refused. run_names threads x part refused;
 }

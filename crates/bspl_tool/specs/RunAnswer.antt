@@ -30,21 +30,26 @@ AgentsText job (Safe log) text = IsPlayedText job text
 AgentsText job (Unsafe run param first second) text = text ≡ []
 AgentsText job (Undecided log) text = text ≡ []
 
--- the part is the text of agents, no threads are asked for, and the output is the text of right
--- verdicts and then that of the agents; the status is that of the verdicts
+-- the output is the text of right verdicts on the job's protocol and then that of its agents; the
+-- status is that of the verdicts
+pub record IsJobAnswer (brief : Bool) (budget : ℕ) (job : Job) (out : List ℕ)
+    (status : Status) : Type 0 where
+  pub verdicts : Verdicts
+  pub verdict_text : List ℕ
+  pub verified : IsVerdictAnswer brief budget job.protocol verdicts verdict_text status
+  pub agents_text : List ℕ
+  pub played : AgentsText job verdicts.safety agents_text
+  pub text : out ≡ verdict_text ++ agents_text
+
+-- no threads are asked for, the part is the text of the agents of a job, and the output answers it
 pub record IsRunAnswer (brief : Bool) (budget threads : ℕ) (x : Expanded) (part out : List ℕ)
     (status : Status) : Type 0 where
   pub no_threads : threads ≡ 0
   pub script : Script
   pub plan : Plan
   pub given : IsScriptText x part script plan
-  pub verdicts : Verdicts
-  pub verdict_text : List ℕ
-  pub verified : IsVerdictAnswer brief budget x verdicts verdict_text status
-  pub agents_text : List ℕ
-  pub played : AgentsText (record { protocol = x; script = script; plan = plan })
-      verdicts.safety agents_text
-  pub text : out ≡ verdict_text ++ agents_text
+  pub answer : IsJobAnswer brief budget
+      (record { protocol = x; script = script; plan = plan }) out status
 
 -- the part is the text of no agents, and has a first bad line
 pub record IsScriptRefused (x : Expanded) (part : List ℕ) (rejection : Rejection) : Type 0 where

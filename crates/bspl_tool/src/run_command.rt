@@ -1,7 +1,7 @@
 ghost use Rattle.std.specs.Prelude.{IfErr, IfOk};
 ghost use Rattle.agent_scripts.specs.Refusal.{IsScriptFor};
 ghost use Rattle.enactment_model.specs.Safety.{SafeProtocol};
-ghost use Rattle.bspl_tool.specs.RunAnswer.{IsPlayedText, IsRunAnswer, IsRunRefused};
+ghost use Rattle.bspl_tool.specs.RunAnswer.{IsJobAnswer, IsPlayedText, IsRunAnswer, IsRunRefused};
 ghost use Rattle.bspl_tool.specs.Task.{IsBudget};
 ghost use Rattle.bspl_tool.specs.inner.Error.{RejectsFor};
 
@@ -17,8 +17,8 @@ use std::alloc::Global;
 use verdict::Safety;
 use world_run::run_one;
 
-/// Answers `run` on the text of agents. They play only a protocol that was found safe. Threads are
-/// refused before the protocol is verified, whatever its verdicts would be.
+/// Answers `run` on the text of agents. Threads are refused before the protocol is verified, whatever
+/// its verdicts would be.
 pub fn run(
     alloc: Global,
     brief: bool,
@@ -36,12 +36,27 @@ pub fn run(
     if threads > 0 {
         return Err(AnswerError::from(InputRefusal::NotBuilt));
     }
-    let VerdictReply { verdicts, reply } = reply_with_verdicts(alloc, brief, conflicts, &protocol)?;
+    let job = Job::of(protocol, agents);
+    Ok(job_reply(alloc, brief, conflicts, &job)?)
+}
+
+/// The reply that gives the verdicts on the job's protocol. Its agents play only if it is found safe.
+fn job_reply(alloc: Global, brief: bool, conflicts: u32, job: &Job) -> Result<Reply, NoMemory>
+    requires { IsBudget conflicts }
+    ensures { IfOk result (λ reply.
+        IsJobAnswer brief conflicts job.now reply.text reply.status) }
+{
+    let VerdictReply { verdicts, reply } = reply_with_verdicts(
+        alloc,
+        brief,
+        conflicts,
+        job.admitted(),
+    )?;
     let Safety::Safe(_) = verdicts.safety else {
         return Ok(reply);
     };
     let Reply { status, mut text } = reply;
-    let world = played_text(alloc, &Job::of(protocol, agents))?;
+    let world = played_text(alloc, job)?;
     text.append(world.as_slice())?;
     Ok(Reply { status, text })
 }
