@@ -1,5 +1,5 @@
 -- What `run` answers, from what is read, verified and played.
-use Rattle.std.proofs.Common.{◌≡◌, ◌≢◌, ℕ, Bool, List, [], ◌++◌, Err, refl, sym, subst, append-nil}
+use Rattle.std.proofs.Common.{◌≡◌, ◌≢◌, ℕ, Bool, List, [], refl, sym, subst, append-nil}
 use Rattle.adapter.specs.Desk.{DeskState}
 use Rattle.agent_scripts.specs.declared.refusal.ScriptRefusal.{ScriptRefusal}
 use Rattle.agent_scripts.specs.declared.refusal.ScriptRefusal.TheVariants.{Form, NoMemory, Unknown}
