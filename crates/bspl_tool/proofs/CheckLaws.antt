@@ -121,8 +121,8 @@ check_texts = record {
 -- and how it excludes the rest
 pub check_laws : OneCheck → CommandLaws (IsAnswer Check) (IsPartRefused Check)
 check_laws once = record {
-  distinct = λ x part out status r answer refused. read_or_refused once part answer.kind answer.log r answer.read refused;
-  one_refusal = λ x part r s one other. refused_once once part r s one other;
+  distinct = λ x part out status r admitted answer refused. read_or_refused once part answer.kind answer.log r answer.read refused;
+  one_refusal = λ x part r s admitted one other. refused_once once part r s one other;
 }
 
 -- a log has one first failure

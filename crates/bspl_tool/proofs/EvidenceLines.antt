@@ -21,10 +21,10 @@ use Rattle.refutation_log.specs.declared.refutation.Entry.TheVariants.{Drop, Ste
 use Rattle.refutation_log.specs.declared.refutation.Version.{Version}
 use Rattle.refutation_log.specs.declared.refutation.Version.TheVariants.{One, Two}
 use Rattle.refutation_log.specs.Entries.{entries}
-use Rattle.refutation_log.specs.LogText.{drop_fields, entry_line, header_line, least_version, link_fields, log_text, numeral, pivot_text, step_fields, versioned_text}
+use Rattle.refutation_log.specs.LogText.{drop_fields, entry_line, header_line, least_version, line_of, link_fields, log_text, numeral, pivot_text, step_fields, versioned_text}
 use Rattle.report.specs.ReplayLines.{param_name}
 use Rattle.run_text.specs.RunText.{event_line, head_line, instance_fields, no_param, run_text, value_field}
-use Rattle.bspl_tool.proofs.ClaimsNothing.{IsBlock, block_joined, no_lines}
+use Rattle.bspl_tool.proofs.ClaimsNothing.{IsBlock, block_joined, claims, no_lines}
 use Rattle.bspl_tool.proofs.FieldBytes.{fields_are_block, indexed_has_no_lf, numeral_has_no_lf, value_has_no_lf}
 use Rattle.bspl_tool.proofs.Unbroken.{has_lf, joined_has_none}
 
@@ -51,10 +51,15 @@ numbers_have_no_lf [] = refl
 numbers_have_no_lf (number ∷ numbers) =
     or_from (has_lf (numeral number)) _ (numeral_has_no_lf number) (numbers_have_no_lf numbers)
 
+-- the line of a removal claims nothing, whatever its fields
+drop_is_no_claim : (fields : List (List ℕ)) → claims (line_of (codes "drop" ∷ fields)) ≡ false
+drop_is_no_claim [] = refl
+drop_is_no_claim (field ∷ fields) = refl
+
 -- the line of a step, or of a removal
 entry_is_block : (entry : Entry) → IsBlock (entry_line entry)
 entry_is_block (Step step) = fields_are_block (step_fields step) (or_from (has_lf (numeral step.first)) _ (numeral_has_no_lf step.first) (links_have_no_lf step.links)) refl
-entry_is_block (Drop numbers) = fields_are_block (drop_fields numbers) (numbers_have_no_lf numbers) refl
+entry_is_block (Drop numbers) = fields_are_block (drop_fields numbers) (numbers_have_no_lf numbers) (drop_is_no_claim (map numeral numbers))
 
 -- the first line of a log
 header_is_block : (version : Version) (kind : Kind) → IsBlock (header_line version kind)

@@ -21,11 +21,17 @@ verdict_status (safety.Undecided log) l = Undecided
 verdict_status s (liveness.Undecided log) = Undecided
 verdict_status (safety.Safe log) (liveness.Live log') = Done
 
--- the text and the status of right verdicts; without rival producers it is safe by an empty log
+-- the verdicts are right, and this is their text and their status; without rival producers the
+-- protocol is safe by an empty log
+pub record IsVerdictAnswer (brief : Bool) (budget : ℕ) (x : Expanded) (v : Verdicts)
+    (out : List ℕ) (status : Status) : Type 0 where
+  pub right : AreRight x budget v
+  pub single : HasOneProducer x → IsSafeByEmptyLog v.safety
+  pub text : out ≡ verdict_text x v brief
+  pub ends : status ≡ verdict_status v.safety v.liveness
+
+-- the text and the status of some right verdicts
 pub record IsVerifyAnswer (brief : Bool) (budget : ℕ) (x : Expanded) (out : List ℕ)
     (status : Status) : Type 0 where
   pub verdicts : Verdicts
-  pub right : AreRight x budget verdicts
-  pub single : HasOneProducer x → IsSafeByEmptyLog verdicts.safety
-  pub text : out ≡ verdict_text x verdicts brief
-  pub ends : status ≡ verdict_status verdicts.safety verdicts.liveness
+  pub answer : IsVerdictAnswer brief budget x verdicts out status
