@@ -1,5 +1,5 @@
 /// How often a message was sent and received.
-#[derive(Clone, Copy, Debug)]
+#[derive(Clone, Copy)]
 pub(crate) struct Count {
     /// Its emissions.
     pub(crate) sent: usize,

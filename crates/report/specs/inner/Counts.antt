@@ -17,11 +17,11 @@ use Rattle.report.specs.WorldText.{receives, sends}
 abbrev pub acts_of_all : List DeskState → List Event
 acts_of_all desks = flat_map (λ d. acts_of d.store) desks
 
--- nothing was counted
+-- a message that was not counted
 abbrev pub no_count : Count
 no_count = record { sent = 0; received = 0 }
 
--- of no message
+-- no message was counted
 abbrev pub no_counts : List Count
 no_counts = replicate message_limit no_count
 
