@@ -11,7 +11,6 @@ use Rattle.bspl_types.specs.declared.value.Value.{Value}
 use Rattle.bspl_types.specs.Expansion.{message_of, no_message}
 use Rattle.bspl_types.specs.Instance.{pairs}
 use Rattle.bspl_types.specs.ValueSpelling.{value_spelling}
-use Rattle.refutation_log.specs.declared.refutation.Chain.{Chain}
 use Rattle.refutation_log.specs.declared.refutation.Kind.{Kind}
 use Rattle.refutation_log.specs.declared.refutation.Kind.TheVariants.{Liveness, Safety}
 use Rattle.refutation_log.specs.declared.refutation.Link.{Link}

@@ -1,5 +1,5 @@
 -- The laws of `run`.
-use Rattle.std.proofs.Common.{◌≡◌, ℕ, ◌<◌, Bool, List, ◌++◌, take, None, Some, refl, sym, ◌∙◌, ap, subst, arith}
+use Rattle.std.proofs.Common.{◌≡◌, ℕ, Bool, List, ◌++◌, take, Some, refl, sym, ◌∙◌, ap, subst, arith}
 use Rattle.std.specs.Prelude.{IfSome}
 use Rattle.agent_scripts.specs.declared.plan.Plan.{Plan}
 use Rattle.agent_scripts.specs.declared.refusal.ScriptRefusal.{ScriptRefusal}

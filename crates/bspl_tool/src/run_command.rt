@@ -1,5 +1,4 @@
 ghost use Rattle.std.specs.Prelude.{IfErr, IfOk};
-ghost use Rattle.agent_scripts.specs.Refusal.{IsScriptFor};
 ghost use Rattle.enactment_model.specs.Safety.{SafeProtocol};
 ghost use Rattle.bspl_tool.specs.RunAnswer.{IsJobAnswer, IsPlayedText, IsRunAnswer, IsRunRefused};
 ghost use Rattle.bspl_tool.specs.Task.{IsBudget};
@@ -46,12 +45,8 @@ fn job_reply(alloc: Global, brief: bool, conflicts: u32, job: &Job) -> Result<Re
     ensures { IfOk result (λ reply.
         IsJobAnswer brief conflicts job.now reply.text reply.status) }
 {
-    let VerdictReply { verdicts, reply } = reply_with_verdicts(
-        alloc,
-        brief,
-        conflicts,
-        job.admitted(),
-    )?;
+    let protocol = job.admitted();
+    let VerdictReply { verdicts, reply } = reply_with_verdicts(alloc, brief, conflicts, protocol)?;
     let Safety::Safe(_) = verdicts.safety else {
         return Ok(reply);
     };
