@@ -1,6 +1,7 @@
 ghost use Rattle.std.specs.Prelude.{◌≡◌, ◌<◌, IsTrue, MatchOption, length, true, false};
 ghost use Rattle.std.specs.List.{All, Contains};
 ghost use Rattle.agent_scripts.specs.Statement.{IsSentBy};
+ghost use Rattle.local_store.specs.State.{key_at};
 ghost use Rattle.adapter.specs.Kept.{IsKept};
 ghost use Rattle.adapter.specs.Next.{IsFirstReady, IsNext, IsPassedOver, IsReady, IsWorkload};
 
@@ -31,23 +32,26 @@ fn first_ready(store: &Store, script: &Script, order: &[u32], key: &Key, n: u64)
         (All (IsPassedOver script.now store.now n key.now) order.now)
         (IsFirstReady script.now store.now n key.now order.now) }
 {
+    let row = store.row(key);
     for m in order {
-        if is_ready(store, script, *m, key, n) {
+        if is_ready(store, script, *m, row, n) {
             return Some(*m);
         }
     }
     None
 }
 
-/// Whether the message is ready at the number.
-fn is_ready(store: &Store, script: &Script, message: u32, key: &Key, n: u64) -> bool
+/// Whether the message is ready at the number, which is that of the row's key.
+fn is_ready(store: &Store, script: &Script, message: u32, row: usize, n: u64) -> bool
     requires known { message < length store.now.protocol.messages }
-    requires held { Contains store.now.keys key.now }
-    ensures ready { result ≡ true → IsReady script.now store.now n key.now message }
-    ensures passed { result ≡ false → IsPassedOver script.now store.now n key.now message }
+    requires row { row < length store.now.keys }
+    ensures ready { result ≡ true →
+        IsReady script.now store.now n (key_at store.now row) message }
+    ensures passed { result ≡ false →
+        IsPassedOver script.now store.now n (key_at store.now row) message }
 {
-    if script.declined(message, n) || store.emitted(message, key) {
+    if !store.can_emit_at(row, message) || store.emitted_at(row, message) {
         return false;
     }
-    store.blocked(message, key).is_ok()
+    !script.declined(message, n)
 }

@@ -4,7 +4,7 @@ use Rattle.std.specs.Fmt.{decimal}
 use Rattle.std.specs.Prelude.{IfSome}
 use Rattle.bspl_types.specs.declared.expanded.Expanded.{Expanded}
 use Rattle.log_checker.specs.declared.refusal.Reject.{Reject}
-use Rattle.log_checker.specs.declared.refusal.Reject.TheVariants.{NoClause, NoMemory, NoPivot, NotEmpty}
+use Rattle.log_checker.specs.declared.refusal.Reject.TheVariants.{NoClause, NoDrop, NoMemory, NoPivot, NotEmpty}
 use Rattle.protocol_check.specs.Liveness.{AcceptedLivenessDoesNotFail, LivenessFailsOnce}
 use Rattle.protocol_check.specs.Safety.{AcceptedSafetyDoesNotFail, SafetyFailsOnce}
 use Rattle.refutation_log.specs.declared.refusal.LogRefusal.{LogRefusal}
@@ -13,7 +13,7 @@ use Rattle.refutation_log.specs.declared.refutation.Kind.{Kind}
 use Rattle.refutation_log.specs.declared.refutation.Kind.TheVariants.{Liveness, Safety}
 use Rattle.refutation_log.specs.declared.refutation.Log.{Log}
 use Rattle.refutation_log.specs.LogText.{IsTextOf}
-use Rattle.refutation_log.specs.Refusal.{LogIsNotRefused, TextHasOneLog, TextHasOneRefusal}
+use Rattle.refutation_log.specs.TextLaws.{LogIsNotRefused, TextHasOneLog, TextHasOneRefusal}
 use Rattle.bspl_tool.specs.declared.rejection.Rejection.{Rejection}
 use Rattle.bspl_tool.specs.declared.request.Task.TheVariants.{Check}
 use Rattle.bspl_tool.specs.declared.status.Status.{Status}
@@ -62,6 +62,10 @@ reject_has_no_lf (NoPivot step link) =
     let front = codes "rejected step " in
     let middle = joined_has_none 10 (front ++ decimal step) (codes " link ") (joined_has_none 10 front (decimal step) refl (decimal_has_no_lf step)) refl in
     joined_has_none 10 (front ++ decimal step ++ codes " link ") (decimal link) middle (decimal_has_no_lf link)
+reject_has_no_lf (NoDrop after item) =
+    let front = codes "rejected drop " in
+    let middle = joined_has_none 10 (front ++ decimal after) (codes " ") (joined_has_none 10 front (decimal after) refl (decimal_has_no_lf after)) refl in
+    joined_has_none 10 (front ++ decimal after ++ codes " ") (decimal item) middle (decimal_has_no_lf item)
 reject_has_no_lf NotEmpty = refl
 reject_has_no_lf NoMemory = refl
 
@@ -69,6 +73,7 @@ reject_has_no_lf NoMemory = refl
 reject_claims_nothing : (reject : Reject) → ClaimsNothing (line (reject_text reject))
 reject_claims_nothing (NoClause step) = line_claims_nothing (reject_text (NoClause step)) (reject_has_no_lf (NoClause step)) refl
 reject_claims_nothing (NoPivot step link) = line_claims_nothing (reject_text (NoPivot step link)) (reject_has_no_lf (NoPivot step link)) refl
+reject_claims_nothing (NoDrop after item) = line_claims_nothing (reject_text (NoDrop after item)) (reject_has_no_lf (NoDrop after item)) refl
 reject_claims_nothing NotEmpty = line_claims_nothing (reject_text NotEmpty) refl refl
 reject_claims_nothing NoMemory = line_claims_nothing (reject_text NoMemory) refl refl
 
@@ -116,8 +121,8 @@ check_texts = record {
 -- and how it excludes the rest
 pub check_laws : OneCheck → CommandLaws (IsAnswer Check) (IsPartRefused Check)
 check_laws once = record {
-  distinct = λ x part out status r answer refused. read_or_refused once part answer.kind answer.log r answer.read refused;
-  one_refusal = λ x part r s one other. refused_once once part r s one other;
+  distinct = λ x part out status r admitted answer refused. read_or_refused once part answer.kind answer.log r answer.read refused;
+  one_refusal = λ x part r s admitted one other. refused_once once part r s one other;
 }
 
 -- a log has one first failure

@@ -2,6 +2,7 @@
 use Rattle.std.proofs.Common.{◌≡◌, ◌⊎◌, ℕ, List, take, inl, inr, refl}
 use Rattle.std.specs.Prelude.{⊤}
 use Rattle.bspl_types.specs.declared.expanded.Expanded.{Expanded}
+use Rattle.bspl_types.specs.Admission.{IsAdmitted}
 use Rattle.bspl_tool.specs.declared.rejection.Rejection.{Rejection}
 use Rattle.bspl_tool.specs.declared.status.Status.{Status}
 use Rattle.bspl_tool.specs.declared.status.Status.TheVariants.{ReadFault, WriteFault, NoMemory}
@@ -49,9 +50,9 @@ pub record CommandTexts (Answers : Expanded → List ℕ → List ℕ → Status
   -- the names in a refusal are names
   pub names : (x : Expanded) (part : List ℕ) (r : Rejection) → Refuses x part r → HasNames r
 
--- how a command's answers and refusals exclude each other
+-- how a command's answers and refusals exclude each other, on an admitted protocol
 pub record CommandLaws (Answers : Expanded → List ℕ → List ℕ → Status → Type 0) (Refuses : Expanded → List ℕ → Rejection → Type 0) : Type 0 where
   -- what is answered is not refused
-  pub distinct : (x : Expanded) (part out : List ℕ) (status : Status) (r : Rejection) → Answers x part out status → Refuses x part r → ⊥
+  pub distinct : (x : Expanded) (part out : List ℕ) (status : Status) (r : Rejection) → IsAdmitted x → Answers x part out status → Refuses x part r → ⊥
   -- there is one refusal at most
-  pub one_refusal : (x : Expanded) (part : List ℕ) (r s : Rejection) → Refuses x part r → Refuses x part s → r ≡ s
+  pub one_refusal : (x : Expanded) (part : List ℕ) (r s : Rejection) → IsAdmitted x → Refuses x part r → Refuses x part s → r ≡ s

@@ -65,7 +65,7 @@ same_part_refusal : OneEach → (task : Task) (name input : List ℕ) (part byte
 same_part_refusal law task name input part bytes x y r s has has_too judged judged_too one other =
     let same = judged_once law.reading task name input y x judged_too judged in
     let bytes_same = one_part (part_of task) input bytes part has_too has in
-    (laws_of law.evidence task).one_refusal x part r s one (subst (λ z. IsPartRefused task z part s) same (subst (λ b. IsPartRefused task y b s) bytes_same other))
+    (laws_of law.evidence task).one_refusal x part r s (declared_if_judged task name input x judged).admitted one (subst (λ z. IsPartRefused task z part s) same (subst (λ b. IsPartRefused task y b s) bytes_same other))
 
 -- an input has one rejection
 one_input_rejection : OneEach → (task : Task) (name input : List ℕ) {r s : Rejection} → RefusesInput task name input r → RefusesInput task name input s → r ≡ s
@@ -113,7 +113,7 @@ answered_or_refused law task name input out status answered (RefusesInput.text b
 answered_or_refused law task name input out status answered (RefusesInput.part bytes y s has judged reason) =
     let same = judged_once law.reading task name input y answered.protocol judged answered.judged in
     let bytes_same = one_part (part_of task) input bytes answered.part has answered.has_part in
-    (laws_of law.evidence task).distinct answered.protocol answered.part out status s answered.answer (subst (λ z. IsPartRefused task z answered.part s) same (subst (λ b. IsPartRefused task y b s) bytes_same reason))
+    (laws_of law.evidence task).distinct answered.protocol answered.part out status s (declared_if_judged task name input answered.protocol answered.judged).admitted answered.answer (subst (λ z. IsPartRefused task z answered.part s) same (subst (λ b. IsPartRefused task y b s) bytes_same reason))
 
 -- nor are the arguments
 done_or_refused : OneEach → (args : List (List ℕ)) (bytes out : List ℕ) (status : Status) {r : Rejection} → IsDone args bytes out status → Refuses args bytes r → ⊥

@@ -11,15 +11,19 @@ use Rattle.bspl_types.specs.declared.value.Value.{Value}
 use Rattle.bspl_types.specs.Expansion.{message_of, no_message}
 use Rattle.bspl_types.specs.Instance.{pairs}
 use Rattle.bspl_types.specs.ValueSpelling.{value_spelling}
-use Rattle.refutation_log.specs.declared.refutation.Chain.{Chain}
 use Rattle.refutation_log.specs.declared.refutation.Kind.{Kind}
 use Rattle.refutation_log.specs.declared.refutation.Kind.TheVariants.{Liveness, Safety}
 use Rattle.refutation_log.specs.declared.refutation.Link.{Link}
 use Rattle.refutation_log.specs.declared.refutation.Log.{Log}
-use Rattle.refutation_log.specs.LogText.{header_line, link_fields, log_text, numeral, pivot_text, step_fields, step_line}
+use Rattle.refutation_log.specs.declared.refutation.Entry.{Entry}
+use Rattle.refutation_log.specs.declared.refutation.Entry.TheVariants.{Drop, Step}
+use Rattle.refutation_log.specs.declared.refutation.Version.{Version}
+use Rattle.refutation_log.specs.declared.refutation.Version.TheVariants.{One, Two}
+use Rattle.refutation_log.specs.Entries.{entries}
+use Rattle.refutation_log.specs.LogText.{drop_fields, entry_line, header_line, least_version, line_of, link_fields, log_text, numeral, pivot_text, step_fields, versioned_text}
 use Rattle.report.specs.ReplayLines.{param_name}
 use Rattle.run_text.specs.RunText.{event_line, head_line, instance_fields, no_param, run_text, value_field}
-use Rattle.bspl_tool.proofs.ClaimsNothing.{IsBlock, block_joined, no_lines}
+use Rattle.bspl_tool.proofs.ClaimsNothing.{IsBlock, block_joined, claims, no_lines}
 use Rattle.bspl_tool.proofs.FieldBytes.{fields_are_block, indexed_has_no_lf, numeral_has_no_lf, value_has_no_lf}
 use Rattle.bspl_tool.proofs.Unbroken.{has_lf, joined_has_none}
 
@@ -40,19 +44,37 @@ links_have_no_lf (link ∷ links) =
     let others = list_any has_lf (flat_map link_fields links) in
     or_from (has_lf (pivot_text link.pivot)) _ (pivot_has_no_lf link.pivot.var link.pivot.positive) (or_from (has_lf (numeral link.clause)) others (numeral_has_no_lf link.clause) (links_have_no_lf links))
 
--- the line of a step
-step_is_block : (step : Chain) → IsBlock (step_line step)
-step_is_block step = fields_are_block (step_fields step) (or_from (has_lf (numeral step.first)) _ (numeral_has_no_lf step.first) (links_have_no_lf step.links)) refl
+-- the numbers of a removal
+numbers_have_no_lf : (numbers : List ℕ) → list_any has_lf (map numeral numbers) ≡ false
+numbers_have_no_lf [] = refl
+numbers_have_no_lf (number ∷ numbers) =
+    or_from (has_lf (numeral number)) _ (numeral_has_no_lf number) (numbers_have_no_lf numbers)
+
+-- the line of a removal claims nothing, whatever its fields
+drop_is_no_claim : (fields : List (List ℕ)) → claims (line_of (codes "drop" ∷ fields)) ≡ false
+drop_is_no_claim [] = refl
+drop_is_no_claim (field ∷ fields) = refl
+
+-- the line of a step, or of a removal
+entry_is_block : (entry : Entry) → IsBlock (entry_line entry)
+entry_is_block (Step step) = fields_are_block (step_fields step) (or_from (has_lf (numeral step.first)) _ (numeral_has_no_lf step.first) (links_have_no_lf step.links)) refl
+entry_is_block (Drop numbers) = fields_are_block (drop_fields numbers) (numbers_have_no_lf numbers) (drop_is_no_claim (map numeral numbers))
 
 -- the first line of a log
-header_is_block : (kind : Kind) → IsBlock (header_line kind)
-header_is_block Safety = fields_are_block (codes "log" ∷ codes "1" ∷ codes "safety" ∷ []) refl refl
-header_is_block Liveness = fields_are_block (codes "log" ∷ codes "1" ∷ codes "liveness" ∷ []) refl refl
+header_is_block : (version : Version) (kind : Kind) → IsBlock (header_line version kind)
+header_is_block One Safety = fields_are_block (codes "log" ∷ codes "1" ∷ codes "safety" ∷ []) refl refl
+header_is_block One Liveness = fields_are_block (codes "log" ∷ codes "1" ∷ codes "liveness" ∷ []) refl refl
+header_is_block Two Safety = fields_are_block (codes "log" ∷ codes "2" ∷ codes "safety" ∷ []) refl refl
+header_is_block Two Liveness = fields_are_block (codes "log" ∷ codes "2" ∷ codes "liveness" ∷ []) refl refl
 
--- its text
+-- its text in a version
+versioned_is_block : (version : Version) (kind : Kind) (log : Log) → IsBlock (versioned_text version kind log)
+versioned_is_block version kind log =
+    block_joined (block_joined (header_is_block version kind) (blocks_joined entry_line entry_is_block (entries log))) (fields_are_block (codes "end" ∷ []) refl refl)
+
+-- and in the one that is written
 pub log_is_block : (kind : Kind) (log : Log) → IsBlock (log_text kind log)
-log_is_block kind log =
-    block_joined (block_joined (header_is_block kind) (blocks_joined step_line step_is_block log.steps)) (fields_are_block (codes "end" ∷ []) refl refl)
+log_is_block kind log = versioned_is_block (least_version log.removals) kind log
 
 -- the name of a parameter
 pub param_has_no_lf : (x : Expanded) (p : ℕ) → has_lf (param_name x p) ≡ false

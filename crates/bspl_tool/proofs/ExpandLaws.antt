@@ -19,6 +19,6 @@ expand_texts = record {
 -- and no protocol is refused
 pub expand_laws : CommandLaws (IsAnswer Expand) (IsPartRefused Expand)
 expand_laws = record {
-  distinct = λ x part out status r answer refused. refused;
-  one_refusal = λ x part r s one other. absurd one;
+  distinct = λ x part out status r admitted answer refused. refused;
+  one_refusal = λ x part r s admitted one other. absurd one;
 }

@@ -12,6 +12,9 @@ pub mod VerifyLaws
 pub mod CheckLaws
 pub mod CheckAnswers
 pub mod ReplayLaws
+pub mod WorldLines
+pub mod RunLaws
+pub mod RunAnswers
 pub mod TaskLaws
 pub mod OneRequest
 pub mod OneRefusal

@@ -10,15 +10,15 @@ use Rattle.command_line.specs.declared.line.Subject.TheVariants.{Protocol, Size}
 use Rattle.command_line.specs.Command.{takes_conflicts}
 use Rattle.command_line.specs.Line.{IsChosen, IsSameLine, IsSameSubject, OneLine}
 use Rattle.bspl_tool.specs.declared.request.Task.{Task}
-use Rattle.bspl_tool.specs.declared.request.Task.TheVariants.{Check, Expand, Replay, Verify}
+use Rattle.bspl_tool.specs.declared.request.Task.TheVariants.{Check, Expand, Replay, Run, Verify}
 use Rattle.bspl_tool.specs.Call.{RequestsInput}
 use Rattle.bspl_tool.specs.Input.{Declares}
 use Rattle.bspl_tool.specs.Parts.{protocol_text}
-use Rattle.bspl_tool.specs.Request.{IsAbout, Requests, RequestsUnsupported, task_of}
+use Rattle.bspl_tool.specs.Request.{IsAbout, Requests, RequestsUnsupported, line_task, task_of}
 use Rattle.bspl_tool.specs.Task.{HasBudget, IsBudget, Judged, reads_input}
 
 -- a command line is for one task
-same_task : (one again : CommandLine) → IsSameLine one again → task_of one.command one.brief one.conflicts ≡ task_of again.command again.brief again.conflicts
+same_task : (one again : CommandLine) → IsSameLine one again → line_task one ≡ line_task again
 same_task one again same = cc
 
 -- and about one protocol
@@ -52,6 +52,7 @@ all_read Expand = refl
 all_read (Verify brief conflicts) = refl
 all_read Check = refl
 all_read Replay = refl
+all_read (Run brief conflicts threads) = refl
 
 -- so arguments that request a task request the input
 pub requests_input : (args : List (List ℕ)) (task : Task) (name : List ℕ) → Requests args task name → RequestsInput args
@@ -63,6 +64,7 @@ judged_if_declared Expand name input x declares = declares
 judged_if_declared (Verify brief conflicts) name input x declares = declares
 judged_if_declared Check name input x declares = declares
 judged_if_declared Replay name input x declares = declares
+judged_if_declared (Run brief conflicts threads) name input x declares = declares
 
 -- and no other
 pub declared_if_judged : (task : Task) (name input : List ℕ) (x : Expanded) → Judged task name input x → Declares name (protocol_text input) x
@@ -70,6 +72,7 @@ declared_if_judged Expand name input x judged = judged
 declared_if_judged (Verify brief conflicts) name input x judged = judged
 declared_if_judged Check name input x judged = judged
 declared_if_judged Replay name input x judged = judged
+declared_if_judged (Run brief conflicts threads) name input x judged = judged
 
 -- an option's number of conflicts is a budget
 chosen_budget : (belongs : Bool) (values : List (List ℕ)) (n : ℕ) → IsChosen belongs 1 20000 10000 values n → IsBudget n
@@ -78,17 +81,17 @@ chosen_budget belongs (value ∷ []) n chosen = record { least = chosen.0.low; m
 chosen_budget belongs (value ∷ other ∷ values) n chosen = absurd chosen
 
 -- so is that of a command's task
-task_budget : (command : Command) (brief : Bool) (n : ℕ) → IsBudget n → IfSome (task_of command brief n) HasBudget
-task_budget command.Verify brief n budget = budget
-task_budget command.Check brief n budget = tt
-task_budget command.Replay brief n budget = tt
-task_budget command.Expand brief n budget = tt
-task_budget command.Run brief n budget = tt
-task_budget command.Generate brief n budget = tt
+task_budget : (command : Command) (brief : Bool) (n threads : ℕ) → IsBudget n → IfSome (task_of command brief n threads) HasBudget
+task_budget command.Verify brief n threads budget = budget
+task_budget command.Check brief n threads budget = tt
+task_budget command.Replay brief n threads budget = tt
+task_budget command.Expand brief n threads budget = tt
+task_budget command.Run brief n threads budget = budget
+task_budget command.Generate brief n threads budget = tt
 
 -- and that of a task that is requested
 pub requested_budget : (args : List (List ℕ)) (task : Task) (name : List ℕ) → Requests args task name → HasBudget task
 requested_budget args task name requests =
     let line = requests.line in
     let chosen = chosen_budget (takes_conflicts line.command) _ line.conflicts requests.is_line.line_of.conflicts in
-    subst (λ found. IfSome found HasBudget) requests.is_task (task_budget line.command line.brief line.conflicts chosen)
+    subst (λ found. IfSome found HasBudget) requests.is_task (task_budget line.command line.brief line.conflicts line.threads chosen)

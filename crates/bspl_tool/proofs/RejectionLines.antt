@@ -5,7 +5,7 @@ use Rattle.bspl_types.specs.declared.refusals.What.TheVariants as what
 use Rattle.bspl_tool.specs.declared.parts.Part.{Part}
 use Rattle.bspl_tool.specs.declared.parts.Part.TheVariants.{Agents, Log, Run}
 use Rattle.bspl_tool.specs.declared.rejection.Code.{Code}
-use Rattle.bspl_tool.specs.declared.rejection.Code.TheVariants.{E, L, N, P, W}
+use Rattle.bspl_tool.specs.declared.rejection.Code.TheVariants.{E, L, N, P, S, W}
 use Rattle.bspl_tool.specs.declared.rejection.Field.{Field}
 use Rattle.bspl_tool.specs.declared.rejection.Field.TheVariants as field
 use Rattle.bspl_tool.specs.declared.rejection.Rejection.{Rejection}
@@ -22,6 +22,7 @@ code_has_no_lf (P n) = decimal_has_no_lf n
 code_has_no_lf (E n) = decimal_has_no_lf n
 code_has_no_lf (L n) = decimal_has_no_lf n
 code_has_no_lf (W n) = decimal_has_no_lf n
+code_has_no_lf (S n) = decimal_has_no_lf n
 code_has_no_lf (N n) = decimal_has_no_lf n
 
 -- nor the word for what is counted

@@ -138,8 +138,8 @@ replay_texts = record {
 -- and how it excludes the rest
 pub replay_laws : OneReplay → CommandLaws (IsAnswer Replay) (IsPartRefused Replay)
 replay_laws once = record {
-  distinct = λ x part out status r answer refused. once.exclusive x part answer.run refused.refusal (not_memory refused.refusal r refused.rejection_is) answer.read refused.refused;
-  one_refusal = λ x part r s one other. refused_once once x part r s one other;
+  distinct = λ x part out status r admitted answer refused. once.exclusive x part answer.run refused.refusal (not_memory refused.refusal r refused.rejection_is) answer.read refused.refused;
+  one_refusal = λ x part r s admitted one other. refused_once once x part r s one other;
 }
 
 -- a run has one status

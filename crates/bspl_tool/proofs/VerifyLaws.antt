@@ -1,5 +1,6 @@
 -- The laws of `verify`.
-use Rattle.std.proofs.Common.{ℕ, ◌⊎◌, Bool, true, false, [], ◌∷◌, take, length, codes, inl, inr, refl, sym, subst}
+use Rattle.std.proofs.Common.{◌≡◌, ℕ, ◌⊎◌, Bool, true, false, List, [], ◌∷◌, ◌++◌, take, length, codes, inl, inr, refl, sym, ◌∙◌, subst, append-nil}
+use Rattle.std.specs.List.{list_any}
 use Rattle.std.specs.Fmt.{decimal}
 use Rattle.std.proofs.lemmas.Bool.{or_from}
 use Rattle.bspl_types.specs.declared.expanded.Expanded.{Expanded}
@@ -88,28 +89,36 @@ liveness_alone brief x (liveness.NotLive run param) = no_safety (block_joined (n
 liveness_alone brief x (liveness.Undecided log) = no_safety (block_joined (liveness_undecided_is_block log) (log_part_is_block kinds.Liveness brief log))
 
 -- what the text claims of safety
-safety_part : (brief : Bool) (budget : ℕ) (x : Expanded) (v : Verdicts) → IsRight x budget v.safety → SafeProtocol x ⊎ Avoids safety_lines (verdict_text x v brief)
+safety_part : (brief : Bool) (budget : ℕ) (x : Expanded) (v : Verdicts) → IsRight x budget v.safety → SafeProtocol x ⊎ IsBlockWithout safety_lines (verdict_text x v brief)
 safety_part brief budget x v right =
     elim (safety_claim brief budget x v.safety right) [
       | inl safe ↦ inl safe
-      | inr block ↦ inr (joined_without safety_lines refl (joined_without safety_lines refl (no_safety (protocol_is_block x)) (no_safety block)) (liveness_alone brief x v.liveness)).nothing
+      | inr block ↦ inr (joined_without safety_lines refl (joined_without safety_lines refl (no_safety (protocol_is_block x)) (no_safety block)) (liveness_alone brief x v.liveness))
     ]
 
 -- and of liveness
-liveness_part : (brief : Bool) (budget : ℕ) (x : Expanded) (v : Verdicts) → IsRightLiveness x budget v.liveness → LiveProtocol x ⊎ Avoids liveness_lines (verdict_text x v brief)
+liveness_part : (brief : Bool) (budget : ℕ) (x : Expanded) (v : Verdicts) → IsRightLiveness x budget v.liveness → LiveProtocol x ⊎ IsBlockWithout liveness_lines (verdict_text x v brief)
 liveness_part brief budget x v right =
     elim (liveness_claim brief budget x v.liveness right) [
       | inl live ↦ inl live
-      | inr block ↦ inr (joined_without liveness_lines refl (joined_without liveness_lines refl (no_liveness (protocol_is_block x)) (safety_alone brief x v.safety)) (no_liveness block)).nothing
+      | inr block ↦ inr (joined_without liveness_lines refl (joined_without liveness_lines refl (no_liveness (protocol_is_block x)) (safety_alone brief x v.safety)) (no_liveness block))
     ]
 
--- each prefix of the text of right verdicts claims only what is true
-verdict_is_honest : (brief : Bool) (budget : ℕ) (x : Expanded) (v : Verdicts) (n : ℕ) → AreRight x budget v → IsHonest x (take n (verdict_text x v brief))
-verdict_is_honest brief budget x v n right =
-    honest_if x (verdict_text x v brief) n (safety_part brief budget x v right.safety) (liveness_part brief budget x v right.liveness)
+-- so it is with a text after which others come that do not have the lines
+more_avoids : {P : Type 0} (saids : List (List ℕ)) → list_any has_lf saids ≡ false → (text more : List ℕ) → P ⊎ IsBlockWithout saids text → IsBlockWithout saids more → P ⊎ Avoids saids (text ++ more)
+more_avoids saids bare text more (inl true_of_it) without = inl true_of_it
+more_avoids saids bare text more (inr block) without = inr (joined_without saids bare block without).nothing
+
+-- each prefix of the text of right verdicts, and lines that claim nothing, claims only what is true
+pub verdict_is_honest : (brief : Bool) (budget : ℕ) (x : Expanded) (v : Verdicts) (more : List ℕ) (n : ℕ) → AreRight x budget v → IsBlock more → IsHonest x (take n (verdict_text x v brief ++ more))
+verdict_is_honest brief budget x v more n right block =
+    let text = verdict_text x v brief in
+    honest_if x (text ++ more) n
+    (more_avoids safety_lines refl text more (safety_part brief budget x v right.safety) (no_safety block))
+    (more_avoids liveness_lines refl text more (liveness_part brief budget x v right.liveness) (no_liveness block))
 
 -- verdicts end in a status of their own
-verdict_ends : (s : SafetyVerdict) (l : LivenessVerdict) → IsEnd (verdict_status s l)
+pub verdict_ends : (s : SafetyVerdict) (l : LivenessVerdict) → IsEnd (verdict_status s l)
 verdict_ends (Unsafe run param first second) l = tt
 verdict_ends (Safe log) (liveness.NotLive run param) = tt
 verdict_ends (Safe log) (liveness.Undecided log') = tt
@@ -121,14 +130,15 @@ verdict_ends (Undecided log) (liveness.Live log') = tt
 -- what is said
 pub verify_texts : (brief : Bool) (budget : ℕ) → CommandTexts (IsAnswer (Verify brief budget)) (IsPartRefused (Verify brief budget))
 verify_texts brief budget = record {
-  ends = λ x part out status answer. subst IsEnd (sym answer.ends) (verdict_ends answer.verdicts.safety answer.verdicts.liveness);
-  honest = λ x part out status n answer. subst (λ text. IsHonest x (take n text)) (sym answer.text) (verdict_is_honest brief budget x answer.verdicts n answer.right);
+  ends = λ x part out status given. subst IsEnd (sym given.answer.ends) (verdict_ends given.verdicts.safety given.verdicts.liveness);
+  honest = λ x part out status n given.
+      subst (λ text. IsHonest x (take n text)) (append-nil (verdict_text x given.verdicts brief) ∙ sym given.answer.text) (verdict_is_honest brief budget x given.verdicts [] n given.answer.right no_lines);
   names = λ x part r refused. absurd refused;
 }
 
 -- and no protocol is refused
 pub verify_laws : (brief : Bool) (budget : ℕ) → CommandLaws (IsAnswer (Verify brief budget)) (IsPartRefused (Verify brief budget))
 verify_laws brief budget = record {
-  distinct = λ x part out status r answer refused. refused;
-  one_refusal = λ x part r s one other. absurd one;
+  distinct = λ x part out status r admitted answer refused. refused;
+  one_refusal = λ x part r s admitted one other. absurd one;
 }

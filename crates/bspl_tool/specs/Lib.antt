@@ -10,6 +10,7 @@ pub mod ExpandAnswer
 pub mod CheckAnswer
 pub mod VerifyAnswer
 pub mod ReplayAnswer
+pub mod RunAnswer
 pub mod Input
 pub mod Parts
 pub mod Refusals

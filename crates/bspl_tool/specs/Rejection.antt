@@ -5,13 +5,15 @@ use Rattle.bspl_types.specs.declared.refusals.Refusal.{Refusal}
 use Rattle.bspl_types.specs.declared.refusals.Refusal.TheVariants.{Byte, Syntax, NoProtocol, Duplicate, Unknown, Arity, BadAdornment, Recursion, Limit, NoKey, NotWholeKey, ForeignKey, SelfMessage, RepeatedParam, NoMemory}
 use Rattle.bspl_types.specs.declared.refusals.What.{What}
 use Rattle.bspl_types.specs.declared.refusals.What.TheVariants as what
+use Rattle.agent_scripts.specs.declared.refusal.ScriptRefusal.{ScriptRefusal}
+use Rattle.agent_scripts.specs.declared.refusal.ScriptRefusal.TheVariants as script
 use Rattle.refutation_log.specs.declared.refusal.LogRefusal.{LogRefusal}
 use Rattle.refutation_log.specs.declared.refusal.LogRefusal.TheVariants as log
 use Rattle.run_text.specs.declared.refusal.RunRefusal.{RunRefusal}
 use Rattle.run_text.specs.declared.refusal.RunRefusal.TheVariants as run
 use Rattle.bspl_tool.specs.declared.parts.Part.{Part}
 use Rattle.bspl_tool.specs.declared.rejection.Code.{Code}
-use Rattle.bspl_tool.specs.declared.rejection.Code.TheVariants.{E, L, N, P, W}
+use Rattle.bspl_tool.specs.declared.rejection.Code.TheVariants.{E, L, N, P, S, W}
 use Rattle.bspl_tool.specs.declared.rejection.Field.{Field}
 use Rattle.bspl_tool.specs.declared.rejection.Field.TheVariants as field
 use Rattle.bspl_tool.specs.declared.rejection.Rejection.{Rejection}
@@ -26,6 +28,7 @@ code_text (P n) = codes "P" ++ decimal n
 code_text (E n) = codes "E" ++ decimal n
 code_text (L n) = codes "L" ++ decimal n
 code_text (W n) = codes "W" ++ decimal n
+code_text (S n) = codes "S" ++ decimal n
 code_text (N n) = codes "N" ++ decimal n
 
 -- the word for what is counted against a limit
@@ -114,3 +117,9 @@ log_rejection log.NoMemory = None
 abbrev pub run_rejection : RunRefusal → Option Rejection
 run_rejection (run.Form number) = Some (with_one (W 1) (field.Number number))
 run_rejection run.NoMemory = None
+
+-- a refusal of the agents' text, by its code: its first bad line
+abbrev pub script_rejection : ScriptRefusal → Option Rejection
+script_rejection (script.Form number) = Some (with_one (S 1) (field.Number number))
+script_rejection (script.Unknown number) = Some (with_one (S 2) (field.Number number))
+script_rejection script.NoMemory = None

@@ -3,7 +3,7 @@ use Rattle.std.specs.Prelude.{ℕ, ◌==◌, List, [], ◌∷◌, ◌++◌, code
 use Rattle.std.specs.Fmt.{decimal}
 use Rattle.std.specs.List.{Contains, slice_split}
 use Rattle.log_checker.specs.declared.refusal.Reject.{Reject}
-use Rattle.log_checker.specs.declared.refusal.Reject.TheVariants.{NoClause, NoMemory, NoPivot, NotEmpty}
+use Rattle.log_checker.specs.declared.refusal.Reject.TheVariants.{NoClause, NoDrop, NoMemory, NoPivot, NotEmpty}
 
 -- a line with its LF
 abbrev pub line : List ℕ → List ℕ
@@ -26,5 +26,7 @@ abbrev pub reject_text : Reject → List ℕ
 reject_text (NoClause step) = codes "rejected step " ++ decimal step ++ codes " clause"
 reject_text (NoPivot step link) =
     codes "rejected step " ++ decimal step ++ codes " link " ++ decimal link
+reject_text (NoDrop after item) =
+    codes "rejected drop " ++ decimal after ++ codes " " ++ decimal item
 reject_text NotEmpty = codes "rejected not-empty"
 reject_text NoMemory = []

@@ -1,5 +1,5 @@
 -- What `verify` answers on an admitted protocol.
-use Rattle.std.specs.Prelude.{◌≡◌, ℕ, Bool, List, []}
+use Rattle.std.specs.Prelude.{◌≡◌, ℕ, Bool, List}
 use Rattle.bspl_types.specs.declared.expanded.Expanded.{Expanded}
 use Rattle.enactment_model.specs.Producers.{HasOneProducer}
 use Rattle.report.specs.VerdictText.{verdict_text}
@@ -8,6 +8,7 @@ use Rattle.verdict.specs.declared.outcome.Liveness.TheVariants as liveness
 use Rattle.verdict.specs.declared.outcome.Safety.{Safety}
 use Rattle.verdict.specs.declared.outcome.Safety.TheVariants as safety
 use Rattle.verdict.specs.declared.outcome.Verdicts.{Verdicts}
+use Rattle.verdict.specs.Right.{IsSafeByEmptyLog}
 use Rattle.verdict.specs.Verdicts.{AreRight}
 use Rattle.bspl_tool.specs.declared.status.Status.{Status}
 use Rattle.bspl_tool.specs.declared.status.Status.TheVariants.{Done, Refuted, Undecided}
@@ -20,11 +21,17 @@ verdict_status (safety.Undecided log) l = Undecided
 verdict_status s (liveness.Undecided log) = Undecided
 verdict_status (safety.Safe log) (liveness.Live log') = Done
 
--- the text and the status of right verdicts; without rival producers it is safe with no steps
+-- the verdicts are right, and this is their text and their status; without rival producers the
+-- protocol is safe by an empty log
+pub record IsVerdictAnswer (brief : Bool) (budget : ℕ) (x : Expanded) (v : Verdicts)
+    (out : List ℕ) (status : Status) : Type 0 where
+  pub right : AreRight x budget v
+  pub single : HasOneProducer x → IsSafeByEmptyLog v.safety
+  pub text : out ≡ verdict_text x v brief
+  pub ends : status ≡ verdict_status v.safety v.liveness
+
+-- the text and the status of some right verdicts
 pub record IsVerifyAnswer (brief : Bool) (budget : ℕ) (x : Expanded) (out : List ℕ)
     (status : Status) : Type 0 where
   pub verdicts : Verdicts
-  pub right : AreRight x budget verdicts
-  pub single : HasOneProducer x → verdicts.safety ≡ safety.Safe (record { steps = [] })
-  pub text : out ≡ verdict_text x verdicts brief
-  pub ends : status ≡ verdict_status verdicts.safety verdicts.liveness
+  pub answer : IsVerdictAnswer brief budget x verdicts out status

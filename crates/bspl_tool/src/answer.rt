@@ -19,6 +19,7 @@ use super::rejection_text::rejection_line;
 use super::replay_command::replay;
 use super::reply::Reply;
 use super::request::{Request, Task, read_request};
+use super::run_command::run;
 use super::status::Status;
 use super::texts::usage_text;
 use super::verify_command::verify;
@@ -31,20 +32,25 @@ use std::alloc::Global;
 fn answer_task(
     alloc: Global,
     task: Task,
-    protocol: &Admitted,
+    protocol: Admitted,
     part: &[u8],
 ) -> Result<Reply, AnswerError>
     requires few { length part.now ≤ input_limit }
     requires budget { HasBudget task }
     ensures ok { IfOk result (λ reply.
-        IsAnswer task protocol.now part.now reply.text reply.status) }
-    ensures refused { IfErr result (RejectsFor (IsPartRefused task protocol.now part.now)) }
+        IsAnswer task protocol part.now reply.text reply.status) }
+    ensures refused { IfErr result (RejectsFor (IsPartRefused task protocol part.now)) }
 {
     match task {
-        Task::Expand => Ok(expand(alloc, protocol)?),
-        Task::Verify { brief, conflicts } => Ok(verify(alloc, brief, conflicts, protocol)?),
-        Task::Check => check(alloc, protocol, part),
-        Task::Replay => replay(alloc, protocol, part),
+        Task::Expand => Ok(expand(alloc, &protocol)?),
+        Task::Verify { brief, conflicts } => Ok(verify(alloc, brief, conflicts, &protocol)?),
+        Task::Check => check(alloc, &protocol, part),
+        Task::Replay => replay(alloc, &protocol, part),
+        Task::Run {
+            brief,
+            conflicts,
+            threads,
+        } => run(alloc, brief, conflicts, threads, protocol, part),
     }
 }
 
@@ -58,7 +64,7 @@ fn answer_input(alloc: Global, task: Task, name: &[u8], input: &[u8]) -> Result<
 {
     let part = needed_part(task, input)?;
     let protocol = protocol_of(alloc, name, input)?;
-    answer_task(alloc, task, &protocol, part)
+    answer_task(alloc, task, protocol, part)
 }
 
 /// Answers the arguments. The input is read only if they request it.

@@ -4,7 +4,10 @@ ghost use Rattle.bspl_tool.specs.inner.Error.{error_for, read_error};
 
 use super::limits::INPUT_LIMIT;
 use super::refusal::InputRefusal;
-use super::rejection::{Rejection, input_rejection, log_rejection, run_rejection, text_rejection};
+use super::rejection::{
+    Rejection, input_rejection, log_rejection, run_rejection, script_rejection, text_rejection,
+};
+use agent_scripts::ScriptRefusal;
 use bspl_io::ReadRefusal;
 use bspl_types::{NoMemory, Refusal};
 use refutation_log::LogRefusal;
@@ -120,5 +123,17 @@ impl From<RunRefusal> for AnswerError {
 
     fn from(refusal: RunRefusal) -> AnswerError {
         error_for(run_rejection(refusal))
+    }
+}
+
+impl From<ScriptRefusal> for AnswerError {
+    ghost use Rattle.std.specs.Prelude.{◌≡◌};
+    ghost use Rattle.bspl_tool.specs.Rejection.{script_rejection};
+    ghost use Rattle.bspl_tool.specs.inner.Error.{error_for};
+
+    ghost from_gives = { λ refusal error. error ≡ error_for (script_rejection refusal) };
+
+    fn from(refusal: ScriptRefusal) -> AnswerError {
+        error_for(script_rejection(refusal))
     }
 }

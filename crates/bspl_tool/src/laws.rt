@@ -25,6 +25,8 @@ pub fn answers_are_distinct()
     run_text::reads_once();
     // law: a run has one report
     report::replay_is_once();
+    // law: a text gives one script at most, or has one first bad line
+    script_reader::reads_once();
 }
 
 /// A law: a protocol text declares one protocol at most for a name, or is refused for one reason.
@@ -41,9 +43,9 @@ pub fn texts_are_judged_once()
     adornment_check::refuses_once();
 }
 
-/// A law: `check`, `replay` and `expand` have one output and one status at most. `verify` may have
-/// several: the search may find another run, log or number of steps, and the answer with it is
-/// right too.
+/// A law: `check`, `replay` and `expand` have one output and one status at most. `verify` and `run`
+/// may have several: the search may find another run, log or number of steps, and the answer with it
+/// is right too.
 pub fn one_answer()
     ensures { OneAnswer }
 {
@@ -56,6 +58,7 @@ pub fn one_answer()
     protocol_check::liveness_fails_once();
     run_text::reads_once();
     report::replay_is_once();
+    script_reader::reads_once();
     // law: an expansion has one text
     protocol_expand::prints_once();
 }

@@ -18,6 +18,7 @@ mod rejection_text;
 mod replay_command;
 mod reply;
 mod request;
+mod run_command;
 mod status;
 mod texts;
 mod verify_command;
@@ -30,7 +31,8 @@ pub use limits::{INPUT_LIMIT, TEXT_LIMIT};
 pub use parts::Part;
 pub use refusal::InputRefusal;
 pub use rejection::{
-    Code, Field, Rejection, input_rejection, log_rejection, run_rejection, text_rejection,
+    Code, Field, Rejection, input_rejection, log_rejection, run_rejection, script_rejection,
+    text_rejection,
 };
 pub use rejection_text::rejection_line;
 pub use request::Task;

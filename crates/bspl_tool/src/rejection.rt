@@ -2,10 +2,11 @@ ghost use Rattle.std.specs.Prelude.{◌≡◌};
 ghost use Rattle.bspl_tool.specs.declared.rejection.Code.TheVariants.{E, L};
 ghost use Rattle.bspl_tool.specs.declared.rejection.Field.TheVariants as field;
 ghost use Rattle.bspl_tool.specs.Rejection.{bare, input_rejection, log_rejection, run_rejection};
-ghost use Rattle.bspl_tool.specs.Rejection.{text_rejection, with_one, with_two};
+ghost use Rattle.bspl_tool.specs.Rejection.{script_rejection, text_rejection, with_one, with_two};
 
 use super::parts::Part;
 use super::refusal::InputRefusal;
+use agent_scripts::ScriptRefusal;
 use bspl_types::{Name, Refusal, What};
 use refutation_log::LogRefusal;
 use run_text::RunRefusal;
@@ -21,6 +22,8 @@ pub enum Code {
     L(u8),
     /// The text of a run.
     W(u8),
+    /// The text of agents.
+    S(u8),
     /// What is not supported.
     N(u8),
 }
@@ -161,5 +164,20 @@ pub fn run_rejection(refusal: RunRefusal) -> Option<Rejection>
     match refusal {
         RunRefusal::Form { line } => Some(Rejection::with_one(Code::W(1), Field::Number(line))),
         RunRefusal::NoMemory => None,
+    }
+}
+
+/// The rejection of the agents' text, unless memory ran out.
+pub fn script_rejection(refusal: ScriptRefusal) -> Option<Rejection>
+    ensures { result ≡ script_rejection refusal }
+{
+    match refusal {
+        ScriptRefusal::Form { line } => {
+            Some(Rejection::with_one(Code::S(1), Field::Number(line)))
+        }
+        ScriptRefusal::Unknown { line } => {
+            Some(Rejection::with_one(Code::S(2), Field::Number(line)))
+        }
+        ScriptRefusal::NoMemory => None,
     }
 }

@@ -26,6 +26,7 @@ fn push_code(alloc: Global, text: &mut Bytes, code: Code) -> Result<(), NoMemory
         Code::E(number) => (b'E', number),
         Code::L(number) => (b'L', number),
         Code::W(number) => (b'W', number),
+        Code::S(number) => (b'S', number),
         Code::N(number) => (b'N', number),
     };
     text.push(letter)?;

@@ -14,11 +14,21 @@ pub enum Task {
     /// Its expansion is printed.
     Expand,
     /// It is verified, with at most these conflicts for each verdict. A brief verdict has no log.
-    Verify { brief: bool, conflicts: u32 },
+    Verify {
+        brief: bool,
+        conflicts: u32,
+    },
     /// A log is checked against its safety or its liveness formula.
     Check,
     /// A run of it is replayed.
     Replay,
+    /// It is verified likewise, and if it is safe, agents play it by their scripts. The number of
+    /// threads is that for each role; with 0 all roles share one thread.
+    Run {
+        brief: bool,
+        conflicts: u32,
+        threads: u32,
+    },
 }
 
 /// What the arguments request.
@@ -41,6 +51,7 @@ impl Task {
             Task::Expand | Task::Verify { .. } => None,
             Task::Check => Some(Part::Log),
             Task::Replay => Some(Part::Run),
+            Task::Run { .. } => Some(Part::Agents),
         }
     }
 }
@@ -70,7 +81,12 @@ fn request_of(line: CommandLine<'_>) -> Request<'_>
         },
         Command::Check => Task::Check,
         Command::Replay => Task::Replay,
-        _ => return Request::Unsupported,
+        Command::Run => Task::Run {
+            brief: line.brief,
+            conflicts: line.conflicts,
+            threads: line.threads,
+        },
+        Command::Generate => return Request::Unsupported,
     };
     Request::Do { task, name }
 }

@@ -42,6 +42,12 @@ pub fn reject_text(alloc: Global, reject: Reject) -> Result<Bytes, NoMemory>
             text.append(b" link ")?;
             text.append(link.to_string(alloc)?.as_bytes())?;
         }
+        Reject::NoDrop { after, item } => {
+            text.append(b"drop ")?;
+            text.append(after.to_string(alloc)?.as_bytes())?;
+            text.push(b' ')?;
+            text.append(item.to_string(alloc)?.as_bytes())?;
+        }
         Reject::NotEmpty => text.append(b"not-empty")?,
         Reject::NoMemory => return Err(NoMemory),
     }

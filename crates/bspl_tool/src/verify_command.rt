@@ -1,6 +1,6 @@
 ghost use Rattle.std.specs.Prelude.{◌≡◌, IfOk};
 ghost use Rattle.bspl_tool.specs.Task.{IsBudget};
-ghost use Rattle.bspl_tool.specs.VerifyAnswer.{IsVerifyAnswer, verdict_status};
+ghost use Rattle.bspl_tool.specs.VerifyAnswer.{IsVerdictAnswer, IsVerifyAnswer, verdict_status};
 
 use super::reply::Reply;
 use super::status::Status;
@@ -9,7 +9,14 @@ use report::{right_runs_fit, verdict_text};
 use std::alloc::Global;
 use verdict::{Liveness, Safety, Verdicts};
 
-/// Answers `verify`, with no more than `conflicts` conflicts in the search.
+/// Verdicts, and what is written of them.
+#[derive(Drop)]
+pub(crate) struct VerdictReply {
+    pub verdicts: Verdicts,
+    pub reply: Reply,
+}
+
+/// Answers `verify`.
 pub fn verify(
     alloc: Global,
     brief: bool,
@@ -20,14 +27,29 @@ pub fn verify(
     ensures { IfOk result (λ reply.
         IsVerifyAnswer brief conflicts protocol.now reply.text reply.status) }
 {
+    let VerdictReply { reply, .. } = reply_with_verdicts(alloc, brief, conflicts, protocol)?;
+    Ok(reply)
+}
+
+/// The verdicts, with no more than `conflicts` conflicts in the search for each, and the reply that
+/// gives them.
+pub(crate) fn reply_with_verdicts(
+    alloc: Global,
+    brief: bool,
+    conflicts: u32,
+    protocol: &Admitted,
+) -> Result<VerdictReply, NoMemory>
+    requires { IsBudget conflicts }
+    ensures { IfOk result (λ r. IsVerdictAnswer brief conflicts protocol.now
+        r.verdicts r.reply.text r.reply.status) }
+{
     // law: the runs of right verdicts fit the protocol
     right_runs_fit();
     let verdicts = verdict::verify(alloc, protocol, conflicts)?;
     let text = verdict_text(alloc, protocol, &verdicts, brief)?;
-    Ok(Reply {
-        status: verdict_status(&verdicts),
-        text,
-    })
+    let status = verdict_status(&verdicts);
+    let reply = Reply { status, text };
+    Ok(VerdictReply { verdicts, reply })
 }
 
 /// The status of both verdicts.

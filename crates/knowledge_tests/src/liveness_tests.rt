@@ -42,6 +42,10 @@ fn logs_of_the_liveness_of_ping(rt: HostRuntime) -> Result<(), Fail> {
             Err(Reject::NoClause { step: 1 }),
         ),
         (b"log 1 liveness\nend\n", Err(Reject::NotEmpty)),
+        (
+            b"log 2 liveness\ndrop 1 1\nend\n",
+            Err(Reject::NoDrop { after: 0, item: 2 }),
+        ),
     ] {
         assert_eq!(rt; answer(alloc, &ping, text), Some(wanted));
     }

@@ -1,8 +1,9 @@
-ghost use Rattle.std.specs.Prelude.{◌↔◌, ◌<◌, length, IsTrue, MatchOption};
-ghost use Rattle.bspl_types.specs.Knowledge.{IsKnown, Knows};
+ghost use Rattle.std.specs.Prelude.{◌≡◌, ◌↔◌, ◌<◌, length, IsTrue, MatchOption};
+ghost use Rattle.std.specs.List.{Contains};
+ghost use Rattle.bspl_types.specs.Knowledge.{CanEmit, IsKnown, Knows};
 ghost use Rattle.enactment_model.specs.Liveness.{IsEmitted};
 ghost use Rattle.local_store.specs.Consistent.{IsReceived};
-ghost use Rattle.local_store.specs.State.{acts_of};
+ghost use Rattle.local_store.specs.State.{acts_of, key_at};
 ghost use Rattle.local_store.specs.inner.Kept.{HasEvent, IsOfRole, IsSound};
 
 use super::act::Kind;
@@ -30,6 +31,34 @@ impl Store {
         ensures { IsTrue result ↔ IsEmitted (acts_of self.now) key.now message }
     {
         self.is_of_role(Kind::Emitted, message) && self.happened(message, key)
+    }
+
+    /// The index of a held key, from 0: the row by which other calls know it.
+    pub fn row(&self, key: &Key) -> usize
+        requires { Contains self.now.keys key.now }
+        ensures within { result < length self.now.keys }
+        ensures key { key_at self.now result ≡ key.now }
+    {
+        self.held_row(key)
+    }
+
+    /// Whether the message was emitted under the row's key.
+    pub fn emitted_at(&self, row: usize, message: u32) -> bool
+        requires { row < length self.now.keys }
+        ensures { IsTrue result ↔
+            IsEmitted (acts_of self.now) (key_at self.now row) message }
+    {
+        self.is_of_role(Kind::Emitted, message) && self.has_event(row, message)
+    }
+
+    /// Whether the message can be emitted under the row's key.
+    pub fn can_emit_at(&self, row: usize, message: u32) -> bool
+        requires row { row < length self.now.keys }
+        requires known { message < length self.now.protocol.messages }
+        ensures { IsTrue result ↔
+            CanEmit self.now.protocol (acts_of self.now) message (key_at self.now row) }
+    {
+        self.block_at(row, message).is_none()
     }
 
     /// Whether the message was received under the key.

@@ -7,7 +7,7 @@ use Rattle.refutation_log.specs.declared.refutation.Chain.{Chain}
 use Rattle.clause_core.specs.Numbering.{Numbering, HasNumber}
 use Rattle.clause_core.specs.Resolvent.{ResolventsAgree}
 use Rattle.refutation_log.specs.Resolution.{Resolved, Folds, Derives}
-use Rattle.log_checker.specs.FirstFailure.{ComesTo, LacksLinkClause, LacksClause, LacksPivot}
+use Rattle.log_checker.specs.ChainFailure.{ComesTo, LacksLinkClause, LacksClause, LacksPivot}
 use Rattle.log_checker.proofs.Folding.{names_one, folds_one}
 
 -- the links before the index fold to a clause that resolves with that of the link there

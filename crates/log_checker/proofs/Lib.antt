@@ -1,8 +1,11 @@
 pub mod ChainLemmas
 pub mod Folding
 pub mod Failing
-pub mod FailingSteps
+pub mod FailingEntries
 pub mod MarkLemmas
 pub mod OneAnswer
+pub mod Running
+pub mod RunningLog
 pub mod Soundness
+pub mod TableLemmas
 pub mod TakingLemmas

@@ -1,55 +1,65 @@
 -- The answer of the checker is determined.
-use Rattle.std.proofs.Common.{◌≡◌, ◌≢◌, ◌↔◌, Result, Ok, Err, IfErr, OnOk, IsOkUnless, refl, ap, ap₂}
+use Rattle.std.proofs.Common.{◌≡◌, ◌≢◌, ◌↔◌, ◌⊎◌, inl, inr, Result, Ok, Err, IfErr, OnOk, IsOkUnless, refl, sym, ap, subst, ◌∙◌}
 use Rattle.clause_core.specs.declared.formula.Formula.{Formula}
-use Rattle.refutation_log.specs.declared.refutation.Log.{Log}
 use Rattle.clause_core.specs.Resolvent.{ResolventsAgree}
+use Rattle.refutation_log.specs.declared.refutation.Log.{Log}
+use Rattle.refutation_log.specs.Entries.{entries}
+use Rattle.refutation_log.specs.Ledger.{all_live}
 use Rattle.refutation_log.specs.Resolution.{Accepts}
 use Rattle.log_checker.specs.declared.refusal.Reject.{Reject}
-use Rattle.log_checker.specs.declared.refusal.Reject.TheVariants.{NoClause, NoPivot, NotEmpty, NoMemory}
-use Rattle.log_checker.specs.FirstFailure.{FailsFirst, LacksClause, LacksPivot}
+use Rattle.log_checker.specs.declared.refusal.Reject.TheVariants.{NoClause, NoPivot, NoDrop, NotEmpty, NoMemory}
+use Rattle.log_checker.specs.FirstFailure.{FailsAt, LacksEmpty, FailsFirst}
 use Rattle.log_checker.specs.inner.Stops.{LogStops}
-use Rattle.log_checker.proofs.Failing.{clause_lacking, pivot_lacking, pivot_once, clause_or_pivot}
-use Rattle.log_checker.proofs.FailingSteps.{derived_one, failure_derives_none, failures_meet}
+use Rattle.log_checker.proofs.Running.{runs_one}
+use Rattle.log_checker.proofs.FailingEntries.{Stops, failure_blocks, failures_meet}
+
+-- a log fails at an entry, or it has no empty clause
+abbrev AtEntry : Formula → Log → Reject → Type 0
+AtEntry f log reject = (reject ≢ NoMemory) × FailsAt f.clauses (entries log) (Stops reject)
+
+at_entry : (f : Formula) (log : Log) (reject : Reject) → FailsFirst f log reject → (reject ≡ NotEmpty) ⊎ AtEntry f log reject
+at_entry f log (NoClause step) fails = inr ((λ e. absurd cc), fails)
+at_entry f log (NoPivot step link) fails = inr ((λ e. absurd cc), fails)
+at_entry f log (NoDrop after item) fails = inr ((λ e. absurd cc), fails)
+at_entry f log NotEmpty fails = inl refl
+at_entry f log NoMemory fails = absurd fails
+
+lacks_empty : (f : Formula) (log : Log) (reject : Reject) → reject ≡ NotEmpty → FailsFirst f log reject → LacksEmpty f.clauses (entries log)
+lacks_empty f log reject is fails = subst (FailsFirst f log) is fails
 
 -- what is accepted fails nowhere
 pub accepted_not_failing : ResolventsAgree → (f : Formula) (log : Log) (reject : Reject) → FailsFirst f log reject → ¬ Accepts f log
-accepted_not_failing agree f log (NoClause step) fails accepts =
-    failure_derives_none agree LacksClause (clause_lacking agree) f.clauses log.steps step accepts.derived fails accepts.derives
-accepted_not_failing agree f log (NoPivot step link) fails accepts =
-    failure_derives_none agree (LacksPivot link) (pivot_lacking agree link) f.clauses log.steps step accepts.derived fails accepts.derives
-accepted_not_failing agree f log NotEmpty fails accepts =
-    let same = derived_one agree f.clauses log.steps accepts.derived fails.derived accepts.derives fails.derives in
-    fails.none (rw same at accepts.empty)
-accepted_not_failing agree f log NoMemory fails accepts = fails
+accepted_not_failing agree f log reject fails accepts =
+    elim (at_entry f log reject fails) [
+      | inl is ↦
+          let lacks = lacks_empty f log reject is fails in
+          let same = runs_one agree (all_live f.clauses) accepts.resolves.ledger lacks.ledger (entries log) accepts.derived lacks.derived accepts.resolves.runs lacks.runs in
+          lacks.none (rw same.0 at accepts.empty)
+      | inr at ↦ failure_blocks agree reject at.0 f.clauses (entries log) at.1 accepts.derived accepts.resolves.ledger accepts.resolves.runs
+    ]
 
 -- a log has one first failure
 pub one_failure : ResolventsAgree → (f : Formula) (log : Log) (first second : Reject) → FailsFirst f log first → FailsFirst f log second → first ≡ second
-one_failure agree f log (NoClause m) (NoClause n) is_first is_second =
-    ap NoClause (failures_meet agree LacksClause LacksClause (clause_lacking agree) (clause_lacking agree) f.clauses log.steps m n is_first is_second).number
-one_failure agree f log (NoClause m) (NoPivot n k) is_first is_second =
-    let both = failures_meet agree LacksClause (LacksPivot k) (clause_lacking agree) (pivot_lacking agree k) f.clauses log.steps m n is_first is_second in
-    absurd (clause_or_pivot agree k both.numbering both.chain both.first both.second)
-one_failure agree f log (NoPivot m j) (NoClause n) is_first is_second =
-    let both = failures_meet agree (LacksPivot j) LacksClause (pivot_lacking agree j) (clause_lacking agree) f.clauses log.steps m n is_first is_second in
-    absurd (clause_or_pivot agree j both.numbering both.chain both.second both.first)
-one_failure agree f log (NoPivot m j) (NoPivot n k) is_first is_second =
-    let both = failures_meet agree (LacksPivot j) (LacksPivot k) (pivot_lacking agree j) (pivot_lacking agree k) f.clauses log.steps m n is_first is_second in
-    ap₂ NoPivot both.number (pivot_once agree j k both.numbering both.chain both.first both.second)
-one_failure agree f log NotEmpty NotEmpty is_first is_second = refl
-one_failure agree f log (NoClause m) NotEmpty is_first is_second =
-    absurd (failure_derives_none agree LacksClause (clause_lacking agree) f.clauses log.steps m is_second.derived is_first is_second.derives)
-one_failure agree f log (NoPivot m j) NotEmpty is_first is_second =
-    absurd (failure_derives_none agree (LacksPivot j) (pivot_lacking agree j) f.clauses log.steps m is_second.derived is_first is_second.derives)
-one_failure agree f log NotEmpty (NoClause n) is_first is_second =
-    absurd (failure_derives_none agree LacksClause (clause_lacking agree) f.clauses log.steps n is_first.derived is_second is_first.derives)
-one_failure agree f log NotEmpty (NoPivot n k) is_first is_second =
-    absurd (failure_derives_none agree (LacksPivot k) (pivot_lacking agree k) f.clauses log.steps n is_first.derived is_second is_first.derives)
-one_failure agree f log NoMemory second is_first is_second = absurd is_first
-one_failure agree f log first NoMemory is_first is_second = absurd is_second
+one_failure agree f log first second is_first is_second =
+    elim (at_entry f log first is_first) [
+      | inl empty ↦
+          let lacks = lacks_empty f log first empty is_first in
+          elim (at_entry f log second is_second) [
+            | inl other ↦ empty ∙ sym other
+            | inr at ↦ absurd (failure_blocks agree second at.0 f.clauses (entries log) at.1 lacks.derived lacks.ledger lacks.runs)
+          ]
+      | inr at ↦ elim (at_entry f log second is_second) [
+        | inl empty ↦
+            let lacks = lacks_empty f log second empty is_second in
+            absurd (failure_blocks agree first at.0 f.clauses (entries log) at.1 lacks.derived lacks.ledger lacks.runs)
+        | inr other ↦ failures_meet agree first second at.0 other.0 f.clauses (entries log) at.1 other.1
+      ]
+    ]
 
 fails_first : (f : Formula) (log : Log) (reject : Reject) → reject ≢ NoMemory → LogStops f log reject → FailsFirst f log reject
 fails_first f log (NoClause step) other stops = stops
 fails_first f log (NoPivot step link) other stops = stops
+fails_first f log (NoDrop after item) other stops = stops
 fails_first f log NotEmpty other stops = stops
 fails_first f log NoMemory other stops = absurd (other refl)
 
@@ -59,6 +69,7 @@ accepts_exactly agree f log (Ok done) stops accepts = tt
 accepts_exactly agree f log (Err NoMemory) stops accepts = refl
 accepts_exactly agree f log (Err (NoClause step)) stops accepts = absurd (accepted_not_failing agree f log (NoClause step) stops accepts)
 accepts_exactly agree f log (Err (NoPivot step link)) stops accepts = absurd (accepted_not_failing agree f log (NoPivot step link) stops accepts)
+accepts_exactly agree f log (Err (NoDrop after item)) stops accepts = absurd (accepted_not_failing agree f log (NoDrop after item) stops accepts)
 accepts_exactly agree f log (Err NotEmpty) stops accepts = absurd (accepted_not_failing agree f log NotEmpty stops accepts)
 
 -- memory aside, the answer is the first failure

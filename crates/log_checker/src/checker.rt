@@ -1,17 +1,18 @@
-ghost use Rattle.std.specs.Prelude.{◌≡◌, ◌≢◌, ◌+◌, ◌^◌, ◌<◌, ◌↔◌, [], ◌++◌, length, Contains, IsTrue, OnOk, IfErr, IsOkUnless};
+ghost use Rattle.std.specs.Prelude.{◌≡◌, ◌≢◌, ◌+◌, ◌^◌, ◌<◌, ◌↔◌, length, OnOk, IfErr, IsOkUnless};
 ghost use Rattle.clause_core.specs.Clause.{IsUnsatisfiable};
 ghost use Rattle.refutation_log.specs.Resolution.{Accepts};
 ghost use Rattle.log_checker.specs.FirstFailure.{FailsFirst};
 ghost use Rattle.log_checker.specs.inner.Stops.{LogStops};
 
+use super::log_run::run_log;
 use super::refusal::Reject;
-use super::steps::derived_clauses;
-use clause_core::{Clause, Formula, resolvents_agree, resolvents_follow};
+use clause_core::{Formula, resolvents_agree, resolvents_follow};
 use refutation_log::Log;
 use std::alloc::Global;
 
-/// Checks a log that anybody may have made: each step in order, in it each link in order, and of a
-/// link its clause before its pivot. The first failure is reported.
+/// Checks a log that anybody may have made: each step and each removal in the order of the
+/// text, in a step each link in order, of a link its clause before its pivot, and in a removal each
+/// number in order. The first failure is reported.
 pub fn check_log(alloc: Global, f: &Formula, log: &Log) -> Result<(), Reject>
     requires { length f.now.clauses + length log.now.steps < 2 ^ 32 }
     ensures sound { OnOk result (IsUnsatisfiable f.now.clauses) }
@@ -34,25 +35,10 @@ fn checked(alloc: Global, f: &Formula, log: &Log) -> Result<(), Reject>
     ensures ok { OnOk result (Accepts f.now log.now) }
     ensures err { IfErr result (LogStops f.now log.now) }
 {
-    let formula = f.clauses.as_slice();
-    let derived = derived_clauses(alloc, f.vars, formula, log.steps.as_slice())?;
-    if any_empty(formula, derived.as_slice()) {
+    let table = run_log(alloc, f.vars, f.clauses.as_slice(), log)?;
+    if table.has_empty() {
         Ok(())
     } else {
         Err(Reject::NotEmpty)
     }
-}
-
-/// Whether a clause of the formula or a derived one is empty.
-fn any_empty(formula: &[Clause], derived: &[Clause]) -> bool
-    ensures { IsTrue result ↔ Contains (formula.now ++ derived.now) [] }
-{
-    has_empty(formula) || has_empty(derived)
-}
-
-/// Whether one of the clauses is empty.
-fn has_empty(clauses: &[Clause]) -> bool
-    ensures { IsTrue result ↔ Contains clauses.now [] }
-{
-    clauses.iter().any(|clause| clause.lits().is_empty())
 }

@@ -3,11 +3,13 @@
 
 mod chains;
 mod checker;
+mod clause_table;
 mod laws;
+mod log_run;
 mod lookup;
 mod mark_table;
 mod refusal;
-mod steps;
+mod removals;
 
 pub use checker::check_log;
 pub use laws::fails_once;

@@ -1,6 +1,6 @@
-ghost use Rattle.std.specs.Prelude.{◌≡◌, ◌++◌, IfSome, IfNone};
+ghost use Rattle.std.specs.Prelude.{◌≡◌, ◌↔◌, [], ◌++◌, Contains, IsTrue, IfSome, IfNone};
 ghost use Rattle.clause_core.specs.Numbering.{numbered, HasNumber};
-ghost use Rattle.log_checker.specs.FirstFailure.{HasNoClause};
+ghost use Rattle.log_checker.specs.ChainFailure.{HasNoClause};
 
 use clause_core::Clause;
 
@@ -23,4 +23,18 @@ pub fn clause_of<'a>(
     } else {
         derived.get(index - formula.len())
     }
+}
+
+/// Whether a clause of the formula or a derived one is empty.
+pub fn any_empty(formula: &[Clause], derived: &[Clause]) -> bool
+    ensures { IsTrue result ↔ Contains (formula.now ++ derived.now) [] }
+{
+    has_empty(formula) || has_empty(derived)
+}
+
+/// Whether one of the clauses is empty.
+fn has_empty(clauses: &[Clause]) -> bool
+    ensures { IsTrue result ↔ Contains clauses.now [] }
+{
+    clauses.iter().any(|clause| clause.lits().is_empty())
 }

@@ -1,13 +1,15 @@
 use list_base::NoMemory;
 
-/// Why a log is not accepted. Steps and links count from 1.
+/// Why a log is not accepted. Steps, links and items count from 1.
 #[derive(Clone, Copy, Debug, PartialEq, Eq)]
 pub enum Reject {
-    /// The step names a number that is neither of a formula clause nor of an earlier step.
+    /// The step names a number that is of no live clause of the formula or of an earlier step.
     NoClause { step: u32 },
     /// The link's pivot is not in the clause so far, or its negation not in the link's clause.
     NoPivot { step: u32, link: u64 },
-    /// All steps resolve, and no clause is empty.
+    /// The item-th number of the removal after `after` steps is of no live clause.
+    NoDrop { after: u32, item: u64 },
+    /// All steps resolve, all removals name live clauses, and no clause is empty.
     NotEmpty,
     /// Memory ran out.
     NoMemory,

@@ -1,19 +1,19 @@
 -- No field has a space or an LF, so a line is split_once into the fields that it was joined of.
-use Rattle.std.proofs.Common.{◌≡◌, ◌≢◌, ℕ, ◌<◌, ◌≤◌, Bool, true, false, cond, eqb, List, [], ◌∷◌, drop, Result, Ok, Err, codes, refl, sym, ap, ◌∙◌, arith}
-use Rattle.std.specs.List.{flat_map, join_with_byte, slice_split, AllByRecursion}
+use Rattle.std.proofs.Common.{◌≡◌, ◌≢◌, ℕ, ◌<◌, ◌≤◌, Bool, true, false, cond, eqb, List, [], ◌∷◌, drop, map, All, Result, Ok, Err, codes, refl, sym, ap, ◌∙◌, arith}
+use Rattle.std.specs.List.{flat_map, join_with_byte, slice_split, onto_first, AllByRecursion}
+use Rattle.std.proofs.lemmas.Bool.{cond_both}
 use Rattle.std.proofs.lemmas.List.Elements.{All-weaker, All-from_recursion, All-cons}
 use Rattle.std.proofs.lemmas.List.Splits.{join_with_byte-slice_split}
 use Rattle.refutation_log.specs.declared.line_error.LineError.{LineError}
 use Rattle.refutation_log.specs.declared.line_error.LineError.TheVariants as errors
 use Rattle.refutation_log.specs.declared.refutation.Link.{Link}
 use Rattle.refutation_log.specs.declared.refutation.Chain.{Chain}
-use Rattle.refutation_log.specs.declared.steps.BodyLine.{BodyLine}
-use Rattle.refutation_log.specs.declared.steps.BodyLine.TheVariants.{Step, End}
-use Rattle.refutation_log.specs.LogText.{StepInRange, numeral, link_fields, step_fields}
-use Rattle.refutation_log.specs.LineParts.{IsReading, body_of, LineInRange}
+use Rattle.refutation_log.specs.declared.refutation.Entry.{Entry}
+use Rattle.refutation_log.specs.declared.refutation.Entry.TheVariants.{Step, Drop}
+use Rattle.refutation_log.specs.LogText.{IsInRange, StepInRange, numeral, link_fields, step_fields, drop_fields, entry_fields}
+use Rattle.refutation_log.specs.LineParts.{IsReading, IsReadingAmong}
 use Rattle.refutation_log.proofs.Numerals.{has_digits}
 use Rattle.refutation_log.proofs.Separators.{Lacks, parts-join}
-use Rattle.refutation_log.proofs.Readings.{IsPartOf}
 use Rattle.refutation_log.proofs.Links.{chain_fields}
 
 numeral_lacks : (c n : ℕ) → c < 48 → Lacks c (numeral n)
@@ -56,13 +56,66 @@ step_read line rest (Err errors.Number) are read =
     (read.0, step_of_fields line (codes "step" ∷ rest) read.0 are (ap (λ (xs : List (List ℕ)). codes "step" ∷ xs) read.1), read.2)
 step_read line rest (Err errors.NoMemory) are read = tt
 
-as_step : (line : List ℕ) (value : BodyLine) → line ≢ codes "end" → line ≡ body_of value → (step : Chain) × (line ≡ step_body step) × (LineInRange value → StepInRange step)
-as_step line (Step step) other e = (step, e, λ good. good)
-as_step line End other e = absurd (other e)
+-- ---- removals and entries
 
--- a line that is no `end` is read as a step
-pub line_part : (line : List ℕ) → line ≢ codes "end" → IsPartOf step_body StepInRange line body_of LineInRange line
-line_part line other = record {
-  part = λ value e. as_step line value other e;
-  whole = λ step e. (Step step, e, λ good. good);
-}
+drop_name_lacks : (c : ℕ) → c < 45 → Lacks c (codes "drop")
+drop_name_lacks c small = All-from_recursion (λ byte. byte ≢ c) (codes "drop") ((λ e. omega arith), ((λ e. omega arith), ((λ e. omega arith), ((λ e. omega arith), tt))))
+
+numbers_lack : (c : ℕ) (numbers : List ℕ) → c < 48 → AllByRecursion (Lacks c) (map numeral numbers)
+numbers_lack c [] small = tt
+numbers_lack c (number ∷ numbers) small = (numeral_lacks c number small, numbers_lack c numbers small)
+
+pub entry_lacks : (c : ℕ) (entry : Entry) → c < 45 → AllByRecursion (Lacks c) (entry_fields entry)
+entry_lacks c (Step step) small = step_lacks c step small
+entry_lacks c (Drop numbers) small = (drop_name_lacks c small, numbers_lack c numbers (omega (arith, small)))
+
+abbrev pub entry_body : Entry → List ℕ
+entry_body entry = join_with_byte 32 (entry_fields entry)
+
+abbrev pub drop_body : List ℕ → List ℕ
+drop_body numbers = join_with_byte 32 (drop_fields numbers)
+
+pub parts-entry : (entry : Entry) → slice_split (λ byte. eqb byte 32) (entry_body entry) ≡ entry_fields entry
+parts-entry (Step step) = parts-step step
+parts-entry (Drop numbers) = parts-join 32 (codes "drop") (map numeral numbers) (entry_lacks 32 (Drop numbers) (omega arith))
+
+-- the parts of a line are a removal's fields where the line is the removal's
+pub fields_of_drop : (line : List ℕ) (parts : List (List ℕ)) (numbers : List ℕ) → slice_split (λ byte. eqb byte 32) line ≡ parts → line ≡ drop_body numbers → parts ≡ drop_fields numbers
+fields_of_drop line parts numbers are e = sym are ∙ ap (slice_split (λ byte. eqb byte 32)) e ∙ parts-entry (Drop numbers)
+
+drop_of_fields : (line : List ℕ) (parts : List (List ℕ)) (numbers : List ℕ) → slice_split (λ byte. eqb byte 32) line ≡ parts → parts ≡ drop_fields numbers → line ≡ drop_body numbers
+drop_of_fields line parts numbers are e = sym (join_with_byte-slice_split 32 line) ∙ ap (join_with_byte 32) (are ∙ e)
+
+abbrev pub NamesSome : List ℕ → Type 0
+NamesSome numbers = numbers ≢ []
+
+-- there is a part between separators
+pub some_parts : (c : ℕ) (bytes : List ℕ) → slice_split (λ byte. eqb byte c) bytes ≢ []
+some_parts c [] e = absurd (cc)
+some_parts c (x ∷ xs) e = absurd (cond_both (eqb x c) _ _ (λ (parts : List (List ℕ)). parts ≢ []) (λ _ none. absurd (cc)) (λ _. put (slice_split (λ byte. eqb byte c) xs)) e)
+  where
+    put : (parts : List (List ℕ)) → onto_first x parts ≢ []
+    put [] none = absurd (cc)
+    put (part ∷ parts) none = absurd (cc)
+
+some_numbers : (rest : List (List ℕ)) (numbers : List ℕ) → rest ≢ [] → rest ≡ map numeral numbers → numbers ≢ []
+some_numbers rest numbers some are none = some (are ∙ ap (map numeral) none)
+
+-- what is read of the numbers after the name is read of the line
+pub drop_read : (line : List ℕ) (rest : List (List ℕ)) (r : Result (List ℕ) LineError) → rest ≢ [] → slice_split (λ byte. eqb byte 32) line ≡ codes "drop" ∷ rest
+    → IsReading (map numeral) (All IsInRange) rest r → IsReadingAmong NamesSome drop_body (All IsInRange) line r
+drop_read line rest (Ok numbers) some are read =
+    (some_numbers rest numbers some read.0, drop_of_fields line (codes "drop" ∷ rest) numbers are (ap (λ (xs : List (List ℕ)). codes "drop" ∷ xs) read.0), read.1)
+drop_read line rest (Err errors.Form) some are read = λ numbers named e. read numbers (ap (drop 1) (fields_of_drop line (codes "drop" ∷ rest) numbers are e))
+drop_read line rest (Err errors.Number) some are read =
+    (read.0, some_numbers rest read.0 some read.1, drop_of_fields line (codes "drop" ∷ rest) read.0 are (ap (λ (xs : List (List ℕ)). codes "drop" ∷ xs) read.1), read.2)
+drop_read line rest (Err errors.NoMemory) some are read = tt
+
+-- a line of another name is no removal, nor is one that is a name alone
+pub no_drop : (line name : List ℕ) (rest : List (List ℕ)) → slice_split (λ byte. eqb byte 32) line ≡ name ∷ rest → name ≢ codes "drop" → (numbers : List ℕ) → line ≢ drop_body numbers
+no_drop line name rest are other numbers e = let same : name ∷ rest ≡ codes "drop" ∷ map numeral numbers = fields_of_drop line (name ∷ rest) numbers are e in other (cc)
+
+pub no_number : (line name : List ℕ) → slice_split (λ byte. eqb byte 32) line ≡ name ∷ [] → (numbers : List ℕ) → numbers ≢ [] → line ≢ drop_body numbers
+no_number line name are [] some e = some refl
+no_number line name are (number ∷ numbers) some e =
+    let same : name ∷ [] ≡ codes "drop" ∷ numeral number ∷ map numeral numbers = fields_of_drop line (name ∷ []) (number ∷ numbers) are e in absurd (cc)

@@ -8,12 +8,14 @@ use Rattle.std.proofs.lemmas.List.Elements.{recursion_from_All}
 use Rattle.refutation_log.specs.declared.refusal.LogRefusal.{LogRefusal}
 use Rattle.refutation_log.specs.declared.refusal.LogRefusal.TheVariants.{Form, Number, NoMemory}
 use Rattle.refutation_log.specs.declared.refutation.Kind.{Kind}
-use Rattle.refutation_log.specs.declared.refutation.Chain.{Chain}
+use Rattle.refutation_log.specs.declared.refutation.Version.{Version}
 use Rattle.refutation_log.specs.declared.refutation.Log.{Log}
-use Rattle.refutation_log.specs.LogText.{StepInRange, LogInRange, IsTextOf, header_line, step_line, end_line, log_text}
+use Rattle.refutation_log.specs.LogText.{EntryInRange, IsTextOf, header_line, entry_line, end_line, versioned_text}
+use Rattle.refutation_log.specs.Entries.{entries}
+use Rattle.refutation_log.proofs.LogLemmas.{same_from_entries, log_stands}
 use Rattle.refutation_log.specs.Refusal.{Line, lines_of, HasNoEnd, HasForm, HasBadNumber, IsMisformed, IsMisnumbered, IsFirstBad, IsRefusedLog, Answers}
-use Rattle.refutation_log.proofs.Spellings.{same_from_step_lines, same_from_header_line}
-use Rattle.refutation_log.proofs.RightLines.{front_lines, lines-front, whole_right}
+use Rattle.refutation_log.proofs.Spellings.{same_from_entry_lines, same_from_header_line}
+use Rattle.refutation_log.proofs.RightLines.{front_lines, lines-front, both_right, whole_right}
 
 -- ---- two cuts of one list
 
@@ -86,8 +88,8 @@ one_refusal text refusal NoMemory first second some any = absurd (any refl)
 
 -- ---- no fault in the text of a log
 
-lines-log : (kind : Kind) (log : Log) → lines_of (log_text kind log) ≡ front_lines kind log.steps ++ end_line ∷ []
-lines-log kind log = ap lines_of (append_assoc (header_line kind) (flat_map step_line log.steps) end_line) ∙ lines-front kind log.steps end_line
+lines-log : (version : Version) (kind : Kind) (log : Log) → lines_of (versioned_text version kind log) ≡ front_lines version kind (entries log) ++ end_line ∷ []
+lines-log version kind log = ap lines_of (append_assoc (header_line version kind) (flat_map entry_line (entries log)) end_line) ∙ lines-front version kind (entries log) end_line
 
 has_end : (before : List Line) → HasNoEnd (before ++ end_line ∷ []) → ⊥
 has_end before unended =
@@ -98,32 +100,31 @@ has_end before unended =
 abbrev WantsEnd : (List Line → List Line → Type 0) → Type 0
 WantsEnd IsBad = (before : List Line) → IsBad before [] → HasNoEnd before
 
-all_right : (IsBad : List Line → List Line → Type 0) → Excludes IsBad → WantsEnd IsBad → (kind : Kind) (log : Log) → LogInRange log → (before after : List Line) → front_lines kind log.steps ++ end_line ∷ [] ≡ before ++ after
-    → IsBad before after → ⊥
-all_right IsBad excludes wants kind log good before [] e bad = has_end (front_lines kind log.steps) (subst HasNoEnd (sym (append-nil before) ∙ sym e) (wants before bad))
-all_right IsBad excludes wants kind log good before (line ∷ after) e bad =
-    let right = whole_right kind log.steps (recursion_from_All StepInRange log.steps good) before after line e in
-    excludes before after line bad right.0 right.1
+all_right : (IsBad : List Line → List Line → Type 0) → Excludes IsBad → WantsEnd IsBad → (text : List ℕ) (kind : Kind) (log : Log) → IsTextOf text kind log → (n : ℕ) → IsFirstBad IsBad text n → ⊥
+all_right IsBad excludes wants text kind log is n first = go first.before first.after (sym (ap lines_of is.text ∙ lines-log is.version kind log) ∙ first.lines) first.bad
+  where
+    go : (before after : List Line) → front_lines is.version kind (entries log) ++ end_line ∷ [] ≡ before ++ after → IsBad before after → ⊥
+    go before [] e bad = has_end (front_lines is.version kind (entries log)) (subst HasNoEnd (sym (append-nil before) ∙ sym e) (wants before bad))
+    go before (line ∷ after) e bad =
+        let good = both_right is.version (entries log) (log_stands is.version log is.allowed) (recursion_from_All EntryInRange (entries log) is.numbers) in
+        let right = whole_right is.version kind (entries log) good before after line e in
+        excludes before after line bad right.0 right.1
 
 pub no_fault : (text : List ℕ) (kind : Kind) (log : Log) (refusal : LogRefusal) → IsTextOf text kind log → refusal ≢ NoMemory → IsRefusedLog text refusal → ⊥
-no_fault text kind log (Form n) is some first =
-    all_right IsMisformed misformed_excludes (λ before bad. bad) kind log is.numbers first.before first.after (sym (ap lines_of is.text ∙ lines-log kind log) ∙ first.lines) first.bad
-no_fault text kind log (Number n) is some first =
-    all_right IsMisnumbered misnumbered_excludes (λ before bad. absurd bad) kind log is.numbers first.before first.after (sym (ap lines_of is.text ∙ lines-log kind log) ∙ first.lines) first.bad
+no_fault text kind log (Form n) is some first = all_right IsMisformed misformed_excludes (λ before bad. bad) text kind log is n first
+no_fault text kind log (Number n) is some first = all_right IsMisnumbered misnumbered_excludes (λ before bad. absurd bad) text kind log is n first
 no_fault text kind log NoMemory is some first = some refl
 
 -- ---- one log
 
-abbrev log_of : List Chain → Log
-log_of steps = record { steps = steps }
-
-pub same_logs : (kind other : Kind) (log another : Log) → log_text kind log ≡ log_text other another → (kind ≡ other) × (log ≡ another)
-same_logs kind other log another e =
-    let lines = sym (lines-log kind log) ∙ ap lines_of e ∙ lines-log other another in
-    let fronts : front_lines kind log.steps ≡ front_lines other another.steps = (same_from_push (front_lines kind log.steps) (front_lines other another.steps) end_line end_line lines).0 in
-    let headers : header_line kind ≡ header_line other = cc in
-    let steps : log.steps ≡ another.steps = same_from_step_lines log.steps another.steps (ap (drop 1) fronts) in
-    (same_from_header_line kind other headers, ap log_of steps)
+pub same_logs : (text : List ℕ) (kind other : Kind) (log another : Log) → IsTextOf text kind log → IsTextOf text other another → (kind ≡ other) × (log ≡ another)
+same_logs text kind other log another is again =
+    let lines = sym (lines-log is.version kind log) ∙ ap lines_of (sym is.text ∙ again.text) ∙ lines-log again.version other another in
+    let front : List Line = front_lines is.version kind (entries log) in
+    let next : List Line = front_lines again.version other (entries another) in
+    let fronts : front ≡ next = (same_from_push front next end_line end_line lines).0 in
+    let headers : header_line is.version kind ≡ header_line again.version other = cc in
+    ((same_from_header_line is.version again.version kind other headers).1, same_from_entries log another (same_from_entry_lines (entries log) (entries another) (ap (drop 1) fronts)))
 
 -- ---- one answer
 
@@ -135,7 +136,7 @@ abbrev Holds : List ℕ → Result (Kind × Log) LogRefusal → Type 0
 Holds text answer = MatchResult answer (λ read. IsTextOf text read.0 read.1) (IsRefusedLog text)
 
 pub reads : (text : List ℕ) (r : Result (Kind × Log) LogRefusal) → Holds text r → (kind : Kind) (log : Log) → IsTextOf text kind log → Answers r (Ok (kind, log))
-reads text (Ok read) holds kind log is = let same = same_logs read.0 kind read.1 log (sym holds.text ∙ is.text) in inl (ap Ok (pair_of read kind log same.0 same.1))
+reads text (Ok read) holds kind log is = let same = same_logs text read.0 kind read.1 log holds is in inl (ap Ok (pair_of read kind log same.0 same.1))
 reads text (Err NoMemory) holds kind log is = inr refl
 reads text (Err (Form n)) holds kind log is = absurd (no_fault text kind log (Form n) is (λ e. cc) holds)
 reads text (Err (Number n)) holds kind log is = absurd (no_fault text kind log (Number n) is (λ e. cc) holds)

@@ -2,15 +2,19 @@
 use Rattle.std.proofs.Common.{ℕ, ◌≤◌, List, [], ◌∷◌, ◌++◌, length, subst, sym, arith, length-append, codes}
 use Rattle.std.specs.List.{flat_map, join_with_byte}
 use Rattle.refutation_log.specs.declared.refutation.Kind.{Kind}
-use Rattle.refutation_log.specs.declared.refutation.Chain.{Chain}
+use Rattle.refutation_log.specs.declared.refutation.Entry.{Entry}
+use Rattle.refutation_log.specs.declared.refutation.Entry.TheVariants.{Step, Drop}
 use Rattle.refutation_log.specs.declared.refutation.Log.{Log}
-use Rattle.refutation_log.specs.LogText.{IsTextOf, end_line, header_line, step_fields, step_line}
+use Rattle.refutation_log.specs.Entries.{entries, steps_of}
+use Rattle.refutation_log.specs.LogText.{IsTextOf, end_line, header_line, entry_fields, entry_line}
+use Rattle.refutation_log.proofs.LogLemmas.{log_steps}
 
--- the line of each step has its LF
-steps_in_lines : (steps : List Chain) → length steps ≤ length (flat_map step_line steps)
+-- the line of each entry has its LF
+steps_in_lines : (log : List Entry) → length (steps_of log) ≤ length (flat_map entry_line log)
 steps_in_lines [] = omega arith
-steps_in_lines (step ∷ steps) =
-    omega (arith, steps_in_lines steps, length-append (step_line step) (flat_map step_line steps), length-append (join_with_byte 32 (step_fields step)) (codes "\n"))
+steps_in_lines (Step step ∷ log) =
+    omega (arith, steps_in_lines log, length-append (entry_line (Step step)) (flat_map entry_line log), length-append (join_with_byte 32 (entry_fields (Step step))) (codes "\n"))
+steps_in_lines (Drop numbers ∷ log) = omega (arith, steps_in_lines log, length-append (entry_line (Drop numbers)) (flat_map entry_line log))
 
 -- what stands in the middle is no longer than the whole
 middle_within : (n : ℕ) (xs ys zs : List ℕ) → n ≤ length ys → n ≤ length (xs ++ ys ++ zs)
@@ -19,4 +23,5 @@ middle_within n xs ys zs within = omega (arith, length-append (xs ++ ys) zs, len
 -- and the text has the lines of all steps
 pub steps_in_text : (text : List ℕ) (kind : Kind) (log : Log) → IsTextOf text kind log → length log.steps ≤ length text
 steps_in_text text kind log is =
-    subst (λ bytes. length log.steps ≤ length bytes) (sym is.text) (middle_within (length log.steps) (header_line kind) (flat_map step_line log.steps) end_line (steps_in_lines log.steps))
+    let within = subst (λ steps. length steps ≤ length (flat_map entry_line (entries log))) (log_steps log) (steps_in_lines (entries log)) in
+    subst (λ bytes. length log.steps ≤ length bytes) (sym is.text) (middle_within (length log.steps) (header_line is.version kind) (flat_map entry_line (entries log)) end_line within)

@@ -5,9 +5,13 @@ use Rattle.refutation_log.specs.declared.line_error.LineError.{LineError}
 use Rattle.refutation_log.specs.declared.line_error.LineError.TheVariants as errors
 use Rattle.refutation_log.specs.declared.refusal.LogRefusal.{LogRefusal}
 use Rattle.refutation_log.specs.declared.refusal.LogRefusal.TheVariants as refusals
-use Rattle.refutation_log.specs.declared.steps.BodyLine.{BodyLine}
-use Rattle.refutation_log.specs.declared.steps.BodyLine.TheVariants.{Step, End}
-use Rattle.refutation_log.specs.LogText.{StepInRange, step_fields}
+use Rattle.refutation_log.specs.declared.body.BodyLine.{BodyLine}
+use Rattle.refutation_log.specs.declared.body.BodyLine.TheVariants as lines
+use Rattle.refutation_log.specs.declared.refutation.Entry.{Entry}
+use Rattle.refutation_log.specs.declared.refutation.Entry.TheVariants.{Step, Drop}
+use Rattle.refutation_log.specs.declared.refutation.Version.{Version}
+use Rattle.refutation_log.specs.declared.refutation.Version.TheVariants.{Two}
+use Rattle.refutation_log.specs.LogText.{EntryInRange, entry_fields}
 
 -- each byte is a decimal digit
 abbrev pub AreDigits : List ℕ → Type 0
@@ -20,6 +24,17 @@ IsReading {A} spelling InRange part (Err errors.Form) = (value : A) → part ≢
 IsReading {A} spelling InRange part (Err errors.Number) =
     (value : A) × (part ≡ spelling value) × ¬ (InRange value)
 IsReading spelling InRange part (Err errors.NoMemory) = Unit {0}
+
+-- the same, where only some values may be spelled
+abbrev pub IsReadingAmong :
+    {A X : Type 0} → (A → Type 0) → (A → X) → (A → Type 0) → X → Result A LineError → Type 0
+IsReadingAmong May spelling InRange part (Ok value) =
+    May value × (part ≡ spelling value) × InRange value
+IsReadingAmong {A} May spelling InRange part (Err errors.Form) =
+    (value : A) → May value → part ≢ spelling value
+IsReadingAmong {A} May spelling InRange part (Err errors.Number) =
+    (value : A) × May value × (part ≡ spelling value) × ¬ (InRange value)
+IsReadingAmong May spelling InRange part (Err errors.NoMemory) = Unit {0}
 
 -- the refusal of a line that has this error
 abbrev pub refusal_of_line : LineError → ℕ → LogRefusal
@@ -34,10 +49,20 @@ parts_in separator (Some bytes) = slice_split (λ byte. byte == separator) bytes
 
 -- a line after the header, without its LF
 abbrev pub body_of : BodyLine → List ℕ
-body_of (Step step) = join_with_byte 32 (step_fields step)
-body_of End = codes "end"
+body_of (lines.Entry entry) = join_with_byte 32 (entry_fields entry)
+body_of lines.End = codes "end"
 
 -- the numbers of the line are in range
 abbrev pub LineInRange : BodyLine → Type 0
-LineInRange (Step step) = StepInRange step
-LineInRange End = Unit {0}
+LineInRange (lines.Entry entry) = EntryInRange entry
+LineInRange lines.End = Unit {0}
+
+-- the entry may stand in a text of the version: a removal names a clause, and needs version 2
+abbrev pub EntryStands : Version → Entry → Type 0
+EntryStands version (Step step) = Unit {0}
+EntryStands version (Drop numbers) = (version ≡ Two) × (numbers ≢ [])
+
+-- the line may stand in a text of the version
+abbrev pub LineStands : Version → BodyLine → Type 0
+LineStands version (lines.Entry entry) = EntryStands version entry
+LineStands version lines.End = Unit {0}

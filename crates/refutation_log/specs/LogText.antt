@@ -1,5 +1,5 @@
--- The text of a log, and which numbers it may have.
-use Rattle.std.specs.Prelude.{◌≡◌, ℕ, ◌+◌, ◌<◌, ◌≤◌, List, [], ◌∷◌, ◌++◌, map, ◌==◌, if◌then◌else◌, codes, All}
+-- The text of a log.
+use Rattle.std.specs.Prelude.{◌≡◌, ℕ, ◌+◌, List, [], ◌∷◌, ◌++◌, map, ◌==◌, if◌then◌else◌, codes}
 use Rattle.std.specs.List.{flat_map, join_with_byte}
 use Rattle.std.specs.Int.Digits.{digits_of}
 use Rattle.clause_core.specs.declared.literal.Lit.{Lit}
@@ -7,26 +7,14 @@ use Rattle.refutation_log.specs.declared.refutation.Kind.{Kind}
 use Rattle.refutation_log.specs.declared.refutation.Kind.TheVariants.{Safety, Liveness}
 use Rattle.refutation_log.specs.declared.refutation.Link.{Link}
 use Rattle.refutation_log.specs.declared.refutation.Chain.{Chain}
+use Rattle.refutation_log.specs.declared.refutation.Removal.{Removal}
 use Rattle.refutation_log.specs.declared.refutation.Log.{Log}
-
--- the numbers that a text may have are from 1 to 2,147,483,647
-pub record IsInRange (n : ℕ) : Type 0 where
-  pub low : 0 < n
-  pub high : n ≤ 2147483647
-
--- the numbers of a link are in range
-pub record LinkInRange (link : Link) : Type 0 where
-  pub pivot : IsInRange link.pivot.var
-  pub clause : IsInRange link.clause
-
--- the numbers of a step are in range
-pub record StepInRange (step : Chain) : Type 0 where
-  pub first : IsInRange step.first
-  pub links : All LinkInRange step.links
-
--- the numbers of a log are in range
-abbrev pub LogInRange : Log → Type 0
-LogInRange log = All StepInRange log.steps
+use Rattle.refutation_log.specs.declared.refutation.Entry.{Entry}
+use Rattle.refutation_log.specs.declared.refutation.Entry.TheVariants.{Step, Drop}
+use Rattle.refutation_log.specs.declared.refutation.Version.{Version}
+use Rattle.refutation_log.specs.declared.refutation.Version.TheVariants.{One, Two}
+use Rattle.refutation_log.specs.Entries.{entries}
+pub use Rattle.refutation_log.specs.NumberRange.{IsInRange, LinkInRange, StepInRange, EntryInRange, LogInRange}
 
 -- a number in decimal: `0`, or its digits from the first that is not 0
 unfoldable pub numeral : ℕ → List ℕ
@@ -45,9 +33,15 @@ abbrev pub kind_name : Kind → List ℕ
 kind_name Safety = codes "safety"
 kind_name Liveness = codes "liveness"
 
--- the first line: the version is 1
-abbrev pub header_line : Kind → List ℕ
-header_line kind = line_of (codes "log" ∷ codes "1" ∷ kind_name kind ∷ [])
+-- the digit of a version
+abbrev pub version_name : Version → List ℕ
+version_name One = codes "1"
+version_name Two = codes "2"
+
+-- the first line
+abbrev pub header_line : Version → Kind → List ℕ
+header_line version kind =
+    line_of (codes "log" ∷ version_name version ∷ kind_name kind ∷ [])
 
 -- a link has two fields, its pivot and the number of its clause
 abbrev pub link_fields : Link → List (List ℕ)
@@ -57,19 +51,40 @@ link_fields link = pivot_text link.pivot ∷ numeral link.clause ∷ []
 abbrev pub step_fields : Chain → List (List ℕ)
 step_fields step = codes "step" ∷ numeral step.first ∷ flat_map link_fields step.links
 
--- the line of a step
-abbrev pub step_line : Chain → List ℕ
-step_line step = line_of (step_fields step)
+-- a removal has its name and the numbers of its clauses
+abbrev pub drop_fields : List ℕ → List (List ℕ)
+drop_fields numbers = codes "drop" ∷ map numeral numbers
+
+-- the fields of an entry
+abbrev pub entry_fields : Entry → List (List ℕ)
+entry_fields (Step step) = step_fields step
+entry_fields (Drop numbers) = drop_fields numbers
+
+-- the line of an entry
+abbrev pub entry_line : Entry → List ℕ
+entry_line entry = line_of (entry_fields entry)
 
 -- the last line
 abbrev pub end_line : List ℕ
 end_line = line_of (codes "end" ∷ [])
 
--- the text of a log of this kind
-abbrev pub log_text : Kind → Log → List ℕ
-log_text kind log = header_line kind ++ flat_map step_line log.steps ++ end_line
+-- the text of this version and kind
+abbrev pub versioned_text : Version → Kind → Log → List ℕ
+versioned_text version kind log =
+    header_line version kind ++ flat_map entry_line (entries log) ++ end_line
 
--- the bytes are the text of the log, whose numbers are in range
+-- the version that is written: 1 exactly if nothing is removed
+abbrev pub least_version : List Removal → Version
+least_version [] = One
+least_version (removal ∷ removals) = Two
+
+-- the text that is written of a log of this kind
+abbrev pub log_text : Kind → Log → List ℕ
+log_text kind log = versioned_text (least_version log.removals) kind log
+
+-- the bytes are a text of the log, whose numbers are in range; in version 1 nothing is removed
 pub record IsTextOf (bytes : List ℕ) (kind : Kind) (log : Log) : Type 0 where
   pub numbers : LogInRange log
-  pub text : bytes ≡ log_text kind log
+  pub version : Version
+  pub allowed : version ≡ One → log.removals ≡ []
+  pub text : bytes ≡ versioned_text version kind log

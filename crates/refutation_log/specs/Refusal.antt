@@ -1,12 +1,15 @@
 -- Which line of a text is the first bad one, and in what way it is bad.
-use Rattle.std.specs.Prelude.{◌≡◌, ◌≢◌, ℕ, ◌+◌, ◌≤◌, List, [], ◌∷◌, ◌++◌, length, ◌==◌, if◌then◌else◌, All, ◌⊎◌, Result, Err}
+use Rattle.std.specs.Prelude.{◌≡◌, ◌≢◌, ℕ, ◌+◌, List, [], ◌∷◌, ◌++◌, length, ◌==◌, if◌then◌else◌, All, ◌⊎◌, Result, Err}
 use Rattle.std.specs.List.{onto_first}
 use Rattle.refutation_log.specs.declared.refutation.Kind.{Kind}
-use Rattle.refutation_log.specs.declared.refutation.Chain.{Chain}
+use Rattle.refutation_log.specs.declared.refutation.Entry.{Entry}
+use Rattle.refutation_log.specs.declared.refutation.Entry.TheVariants.{Step, Drop}
+use Rattle.refutation_log.specs.declared.refutation.Version.{Version}
+use Rattle.refutation_log.specs.declared.refutation.Version.TheVariants.{Two}
 use Rattle.refutation_log.specs.declared.refutation.Log.{Log}
 use Rattle.refutation_log.specs.declared.refusal.LogRefusal.{LogRefusal}
 use Rattle.refutation_log.specs.declared.refusal.LogRefusal.TheVariants.{Form, Number, NoMemory}
-use Rattle.refutation_log.specs.LogText.{IsTextOf, StepInRange, header_line, step_line, end_line}
+use Rattle.refutation_log.specs.LogText.{EntryInRange, header_line, entry_line, end_line}
 
 -- a line, with its LF
 abbrev pub Line : Type 0
@@ -18,22 +21,29 @@ lines_of [] = []
 lines_of (byte ∷ bytes) =
     if byte == 10 then (byte ∷ []) ∷ lines_of bytes else onto_first byte (lines_of bytes)
 
--- the line is that of a step, whatever its numbers
-abbrev pub IsStep : Line → Type 0
-IsStep line = (step : Chain) × (line ≡ step_line step)
+-- after this header: a removal names a clause, and needs version 2
+abbrev pub MayStand : Line → Entry → Type 0
+MayStand header (Step step) = Unit {0}
+MayStand header (Drop numbers) =
+    (numbers ≢ []) × (kind : Kind) × (header ≡ header_line Two kind)
+
+-- the line is that of an entry which may stand after the header, whatever its numbers
+abbrev pub IsEntry : Line → Line → Type 0
+IsEntry header line = (entry : Entry) × MayStand header entry × (line ≡ entry_line entry)
 
 -- none of the lines is `end`
 abbrev pub HasNoEnd : List Line → Type 0
 HasNoEnd lines = All (λ line. line ≢ end_line) lines
 
--- the line has the form that is wanted after these: first a header, then steps, `end`, and nothing
+-- the line has the form wanted after these: first a header, then entries, `end`, and nothing
 abbrev pub HasForm : List Line → Line → Type 0
-HasForm [] line = (kind : Kind) × (line ≡ header_line kind)
-HasForm (header ∷ others) line = HasNoEnd others × (IsStep line ⊎ (line ≡ end_line))
+HasForm [] line = (version : Version) × (kind : Kind) × (line ≡ header_line version kind)
+HasForm (header ∷ others) line =
+    HasNoEnd others × (IsEntry header line ⊎ (line ≡ end_line))
 
--- the line is a step of which a number is out of range
+-- the line is an entry of which a number is out of range
 abbrev pub HasBadNumber : Line → Type 0
-HasBadNumber line = (step : Chain) × (line ≡ step_line step) × ¬ (StepInRange step)
+HasBadNumber line = (entry : Entry) × (line ≡ entry_line entry) × ¬ (EntryInRange entry)
 
 -- each line has the form that is wanted after those before it, and no bad number
 abbrev pub AreRight : List Line → Type 0
@@ -70,27 +80,3 @@ IsRefusedLog text NoMemory = Unit {0}
 -- the result is this answer, unless memory ran out
 abbrev pub Answers : Result (Kind × Log) LogRefusal → Result (Kind × Log) LogRefusal → Type 0
 Answers result answer = (result ≡ answer) ⊎ (result ≡ Err NoMemory)
-
--- a text is that of one log
-abbrev pub TextHasOneLog : Type 0
-TextHasOneLog =
-    (text : List ℕ) (kind other : Kind) (log another : Log) → IsTextOf text kind log →
-    IsTextOf text other another → (kind ≡ other) × (log ≡ another)
-
--- it is refused for one thing
-abbrev pub TextHasOneRefusal : Type 0
-TextHasOneRefusal =
-    (text : List ℕ) (refusal other : LogRefusal) → refusal ≢ NoMemory → other ≢ NoMemory →
-    IsRefusedLog text refusal → IsRefusedLog text other → refusal ≡ other
-
--- and not both
-abbrev pub LogIsNotRefused : Type 0
-LogIsNotRefused =
-    (text : List ℕ) (kind : Kind) (log : Log) (refusal : LogRefusal) → refusal ≢ NoMemory →
-    IsTextOf text kind log → ¬ IsRefusedLog text refusal
-
--- a log has no more steps than its text has bytes
-abbrev pub StepsAreFewerThanBytes : Type 0
-StepsAreFewerThanBytes =
-    (text : List ℕ) (kind : Kind) (log : Log) → IsTextOf text kind log →
-    length log.steps ≤ length text

@@ -1,29 +1,36 @@
 ghost use Rattle.std.specs.Prelude.{◌≡◌, ◌≢◌, ◌++◌, codes, MatchOption};
 ghost use Rattle.refutation_log.specs.LogText.{header_line};
 ghost use Rattle.refutation_log.specs.declared.refutation.Kind.{Kind};
+ghost use Rattle.refutation_log.specs.declared.refutation.Version.{Version};
 
-use super::refutation::Kind;
+use super::refutation::{Kind, Version};
 
 /// The first line of a log, without its LF.
-pub fn title(kind: Kind) -> &'static [u8]
-    ensures { header_line kind ≡ result.now ++ codes "\n" }
+pub fn title(version: Version, kind: Kind) -> &'static [u8]
+    ensures { header_line version kind ≡ result.now ++ codes "\n" }
 {
-    match kind {
-        Kind::Safety => b"log 1 safety",
-        Kind::Liveness => b"log 1 liveness",
+    match (version, kind) {
+        (Version::One, Kind::Safety) => b"log 1 safety",
+        (Version::One, Kind::Liveness) => b"log 1 liveness",
+        (Version::Two, Kind::Safety) => b"log 2 safety",
+        (Version::Two, Kind::Liveness) => b"log 2 liveness",
     }
 }
 
-/// The kind whose title the line is.
-pub fn kind_of(line: &[u8]) -> Option<Kind>
+/// The version and the kind whose title the line is.
+pub fn header_of(line: &[u8]) -> Option<(Version, Kind)>
     ensures { MatchOption result
-        ((kind : Kind) → line.now ++ codes "\n" ≢ header_line kind)
-        (λ kind. line.now ++ codes "\n" ≡ header_line kind) }
+        ((version : Version) (kind : Kind) → line.now ++ codes "\n" ≢ header_line version kind)
+        (λ header. line.now ++ codes "\n" ≡ header_line header.0 header.1) }
 {
-    if line == title(Kind::Safety) {
-        Some(Kind::Safety)
-    } else if line == title(Kind::Liveness) {
-        Some(Kind::Liveness)
+    if line == title(Version::One, Kind::Safety) {
+        Some((Version::One, Kind::Safety))
+    } else if line == title(Version::One, Kind::Liveness) {
+        Some((Version::One, Kind::Liveness))
+    } else if line == title(Version::Two, Kind::Safety) {
+        Some((Version::Two, Kind::Safety))
+    } else if line == title(Version::Two, Kind::Liveness) {
+        Some((Version::Two, Kind::Liveness))
     } else {
         None
     }

@@ -1,6 +1,9 @@
-ghost use Rattle.refutation_log.specs.Refusal.{LogIsNotRefused, StepsAreFewerThanBytes};
-ghost use Rattle.refutation_log.specs.Refusal.{TextHasOneLog, TextHasOneRefusal};
-ghost use Rattle.refutation_log.specs.Resolution.{StepsAppend, NewClausesAppend};
+ghost use Rattle.refutation_log.specs.Ledger.{IsLive, IsContaining};
+ghost use Rattle.refutation_log.specs.ResolutionLaws.{StepsAppend, NewClausesAppend, RunsAppend};
+ghost use Rattle.refutation_log.specs.ResolutionLaws.{PlainLogsResolve, NewLogsResolve};
+ghost use Rattle.refutation_log.specs.ResolutionLaws.{StepsAreCounted};
+ghost use Rattle.refutation_log.specs.TextLaws.{LogIsNotRefused, StepsAreFewerThanBytes};
+ghost use Rattle.refutation_log.specs.TextLaws.{TextHasOneLog, TextHasOneRefusal, WrittenTextsAreTexts};
 
 /// A law: a step at the end of a log derives its clause from all the clauses before it.
 pub fn step_appends()
@@ -12,11 +15,38 @@ pub fn new_clause_appends()
     ensures { NewClausesAppend }
 {}
 
+/// A law: entries after entries run on from where those ended.
+pub fn entries_append()
+    ensures live { RunsAppend IsLive }
+    ensures containing { RunsAppend IsContaining }
+{}
+
+/// A law: a log without removals resolves if each step derives its clause from all before it.
+pub fn plain_resolves()
+    ensures live { PlainLogsResolve IsLive }
+    ensures containing { PlainLogsResolve IsContaining }
+{}
+
+/// A law: a new log resolves.
+pub fn new_resolves()
+    ensures { NewLogsResolve }
+{}
+
+/// A law: a log that resolves derives a clause for each step.
+pub fn steps_are_counted()
+    ensures { StepsAreCounted }
+{}
+
 /// A law: a text is that of one log at most, or refused for one thing, and not both.
 pub fn reads_once()
     ensures logs { TextHasOneLog }
     ensures refusals { TextHasOneRefusal }
     ensures exclusive { LogIsNotRefused }
+{}
+
+/// A law: what is written of a log is a text of it.
+pub fn writes_texts()
+    ensures { WrittenTextsAreTexts }
 {}
 
 /// A law: a log has no more steps than its text has bytes.

@@ -1,9 +1,14 @@
 //! Logs of a refutation by resolution, and their texts.
 #![tactic(auto)]
 
+mod body;
+mod drops;
+mod due;
 mod header;
 mod laws;
 mod line_error;
+mod log_cursor;
+mod log_entries;
 mod numbers;
 mod parts;
 mod reader;
@@ -12,11 +17,17 @@ mod refutation;
 mod steps;
 mod writer;
 
-pub use laws::{new_clause_appends, reads_once, step_appends, steps_are_fewer_than_bytes};
+pub use laws::{
+    entries_append, new_clause_appends, new_resolves, plain_resolves, reads_once, step_appends,
+    steps_are_counted, steps_are_fewer_than_bytes, writes_texts,
+};
 pub use line_error::LineError;
+pub use log_cursor::{Entries, EntryRef};
 pub use numbers::{number_of, pivot_of};
 pub use parts::split_once;
 pub use reader::read_log;
 pub use refusal::LogRefusal;
-pub use refutation::{Chain, ChainList, Kind, Link, LinkList, Log};
+pub use refutation::{
+    Chain, ChainList, Entry, Kind, Link, LinkList, Log, Removal, RemovalList, Version,
+};
 pub use writer::{push_number, push_pivot, write_log};

@@ -1,20 +1,22 @@
-ghost use Rattle.std.specs.Prelude.{◌≡◌, ◌≢◌, ◌+◌, ◌++◌, IfOk, IfErr, Ok, Err};
+ghost use Rattle.std.specs.Prelude.{◌≡◌, ◌≢◌, ◌+◌, [], ◌++◌, IfOk, IfErr, Ok, Err};
 ghost use Rattle.std.specs.List.{flat_map};
 ghost use Rattle.refutation_log.specs.declared.refutation.Kind.{Kind};
 ghost use Rattle.refutation_log.specs.declared.refutation.Log.{Log};
+ghost use Rattle.refutation_log.specs.Entries.{entries};
 ghost use Rattle.refutation_log.specs.declared.refusal.LogRefusal.{LogRefusal};
-ghost use Rattle.refutation_log.specs.LogText.{LogInRange, IsTextOf, header_line, step_line, end_line};
+ghost use Rattle.refutation_log.specs.LogText.{LogInRange, IsTextOf, header_line, entry_line, end_line};
 ghost use Rattle.refutation_log.specs.Refusal.{IsRefusedLog, Answers};
 
-use super::header::kind_of;
+use super::body::{BodyLine, body_line};
+use super::header::header_of;
 use super::parts::split_once;
 use super::refusal::LogRefusal;
-use super::refutation::{ChainList, Kind, Log};
-use super::steps::{BodyLine, body_line};
+use super::refutation::{Kind, Log, Version};
 use list_base::Seq;
 use std::alloc::Global;
 
-/// The kind and the log whose text this is.
+/// The kind and the log whose text this is. Memory counts as run out where more than 4,294,967,295
+/// steps stand before a removal.
 pub fn read_log(alloc: Global, text: &[u8]) -> Result<(Kind, Log), LogRefusal>
     ensures ok { IfOk result (λ read. IsTextOf text.now read.0 read.1) }
     ensures refused { IfErr result (IsRefusedLog text.now) }
@@ -37,21 +39,23 @@ fn log_of(alloc: Global, text: &[u8]) -> Result<(Kind, Log), LogRefusal>
     let Some(rest) = rest else {
         return Err(LogRefusal::Form { line: 1 });
     };
-    let Some(kind) = kind_of(line) else {
+    let Some((version, kind)) = header_of(line) else {
         return Err(LogRefusal::Form { line: 1 });
     };
-    let log = log_after(alloc, rest)?;
+    let log = log_after(alloc, version, rest)?;
     Ok((kind, log))
 }
 
-/// The log of a text from its second line on.
-fn log_after(alloc: Global, text: &[u8]) -> Result<Log, LogRefusal>
-    ensures ok { IfOk result
-        (λ log. LogInRange log × (text.now ≡ flat_map step_line log.steps ++ end_line)) }
+/// The log of a text of this version from its second line on.
+fn log_after(alloc: Global, version: Version, text: &[u8]) -> Result<Log, LogRefusal>
+    ensures numbers { IfOk result LogInRange }
+    ensures allowed { IfOk result (λ log. version ≡ Version.One → log.removals ≡ []) }
+    ensures text { IfOk result
+        (λ log. text.now ≡ flat_map entry_line (entries log) ++ end_line) }
     ensures refused { IfErr result
-        (λ refusal. (kind : Kind) → IsRefusedLog (header_line kind ++ text.now) refusal) }
+        (λ refusal. (kind : Kind) → IsRefusedLog (header_line version kind ++ text.now) refusal) }
 {
-    let mut steps = Seq::new(alloc);
+    let mut log = Log::plain(alloc, Seq::new(alloc));
     let mut number = 2;
     let mut rest = text;
     loop {
@@ -59,9 +63,9 @@ fn log_after(alloc: Global, text: &[u8]) -> Result<Log, LogRefusal>
         let Some(after) = after else {
             return Err(LogRefusal::Form { line: number });
         };
-        match body_line(alloc, line) {
-            Ok(BodyLine::Step(step)) => steps.push(step)?,
-            Ok(BodyLine::End) if after.is_empty() => return Ok(Log { steps }),
+        match body_line(alloc, version, line) {
+            Ok(BodyLine::Entry(entry)) => log.push_entry(entry)?,
+            Ok(BodyLine::End) if after.is_empty() => return Ok(log),
             Ok(BodyLine::End) => return Err(LogRefusal::Form { line: number + 1 }),
             Err(error) => return Err(error.at(number)),
         }

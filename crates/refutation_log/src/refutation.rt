@@ -1,5 +1,7 @@
+ghost use Rattle.refutation_log.specs.RemovalOrder.{IsInOrder};
+
 use clause_core::Lit;
-use list_base::Seq;
+use list_base::{NumberList, Seq};
 
 /// What is refuted by a log: that a protocol is not safe, or that it is not live.
 #[derive(Clone, Copy, Debug, PartialEq, Eq)]
@@ -8,6 +10,15 @@ pub enum Kind {
     Safety,
     /// That it is not live.
     Liveness,
+}
+
+/// The version of a log's text.
+#[derive(Clone, Copy, Debug, PartialEq, Eq)]
+pub enum Version {
+    /// Nothing is removed.
+    One,
+    /// Clauses may be removed.
+    Two,
 }
 
 /// The next clause of a chain, by its number, and the literal on which it is resolved.
@@ -30,9 +41,30 @@ pub struct Chain {
 /// Steps, in order.
 pub type ChainList = Seq<Chain>;
 
-/// The steps of a refutation. Clauses are numbered from 1, those of the formula before those of
-/// the steps.
+/// The numbers of clauses that are live no more after the first `after` steps.
+#[derive(Drop)]
+pub struct Removal {
+    pub after: u32,
+    pub clauses: NumberList,
+}
+
+/// Removals, in order.
+pub type RemovalList = Seq<Removal>;
+
+/// A step of a log, or the numbers of the clauses that a removal names.
+#[derive(Drop)]
+pub enum Entry {
+    /// A step.
+    Step(Chain),
+    /// The numbers, in order.
+    Drop(NumberList),
+}
+
+/// The steps of a refutation, and the removals between them. Clauses are numbered from 1, those of
+/// the formula before those of the steps.
 #[derive(Drop)]
 pub struct Log {
     pub steps: ChainList,
+    pub removals: RemovalList,
+    pub ghost in_order: { IsInOrder steps removals },
 }

@@ -1,8 +1,8 @@
-ghost use Rattle.std.specs.Prelude.{◌≡◌, [], ◌∷◌, All, Some};
+ghost use Rattle.std.specs.Prelude.{◌≡◌, ◌≢◌, [], ◌∷◌, All, Some, map};
 ghost use Rattle.std.specs.List.{flat_map, join_with_byte};
 ghost use Rattle.std.specs.Option.{option_copied};
-ghost use Rattle.refutation_log.specs.LogText.{LinkInRange, StepInRange, numeral, link_fields, step_fields};
-ghost use Rattle.refutation_log.specs.LineParts.{IsReading, parts_in, body_of, LineInRange};
+ghost use Rattle.refutation_log.specs.LogText.{IsInRange, LinkInRange, StepInRange, numeral, link_fields, step_fields};
+ghost use Rattle.refutation_log.specs.LineParts.{IsReading, parts_in};
 
 use super::line_error::LineError;
 use super::numbers::{number_of, pivot_of};
@@ -11,27 +11,8 @@ use super::refutation::{Chain, Link, LinkList};
 use list_base::Seq;
 use std::alloc::Global;
 
-/// A line after the header.
-#[derive(Drop)]
-pub enum BodyLine {
-    /// A step.
-    Step(Chain),
-    /// The line `end`.
-    End,
-}
-
-/// What the line spells.
-pub fn body_line(alloc: Global, line: &[u8]) -> Result<BodyLine, LineError>
-    ensures { IsReading body_of LineInRange line.now result }
-{
-    if line == b"end".as_slice() {
-        return Ok(BodyLine::End);
-    }
-    Ok(BodyLine::Step(step_of(alloc, line)?))
-}
-
 /// The step that the line spells.
-fn step_of(alloc: Global, line: &[u8]) -> Result<Chain, LineError>
+pub fn step_of(alloc: Global, line: &[u8]) -> Result<Chain, LineError>
     ensures { IsReading (λ step. join_with_byte 32 (step_fields step))
         StepInRange line.now result }
 {

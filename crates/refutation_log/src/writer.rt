@@ -1,30 +1,57 @@
 ghost use Rattle.std.specs.Prelude.{◌≡◌, ◌+◌, ◌∷◌, ◌++◌, IfOk, OnOk};
-ghost use Rattle.refutation_log.specs.LogText.{LogInRange, log_text, numeral, pivot_text, link_fields, step_line};
+ghost use Rattle.refutation_log.specs.Cursor.{lent_entry};
+ghost use Rattle.refutation_log.specs.LogText.{LogInRange, log_text, numeral, pivot_text, link_fields};
+ghost use Rattle.refutation_log.specs.LogText.{line_of, step_fields, drop_fields, entry_line};
 ghost use Rattle.refutation_log.specs.inner.LineFields.{spaced};
 
 use super::header::title;
+use super::log_cursor::EntryRef;
 use super::refutation::{Chain, Kind, Link, Log};
 use clause_core::Lit;
 use list_base::{Bytes, NoMemory};
 use std::alloc::Global;
 
-/// The text of the log, of which `read_log` gives this kind and log again.
+/// The text of the log, of which `read_log` gives this kind and log again. Its version is 1 exactly
+/// if the log removes nothing.
 pub fn write_log(alloc: Global, kind: Kind, log: &Log) -> Result<Bytes, NoMemory>
     requires { LogInRange log.now }
     ensures { IfOk result (λ text. text ≡ log_text kind log.now) }
 {
-    let mut text = Bytes::from_slice(alloc, title(kind))?;
+    let mut text = Bytes::from_slice(alloc, title(log.version(), kind))?;
     text.push(b'\n')?;
-    for step in log.steps.as_slice() {
-        push_step(&mut text, step)?;
+    let mut entries = log.entries();
+    while let Some(entry) = entries.next() {
+        push_entry(&mut text, entry)?;
     }
     text.append(b"end\n")?;
     Ok(text)
 }
 
+/// Appends the line of an entry.
+fn push_entry(text: &mut Bytes, entry: EntryRef<'_>) -> Result<(), NoMemory>
+    ensures { OnOk result (text.new ≡ text.old ++ entry_line (lent_entry entry.entry)) }
+{
+    match entry {
+        EntryRef::Step(step) => push_step(text, step),
+        EntryRef::Drop(numbers) => push_drop(text, numbers),
+    }
+}
+
+/// Appends the line of a removal.
+fn push_drop(text: &mut Bytes, numbers: &[u32]) -> Result<(), NoMemory>
+    ensures { OnOk result (text.new ≡ text.old ++ line_of (drop_fields numbers.now)) }
+{
+    text.append(b"drop")?;
+    for number in numbers {
+        text.push(b' ')?;
+        push_number(text, *number)?;
+    }
+    text.push(b'\n')
+}
+
 /// Appends the line of a step.
 fn push_step(text: &mut Bytes, step: &Chain) -> Result<(), NoMemory>
-    ensures { OnOk result (text.new ≡ text.old ++ step_line step.now) }
+    ensures { OnOk result (text.new ≡ text.old ++ line_of (step_fields step.now)) }
 {
     text.append(b"step ")?;
     push_number(text, step.first)?;

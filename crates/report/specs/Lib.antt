@@ -4,5 +4,6 @@ pub mod Status
 pub mod ReplayLines
 pub mod ReplayText
 pub mod VerdictText
+pub mod WorldText
 pub mod Laws
 pub mod inner

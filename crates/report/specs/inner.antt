@@ -1,2 +1,4 @@
 -- What only private functions cite.
 pub mod KeyLines
+pub mod Counts
+pub mod WorldRows

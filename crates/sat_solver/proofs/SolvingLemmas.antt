@@ -9,7 +9,10 @@ use Rattle.clause_core.specs.declared.formula.Formula.{Formula}
 use Rattle.clause_core.specs.Clause.{Satisfies, SatisfiesAll}
 use Rattle.clause_core.specs.Propagation.{IsLacked}
 use Rattle.refutation_log.specs.declared.refutation.Chain.{Chain}
-use Rattle.refutation_log.specs.Resolution.{Derives, DerivesAll, Folds, IsNew, StepsAppend, NewClausesAppend}
+use Rattle.refutation_log.specs.declared.refutation.Log.{Log}
+use Rattle.refutation_log.specs.Ledger.{IsContaining, IsLive, Ledger}
+use Rattle.refutation_log.specs.Resolution.{Derives, DerivesAll, Folds, IsNew, ResolvesBy}
+use Rattle.refutation_log.specs.ResolutionLaws.{NewClausesAppend, PlainLogsResolve, StepsAppend}
 use Rattle.clause_core.specs.Numbering.{numbered, HasNumber}
 use Rattle.sat_trail.specs.State.{State, numbering_of, last_number}
 use Rattle.sat_trail.specs.Trail.{IsTrail, IsStart, Adds}
@@ -98,27 +101,56 @@ HasLearned-learn f t new steps chain derives_more new_more known above learns = 
     grown : length (f.clauses ++ known.derived) + 1 ≡ length ((f.clauses ++ known.derived) ++ learns.clause ∷ [])
     grown = omega (arith, length-append (f.clauses ++ known.derived) (learns.clause ∷ []))
 
+-- the log has these steps and removes nothing
+pub record IsPlain (steps : List Chain) (log : Log) : Type 0 where
+  pub same : log.steps ≡ steps
+  pub none : log.removals ≡ []
+
+-- the laws of a log without removals: by live clauses, and by clauses that contain others
+pub record PlainLaws : Type 0 where
+  pub live : PlainLogsResolve IsLive
+  pub containing : PlainLogsResolve IsContaining
+
+-- a log without removals resolves as its steps do
+plain-resolves : (MayEnd : Ledger → ℕ → Type 0) → PlainLogsResolve MayEnd → (f : Formula) (derived : List (List Lit)) (steps : List Chain) (log : Log) → IsPlain steps log → DerivesAll f.clauses steps derived → ResolvesBy MayEnd f.clauses log derived
+plain-resolves MayEnd law f derived steps log plain derives =
+    (law f.clauses derived log plain.none).1 (subst (λ (made : List Chain). DerivesAll f.clauses made derived) (sym plain.same) derives)
+
+-- each of its steps has a link if these have
+plain-linked : (steps : List Chain) (log : Log) → IsPlain steps log → All (λ (chain : Chain). chain.links ≢ []) steps → All (λ (chain : Chain). chain.links ≢ []) log.steps
+plain-linked steps log plain linked = subst (λ (made : List Chain). All (λ (chain : Chain). chain.links ≢ []) made) (sym plain.same) linked
+
 -- the log so far is new
-pub IsNew-learned : (f : Formula) (t : State) (steps : List Chain) → HasLearned f t steps → IsNew f (record { steps = steps })
-IsNew-learned f t steps known = record { derived = known.derived; derives = known.learned.derives; linked = known.learned.linked; new = known.learned.new }
+IsNew-learned : PlainLaws → (f : Formula) (t : State) (steps : List Chain) (log : Log) → IsPlain steps log → HasLearned f t steps → IsNew f log
+IsNew-learned laws f t steps log plain known = record {
+  derived = known.derived;
+  resolves = plain-resolves IsContaining laws.containing f known.derived steps log plain known.learned.derives;
+  linked = plain-linked steps log plain known.learned.linked;
+  new = known.learned.new;
+}
 
 -- the budget is spent
-pub Spends-learned : (f : Formula) (t : State) (steps : List Chain) (budget : ℕ) → HasLearned f t steps → length steps ≡ budget → Spends f budget (record { steps = steps })
-Spends-learned f t steps budget known spent = record {
-  new = IsNew-learned f t steps known;
-  spent = spent;
+pub Spends-learned : PlainLaws → (f : Formula) (t : State) (steps : List Chain) (log : Log) (budget : ℕ) → IsPlain steps log → HasLearned f t steps → length steps ≡ budget → Spends f budget log
+Spends-learned laws f t steps log budget plain known spent = record {
+  new = IsNew-learned laws f t steps log plain known;
+  spent = ap length plain.same ∙ spent;
   derived = known.derived;
-  derives = known.learned.derives;
+  resolves = plain-resolves IsLive laws.live f known.derived steps log plain known.learned.derives;
   no_empty = λ among. known.learned.no_empty (Contains-append_right f.clauses known.derived [] among);
 }
 
 -- an empty clause of the formula is a refutation without steps
-pub Refutes-empty : (f : Formula) (budget : ℕ) → Contains f.clauses [] → Refutes f budget (record { steps = [] })
-Refutes-empty f budget among = record {
-  accepted = record { derived = []; derives = refl; empty = Contains-append_left f.clauses [] [] among };
-  new = record { derived = []; derives = refl; linked = λ k d within. absurd (omega arith); new = tt };
-  within = omega arith;
-  none_needed = λ _. refl;
+pub Refutes-empty : PlainLaws → (f : Formula) (log : Log) (budget : ℕ) → IsPlain [] log → Contains f.clauses [] → Refutes f budget log
+Refutes-empty laws f log budget plain among = record {
+  accepted = record { derived = []; resolves = plain-resolves IsLive laws.live f [] [] log plain refl; empty = Contains-append_left f.clauses [] [] among };
+  new = record {
+    derived = [];
+    resolves = plain-resolves IsContaining laws.containing f [] [] log plain refl;
+    linked = plain-linked [] log plain (λ k d within. absurd (omega arith));
+    new = tt;
+  };
+  within = let short = ap length plain.same in omega (arith, short);
+  none_needed = λ _. record { steps = plain.same; removals = plain.none };
 }
 
 -- a chain that derives the empty clause has a link if no clause before it is empty
@@ -128,16 +160,20 @@ linked-refuted clauses chain no_empty derives none =
     no_empty (subst (Contains clauses) folds (number_among clauses chain.first derives.start derives.named))
 
 -- a refutation at level 0 ends the log
-pub Refutes-learned : (f : Formula) (t : State) (steps : List Chain) (budget number : ℕ) (chain : Chain) (clause : List Lit) → StepsAppend → NewClausesAppend → HasLearned f t steps → length steps < budget → Refuted t number chain clause → Refutes f budget (record { steps = steps ++ chain ∷ [] })
-Refutes-learned f t steps budget number chain clause derives_more new_more known short refuted = record {
-  accepted = record { derived = known.derived ++ [] ∷ []; derives = derives; empty = subst (λ cs. Contains cs []) (append_assoc f.clauses known.derived ([] ∷ [])) (Contains-push (f.clauses ++ known.derived) []) };
+pub Refutes-learned : PlainLaws → (f : Formula) (t : State) (steps : List Chain) (log : Log) (budget number : ℕ) (chain : Chain) (clause : List Lit) → StepsAppend → NewClausesAppend → IsPlain (steps ++ chain ∷ []) log → HasLearned f t steps → length steps < budget → Refuted t number chain clause → Refutes f budget log
+Refutes-learned laws f t steps log budget number chain clause derives_more new_more plain known short refuted = record {
+  accepted = record {
+    derived = known.derived ++ [] ∷ [];
+    resolves = plain-resolves IsLive laws.live f (known.derived ++ [] ∷ []) (steps ++ chain ∷ []) log plain derives;
+    empty = subst (λ cs. Contains cs []) (append_assoc f.clauses known.derived ([] ∷ [])) (Contains-push (f.clauses ++ known.derived) []);
+  };
   new = record {
     derived = known.derived ++ [] ∷ [];
-    derives = derives;
-    linked = All-push (λ (c : Chain). c.links ≢ []) steps chain known.learned.linked (linked-refuted (f.clauses ++ known.derived) chain known.learned.no_empty last);
+    resolves = plain-resolves IsContaining laws.containing f (known.derived ++ [] ∷ []) (steps ++ chain ∷ []) log plain derives;
+    linked = plain-linked (steps ++ chain ∷ []) log plain (All-push (λ (c : Chain). c.links ≢ []) steps chain known.learned.linked (linked-refuted (f.clauses ++ known.derived) chain known.learned.no_empty last));
     new = new_more f.clauses known.derived [] known.learned.new (record { lacked = λ some. absurd (some refl); first_empty = λ _. known.learned.no_empty });
   };
-  within = omega (arith, short, length-append steps (chain ∷ []));
+  within = let made = ap length plain.same in omega (arith, short, made, length-append steps (chain ∷ []));
   none_needed = λ among. absurd (known.learned.no_empty (Contains-append_left f.clauses known.derived [] among));
 }
   where

@@ -5,7 +5,7 @@ use Rattle.clause_core.specs.declared.formula.Formula.{Formula}
 use Rattle.clause_core.specs.Assignment.{valuation}
 use Rattle.clause_core.specs.Clause.{SatisfiesAll}
 use Rattle.refutation_log.specs.declared.refutation.Log.{Log}
-use Rattle.refutation_log.specs.Resolution.{Accepts, IsNew, DerivesAll}
+use Rattle.refutation_log.specs.Resolution.{Accepts, IsNew, LogResolves}
 use Rattle.sat_solver.specs.declared.outcome.Outcome.{Outcome}
 use Rattle.sat_solver.specs.declared.outcome.Outcome.TheVariants.{Sat, Unsat, Budget}
 
@@ -14,19 +14,24 @@ pub record IsModel (f : Formula) (assignment : List Bool) : Type 0 where
   pub whole : length assignment ≡ f.vars
   pub satisfies : SatisfiesAll (valuation assignment) f.clauses
 
--- the log is accepted, new and within the budget, and without steps if a clause is empty
+-- the log has no steps and no removals
+pub record IsEmptyLog (log : Log) : Type 0 where
+  pub steps : log.steps ≡ []
+  pub removals : log.removals ≡ []
+
+-- the log is accepted, new and within the budget, and empty if a clause of the formula is
 pub record Refutes (f : Formula) (budget : ℕ) (log : Log) : Type 0 where
   pub accepted : Accepts f log
   pub new : IsNew f log
   pub within : length log.steps ≤ budget
-  pub none_needed : Contains f.clauses [] → log.steps ≡ []
+  pub none_needed : Contains f.clauses [] → IsEmptyLog log
 
 -- the log is new, has exactly as many steps as the budget allows, and derives no empty clause
 pub record Spends (f : Formula) (budget : ℕ) (log : Log) : Type 0 where
   pub new : IsNew f log
   pub spent : length log.steps ≡ budget
   pub derived : List (List Lit)
-  pub derives : DerivesAll f.clauses log.steps derived
+  pub resolves : LogResolves f log derived
   pub no_empty : ¬ Contains derived []
 
 -- the outcome is right

@@ -6,7 +6,7 @@ use refutation_log::Log;
 pub enum Outcome {
     /// An assignment of exactly the formula's variables that satisfies all clauses.
     Sat(Assignment),
-    /// A log that refutes the formula, without steps if a clause of the formula is empty.
+    /// A log that refutes the formula, without steps and removals if a clause of it is empty.
     Unsat(Log),
     /// A log of as many new clauses as the budget allows.
     Budget(Log),

@@ -11,7 +11,7 @@ use super::search::search;
 use super::search_stats::SearchStats;
 use clause_core::{Clause, Formula};
 use list_base::{NoMemory, Seq};
-use refutation_log::{ChainList, Log, new_clause_appends, step_appends};
+use refutation_log::{ChainList, Log, new_clause_appends, plain_resolves, step_appends};
 use sat_trail::Trail;
 use std::alloc::Global;
 
@@ -37,9 +37,11 @@ pub fn solve_counted(
     requires few { length f.now.clauses + budget < 2 ^ 32 }
     ensures { IfOk result (IsOutcome f.now budget) }
 {
+    // law: a log without removals resolves if each step derives its clause from all before it
+    plain_resolves();
     let mut steps: ChainList = Seq::new(alloc);
     if has_empty(f.clauses.as_slice()) {
-        return Ok(Outcome::Unsat(Log { steps }));
+        return Ok(Outcome::Unsat(Log::plain(alloc, steps)));
     }
     let mut trail = Trail::new(alloc, f)?;
     let mut lits = FalseLits::new(alloc, f.vars)?;
@@ -55,11 +57,11 @@ pub fn solve_counted(
         if trail.level() == 0 {
             let Derivation { chain, clause: _ } = refute(alloc, &trail, number, &mut lits)?;
             steps.push(chain)?;
-            return Ok(Outcome::Unsat(Log { steps }));
+            return Ok(Outcome::Unsat(Log::plain(alloc, steps)));
         }
         steps.push(learn_from(alloc, &mut trail, number, &mut lits, &mut rule)?)?;
     }
-    Ok(Outcome::Budget(Log { steps }))
+    Ok(Outcome::Budget(Log::plain(alloc, steps)))
 }
 
 /// Whether one of the clauses is empty.

@@ -6,11 +6,11 @@ use Rattle.clause_core.specs.declared.literal.Lit.{Lit}
 use Rattle.clause_core.specs.declared.formula.Formula.{Formula}
 use Rattle.clause_core.specs.Literal.{rank}
 use Rattle.clause_core.specs.Clause.{IsAscending, VariablesExist}
-use Rattle.clause_core.specs.Numbering.{Numbering, numbered, HasNumber}
+use Rattle.clause_core.specs.Numbering.{Numbering, numbered, HasNumber, live}
 use Rattle.sat_trail.specs.declared.entry.Entry.{Entry}
 use Rattle.sat_trail.specs.declared.watch.Cell.{Cell}
 use Rattle.sat_trail.specs.Entry.{last_level}
-use Rattle.sat_trail.specs.State.{State, live}
+use Rattle.sat_trail.specs.State.{State}
 use Rattle.sat_trail.specs.Trail.{HasTwoOpen, IsStart}
 use Rattle.sat_trail.specs.inner.Attach.{ReservesCells, HasOpenTwo, AreChosen, IsAttached, IsAttachedTo, IsUnwatched}
 use Rattle.sat_trail.specs.inner.Excuse.{Progress, WatchesTwo, WatchesNone, AreWatched}

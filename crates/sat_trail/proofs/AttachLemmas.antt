@@ -6,8 +6,7 @@ use Rattle.list_base.proofs.Members.{here_same, there}
 use Rattle.clause_core.specs.declared.literal.Lit.{Lit}
 use Rattle.clause_core.specs.Literal.{rank}
 use Rattle.clause_core.specs.Clause.{IsAscending}
-use Rattle.clause_core.specs.Numbering.{Numbering, HasNumber}
-use Rattle.sat_trail.specs.State.{live}
+use Rattle.clause_core.specs.Numbering.{Numbering, HasNumber, live}
 use Rattle.sat_trail.specs.declared.entry.Entry.{Entry}
 use Rattle.sat_trail.specs.declared.watch.Watch.{Watch}
 use Rattle.sat_trail.specs.declared.watch.Cell.{Cell}

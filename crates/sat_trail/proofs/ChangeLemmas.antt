@@ -7,10 +7,10 @@ use Rattle.clause_core.specs.Clause.{VariablesExist}
 use Rattle.clause_core.specs.Propagation.{Falsifies, LeavesOnly, IsPropagated}
 use Rattle.sat_trail.specs.declared.entry.Entry.{Entry}
 use Rattle.sat_trail.specs.Entry.{entry_of, values_of, last_level, up_to, decided}
-use Rattle.clause_core.specs.Numbering.{Numbering, HasNumber}
+use Rattle.clause_core.specs.Numbering.{Numbering, HasNumber, live}
 use Rattle.sat_trail.specs.Growth.{IsDecision, IsForced}
 use Rattle.sat_trail.specs.inner.Growth.{Grows, IsGrown}
-use Rattle.sat_trail.specs.State.{State, live}
+use Rattle.sat_trail.specs.State.{State}
 use Rattle.sat_trail.specs.inner.Examination.{IsSettled}
 use Rattle.sat_trail.specs.inner.Storage.{Assigned, StartsWith}
 use Rattle.sat_trail.specs.Trail.{HasTwoOpen, Adds}

@@ -3,7 +3,7 @@ use Rattle.std.proofs.Common.{◌≡◌, ◌≢◌, ℕ, ◌+◌, ◌<◌, ◌�
 use Rattle.std.proofs.lemmas.List.{take_more, take_all}
 use Rattle.std.proofs.lemmas.List.Elements.{Contains-push, Contains-push_cases, Contains-get_or}
 use Rattle.clause_core.specs.declared.literal.Lit.{Lit}
-use Rattle.sat_trail.specs.State.{live}
+use Rattle.clause_core.specs.Numbering.{live}
 use Rattle.clause_core.specs.Propagation.{MakesFalse, OthersFalse, LeavesOnly, IsFalsified}
 use Rattle.sat_trail.specs.declared.entry.Entry.{Entry}
 use Rattle.sat_trail.specs.Entry.{values_of}

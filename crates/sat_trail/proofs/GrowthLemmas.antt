@@ -6,8 +6,7 @@ use Rattle.clause_core.specs.Clause.{VariablesExist}
 use Rattle.clause_core.specs.Propagation.{LeavesOnly}
 use Rattle.sat_trail.specs.declared.entry.Entry.{Entry}
 use Rattle.sat_trail.specs.Entry.{values_of, last_level}
-use Rattle.clause_core.specs.Numbering.{Numbering, HasNumber}
-use Rattle.sat_trail.specs.State.{live}
+use Rattle.clause_core.specs.Numbering.{Numbering, HasNumber, live}
 use Rattle.sat_trail.specs.inner.Growth.{Grows}
 use Rattle.sat_trail.specs.inner.Examination.{IsSettled}
 use Rattle.sat_trail.specs.inner.Storage.{Assigned}

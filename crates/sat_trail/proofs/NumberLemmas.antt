@@ -4,8 +4,7 @@ use Rattle.std.specs.Prelude.{◌==◌, slice_get, IsSome, IsTrue}
 use Rattle.std.proofs.lemmas.Bool.{cases_Bool, cases_eq, cases_lt, ne_eqb, false≢true}
 use Rattle.std.proofs.lemmas.List.{get_or_append_left, get_or_push, get_or_past}
 use Rattle.clause_core.specs.declared.literal.Lit.{Lit}
-use Rattle.clause_core.specs.Numbering.{Numbering, numbered, HasNumber}
-use Rattle.sat_trail.specs.State.{live}
+use Rattle.clause_core.specs.Numbering.{Numbering, numbered, HasNumber, live}
 
 -- number 0 has no clause
 pub live-zero : (clauses : List (Option (List Lit))) (n : ℕ) → n ≡ 0 → live clauses n ≡ None

@@ -3,13 +3,13 @@ use Rattle.std.proofs.Common.{◌≡◌, ◌≢◌, ℕ, ◌-◌, ◌<◌, ◌�
 use Rattle.std.specs.Prelude.{slice_set, IsSome}
 use Rattle.std.proofs.lemmas.List.Elements.{All-head, All-tail}
 use Rattle.clause_core.specs.declared.literal.Lit.{Lit}
-use Rattle.clause_core.specs.Numbering.{Numbering}
+use Rattle.clause_core.specs.Numbering.{Numbering, live}
 use Rattle.clause_core.specs.Propagation.{IsPropagated}
 use Rattle.sat_trail.specs.declared.entry.Entry.{Entry}
 use Rattle.sat_trail.specs.declared.watch.Cell.{Cell}
 use Rattle.sat_trail.specs.Entry.{values_of}
 use Rattle.sat_trail.specs.Growth.{IsDecision, IsForced}
-use Rattle.sat_trail.specs.State.{State, live}
+use Rattle.sat_trail.specs.State.{State}
 use Rattle.sat_trail.specs.Trail.{Removes}
 use Rattle.sat_trail.specs.inner.Excuse.{Progress, AreWatched}
 use Rattle.sat_trail.specs.inner.Growth.{Grows}

@@ -3,8 +3,7 @@ use Rattle.std.proofs.Common.{◌≡◌, ℕ, zero, suc, ◌-◌, ◌<◌, ◌�
 use Rattle.std.specs.Prelude.{slice_get, IsSome, IsTrue, if◌then◌else◌}
 use Rattle.std.proofs.lemmas.Option.{get_or_from_slice_get}
 use Rattle.clause_core.specs.declared.literal.Lit.{Lit}
-use Rattle.clause_core.specs.Numbering.{HasNumber}
-use Rattle.sat_trail.specs.State.{live}
+use Rattle.clause_core.specs.Numbering.{HasNumber, live}
 use Rattle.sat_trail.specs.inner.Storage.{marked}
 use Rattle.sat_trail.proofs.NumberLemmas.{live-some, number_within, IsSome-number}
 

@@ -2,8 +2,7 @@
 use Rattle.std.proofs.Common.{Option, ◌≡◌, ◌≢◌, ℕ, ◌<◌, ◌≤◌, Some, List, ◌⊎◌, inl, inr, length, sym, ap, refl, ◌∙◌, subst, arith, Contains}
 use Rattle.clause_core.specs.declared.literal.Lit.{Lit}
 use Rattle.clause_core.specs.Clause.{VariablesExist}
-use Rattle.clause_core.specs.Numbering.{HasNumber}
-use Rattle.sat_trail.specs.State.{live}
+use Rattle.clause_core.specs.Numbering.{HasNumber, live}
 use Rattle.clause_core.specs.Propagation.{MakesFalse, OthersFalse}
 use Rattle.sat_trail.specs.declared.propagation.Cursor.{Cursor}
 use Rattle.sat_trail.specs.declared.propagation.Visit.TheVariants.{Stays}

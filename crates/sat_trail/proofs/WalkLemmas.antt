@@ -5,7 +5,7 @@ use Rattle.std.proofs.lemmas.List.{get_or_default}
 use Rattle.list_base.proofs.Members.{here_same, there, nowhere, cons_cases}
 use Rattle.list_base.proofs.Pigeonhole.{few_distinct}
 use Rattle.clause_core.specs.declared.literal.Lit.{Lit}
-use Rattle.sat_trail.specs.State.{live}
+use Rattle.clause_core.specs.Numbering.{live}
 use Rattle.sat_trail.specs.declared.watch.Cell.{Cell}
 use Rattle.sat_trail.specs.inner.Excuse.{IsTrueBy}
 use Rattle.sat_trail.specs.inner.Propagation.{CanPropagate, Extends, HasWatches}

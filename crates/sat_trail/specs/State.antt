@@ -1,8 +1,7 @@
 -- What contracts see of a trail.
-use Rattle.std.specs.Prelude.{ℕ, ◌-◌, ◌==◌, Bool, Option, None, List, length, slice_index_or}
-use Rattle.std.specs.Prelude.{if◌then◌else◌}
+use Rattle.std.specs.Prelude.{ℕ, Bool, Option, List, length}
 use Rattle.clause_core.specs.declared.literal.Lit.{Lit}
-use Rattle.clause_core.specs.Numbering.{Numbering}
+use Rattle.clause_core.specs.Numbering.{Numbering, live}
 use Rattle.sat_trail.specs.declared.entry.Entry.{Entry}
 
 -- the clauses in the order of their numbers, with none where one was removed, and the entries in
@@ -13,10 +12,6 @@ pub record State : Type 0 where
   pub entries : List Entry
   pub level : ℕ
   pub ready : Bool
-
--- the clauses of a list have the numbers from 1 on; a number has none where one was removed
-abbrev pub live : List (Option (List Lit)) → Numbering
-live clauses number = if number == 0 then None else slice_index_or clauses (number - 1) None
 
 -- the live clause of each number, if there is one
 abbrev pub numbering_of : State → Numbering

@@ -1,7 +1,6 @@
 ghost use Rattle.std.specs.Prelude.{◌≡◌, ◌-◌, ◌^◌, ◌<◌, ◌≤◌, ◌↔◌, ◌++◌, [], ◌∷◌, None, Some, IsSome, IsTrue, IfOk, OnOk, OnErr};
 ghost use Rattle.std.specs.Prelude.{length, map, slice_set};
-ghost use Rattle.clause_core.specs.Numbering.{HasNumber};
-ghost use Rattle.sat_trail.specs.State.{live};
+ghost use Rattle.clause_core.specs.Numbering.{HasNumber, live};
 
 use clause_core::{Clause, ClauseList};
 use list_base::{NoMemory, Seq};

@@ -3,7 +3,7 @@ ghost use Rattle.std.specs.Prelude.{ℕ};
 ghost use Rattle.std.specs.Bool.{OnTrue, OnFalse};
 ghost use Rattle.clause_core.specs.Propagation.{IsFalsified};
 ghost use Rattle.sat_trail.specs.Entry.{values_of};
-ghost use Rattle.sat_trail.specs.State.{live};
+ghost use Rattle.clause_core.specs.Numbering.{live};
 ghost use Rattle.sat_trail.specs.inner.Examination.{IsSettledAt};
 ghost use Rattle.sat_trail.specs.inner.Excuse.{IsTrueBy};
 ghost use Rattle.sat_trail.specs.inner.Propagation.{CanPropagate, Extends, HasWatches};

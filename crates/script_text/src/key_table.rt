@@ -9,7 +9,7 @@ use std::marker::Model;
 
 /// Different keys, in the order of adding. Contracts see a list.
 #[derive(Drop)]
-pub(crate) struct KeyTable {
+pub struct KeyTable {
     set: IndexSet<Key>,
 }
 
@@ -29,7 +29,7 @@ impl KeyTable {
     ghost use Rattle.std.specs.Prelude.{◌≢◌};
 
     /// No key.
-    pub(crate) fn new(alloc: Global) -> KeyTable
+    pub fn new(alloc: Global) -> KeyTable
         ensures { result ≡ [] }
     {
         KeyTable {
@@ -53,7 +53,7 @@ impl KeyTable {
     }
 
     /// Puts a key at the end.
-    pub(crate) fn add(&mut self, key: &Key) -> Result<(), NoMemory>
+    pub fn add(&mut self, key: &Key) -> Result<(), NoMemory>
         requires { ¬ Contains self.old key.now }
         ensures { OnOk result (self.new ≡ self.old ++ key.now ∷ []) }
     {
@@ -63,7 +63,7 @@ impl KeyTable {
     }
 
     /// The keys as a set.
-    pub(crate) fn into_set(self) -> IndexSet<Key>
+    pub fn into_set(self) -> IndexSet<Key>
         ensures keys { result.keys ≡ self }
         ensures distinct { AllPairs (λ k l. k ≢ l) self }
     {

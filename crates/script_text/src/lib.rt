@@ -19,6 +19,7 @@ mod statements;
 mod value_line;
 
 pub use fields::first_field;
+pub use key_table::KeyTable;
 pub use numbers::{last_number, number_of};
 pub use reader::{Reading, read_lines};
 pub use settings::{is_setting, setting_of};

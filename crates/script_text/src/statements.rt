@@ -58,6 +58,21 @@ impl StatementList {
         self.stated.as_slice()
     }
 
+    /// How many `key` lines there are.
+    pub fn key_lines(&self) -> usize
+        ensures count { result ≡ length (flat_map key_in (statements_of self.now)) }
+        ensures few { result ≤ 10000 }
+    {
+        self.keys.len()
+    }
+
+    /// The keys of the `key` lines, in order.
+    pub fn into_keys(self) -> KeyTable
+        ensures { result ≡ flat_map key_in (statements_of self) }
+    {
+        self.keys
+    }
+
     /// Whether the statement keeps the rules after these.
     pub(crate) fn allows(&self, statement: &Statement) -> bool
         ensures { IsTrue result ↔ KeepsRules (statements_of self.now) statement.now }

@@ -1,8 +1,8 @@
 use super::formulas::{add_clause, lit};
 use clause_core::{ClauseList, Formula};
-use list_base::{NoMemory, Seq};
+use list_base::{NoMemory, NumberList, Seq};
 use log_checker::{Reject, check_log};
-use refutation_log::{Chain, ChainList, Link, Log};
+use refutation_log::{Chain, Link, Log};
 use std::alloc::Global;
 use std::test::Fail;
 
@@ -36,13 +36,22 @@ fn step(alloc: Global, first: u32, links: &[(i32, u32)]) -> Result<Chain, NoMemo
 }
 
 /// The answer for a small log.
-fn answer(alloc: Global, f: &Formula, steps: ChainList) -> Option<Result<(), Reject>> {
-    let log = Log { steps };
+fn answer(alloc: Global, f: &Formula, log: &Log) -> Option<Result<(), Reject>> {
     if f.clauses.len() < 100 && log.steps.len() < 100 {
-        Some(check_log(alloc, f, &log))
+        Some(check_log(alloc, f, log))
     } else {
         None
     }
+}
+
+/// The log of a step, before which a clause is removed.
+fn log_of(alloc: Global, removed: u32, step: Chain) -> Result<Log, NoMemory> {
+    let mut numbers: NumberList = Seq::new(alloc);
+    numbers.push(removed)?;
+    let mut log = Log::plain(alloc, Seq::new(alloc));
+    log.remove(numbers)?;
+    log.push(step)?;
+    Ok(log)
 }
 
 /// No text of a log has a clause of the number 0.
@@ -50,10 +59,13 @@ fn answer(alloc: Global, f: &Formula, steps: ChainList) -> Option<Result<(), Rej
 fn no_clause_has_the_number_0(rt: HostRuntime) -> Result<(), Fail> {
     let alloc = rt.alloc();
     let f = Formula::of(4, liveness_of_ping(alloc)?).ok_or("four variables")?;
-    for (first, wanted) in [(5, Ok(())), (0, Err(Reject::NoClause { step: 1 }))] {
-        let mut steps = Seq::new(alloc);
-        steps.push(step(alloc, first, &[(1, 6), (-3, 7)])?)?;
-        assert_eq!(rt; answer(alloc, &f, steps), Some(wanted));
+    for (removed, first, wanted) in [
+        (1, 5, Ok(())),
+        (1, 0, Err(Reject::NoClause { step: 1 })),
+        (0, 5, Err(Reject::NoDrop { after: 0, item: 1 })),
+    ] {
+        let log = log_of(alloc, removed, step(alloc, first, &[(1, 6), (-3, 7)])?)?;
+        assert_eq!(rt; answer(alloc, &f, &log), Some(wanted));
     }
     Ok(())
 }

@@ -32,8 +32,8 @@ fn stops_at_faults(rt: HostRuntime) -> Result<(), Fail> {
     let mut first = NumberList::new(alloc);
     first.push(1)?;
     let mut unread = MemSource::new(Bytes::from_slice(alloc, PING)?, 16, first);
-    let run = args_of(alloc, "run Ping")?;
-    let given = bspl(alloc, run.as_slice(), &mut unread, &mut output);
+    let generate = args_of(alloc, "generate 2")?;
+    let given = bspl(alloc, generate.as_slice(), &mut unread, &mut output);
     assert_eq!(rt; given, Status::Refused);
     assert!(rt; output.written() == NOT_BUILT);
 

@@ -31,7 +31,7 @@ answer_right x f budget (Unsat log) liveness is_formula found answers =
     (record { formula = f; is_formula = is_formula; accepts = found.accepted; new = found.new; within = found.within; live = answers.right })
 answer_right x f budget (Budget log) liveness is_formula found answers =
     subst (IsRightLiveness x budget) (sym answers)
-    (record { formula = f; is_formula = is_formula; new = found.new; exact = found.spent; derived = found.derived; derives = found.derives; none = found.no_empty })
+    (record { formula = f; is_formula = is_formula; new = found.new; exact = found.spent; derived = found.derived; resolves = found.resolves; none = found.no_empty })
 
 -- so what is answered is right
 pub answered_right : (x : Expanded) (f : Formula) (budget : ℕ) (liveness : Liveness) → IsLivenessFormula x f → IsAnswered f budget (IsLivenessAnswer x) liveness → IsRightLiveness x budget liveness
@@ -44,10 +44,10 @@ answer_in_range law x f budget (Sat assignment) liveness few few_vars found answ
     subst HasLivenessInRange (sym answers.is_not_live) tt
 answer_in_range law x f budget (Unsat log) liveness few few_vars found answers =
     let within = found.within in
-    subst HasLivenessInRange (sym answers.is_live) (law f log found.accepted.derived found.accepted.derives (omega (arith, few, within)) few_vars)
+    subst HasLivenessInRange (sym answers.is_live) (law f log found.accepted.derived found.accepted.resolves (omega (arith, few, within)) few_vars)
 answer_in_range law x f budget (Budget log) liveness few few_vars found answers =
     let spent = found.spent in
-    subst HasLivenessInRange (sym answers) (law f log found.derived found.derives (omega (arith, few, spent)) few_vars)
+    subst HasLivenessInRange (sym answers) (law f log found.derived found.resolves (omega (arith, few, spent)) few_vars)
 
 -- so has that of what is answered within a small budget
 pub answered_in_range : NumbersInRange → (x : Expanded) (f : Formula) (budget : ℕ) (liveness : Liveness) → length f.clauses ≤ 8000000 → budget ≤ 1000000 → IsLivenessFormula x f → IsAnswered f budget (IsLivenessAnswer x) liveness → HasLivenessInRange liveness

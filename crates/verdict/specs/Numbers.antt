@@ -4,7 +4,7 @@ use Rattle.clause_core.specs.declared.formula.Formula.{Formula}
 use Rattle.clause_core.specs.declared.literal.Lit.{Lit}
 use Rattle.refutation_log.specs.declared.refutation.Log.{Log}
 use Rattle.refutation_log.specs.LogText.{LogInRange}
-use Rattle.refutation_log.specs.Resolution.{DerivesAll}
+use Rattle.refutation_log.specs.Resolution.{LogResolves}
 use Rattle.verdict.specs.declared.outcome.Safety.{Safety}
 use Rattle.verdict.specs.declared.outcome.Safety.TheVariants.{Safe, Undecided, Unsafe}
 
@@ -19,5 +19,5 @@ HasNumbersInRange (Undecided log) = LogInRange log
 abbrev pub NumbersInRange : Type 0
 NumbersInRange =
     (f : Formula) (log : Log) (derived : List (List Lit)) →
-    DerivesAll f.clauses log.steps derived →
+    LogResolves f log derived →
     length f.clauses + length log.steps ≤ 2147483647 → f.vars ≤ 2147483647 → LogInRange log

@@ -11,7 +11,8 @@ use Rattle.enactment_model.specs.Legal.{IsLegalRun}
 use Rattle.enactment_model.specs.LeastConflict.{IsLeastConflict}
 use Rattle.enactment_model.specs.Safety.{SafeProtocol}
 use Rattle.refutation_log.specs.declared.refutation.Log.{Log}
-use Rattle.refutation_log.specs.Resolution.{Accepts, DerivesAll, IsNew}
+use Rattle.refutation_log.specs.Resolution.{Accepts, IsNew, LogResolves}
+use Rattle.sat_solver.specs.Outcome.{IsEmptyLog}
 use Rattle.witness_replay.specs.Witness.{key_of_ones}
 use Rattle.verdict.specs.declared.outcome.Safety.{Safety}
 use Rattle.verdict.specs.declared.outcome.Safety.TheVariants.{Safe, Undecided, Unsafe}
@@ -44,7 +45,7 @@ pub record IsUndecidedVerdict (IsFormulaOf : Formula → Type 0) (budget : ℕ) 
   pub new : IsNew formula log
   pub exact : length log.steps ≡ budget
   pub derived : List (List Lit)
-  pub derives : DerivesAll formula.clauses log.steps derived
+  pub resolves : LogResolves formula log derived
   pub none : ¬ Contains derived []
 
 -- the answer is right
@@ -52,3 +53,9 @@ abbrev pub IsRight : Expanded → ℕ → Safety → Type 0
 IsRight x budget (Safe log) = IsSafeVerdict x budget log
 IsRight x budget (Unsafe run param first second) = IsUnsafeVerdict x run param first second
 IsRight x budget (Undecided log) = IsUndecidedVerdict (IsSafetyFormula x) budget log
+
+-- the answer is that the protocol is safe, by a log without steps and removals
+abbrev pub IsSafeByEmptyLog : Safety → Type 0
+IsSafeByEmptyLog (Safe log) = IsEmptyLog log
+IsSafeByEmptyLog (Unsafe run param first second) = ⊥
+IsSafeByEmptyLog (Undecided log) = ⊥

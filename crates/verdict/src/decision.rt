@@ -1,6 +1,6 @@
-ghost use Rattle.std.specs.Prelude.{◌≡◌, ◌≤◌, [], IfOk};
+ghost use Rattle.std.specs.Prelude.{◌≤◌, IfOk};
 ghost use Rattle.enactment_model.specs.Producers.{HasOneProducer};
-ghost use Rattle.verdict.specs.declared.outcome.Safety.TheVariants.{Safe};
+ghost use Rattle.verdict.specs.Right.{IsSafeByEmptyLog};
 ghost use Rattle.verdict.specs.Verdicts.{AreInRange, AreRight};
 
 use super::liveness::decide_liveness;
@@ -17,8 +17,7 @@ pub fn verify(alloc: Global, a: &Admitted, budget: u32) -> Result<Verdicts, NoMe
     requires some { 1 ≤ budget }
     requires few { budget ≤ 2147483647 }
     ensures right { IfOk result (AreRight a.now budget) }
-    ensures single { HasOneProducer a.now →
-        IfOk result (λ v. v.safety ≡ Safe (record { steps = [] })) }
+    ensures single { HasOneProducer a.now → IfOk result (λ v. IsSafeByEmptyLog v.safety) }
     ensures numbers { budget ≤ 1000000 → IfOk result AreInRange }
 {
     let safety = decide_safety(alloc, a, budget)?;

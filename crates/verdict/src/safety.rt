@@ -1,12 +1,11 @@
-ghost use Rattle.std.specs.Prelude.{◌≡◌, ◌+◌, ◌^◌, ◌<◌, ◌≤◌, [], length, IfOk};
+ghost use Rattle.std.specs.Prelude.{◌+◌, ◌^◌, ◌<◌, ◌≤◌, length, IfOk};
 ghost use Rattle.clause_core.specs.Assignment.{valuation};
 ghost use Rattle.clause_core.specs.Clause.{SatisfiesAll};
 ghost use Rattle.clause_encoding.specs.Formula.{IsSafetyFormula, safety_clauses, safety_variables};
 ghost use Rattle.clause_encoding.specs.Variables.{variable_count};
 ghost use Rattle.enactment_model.specs.Producers.{HasOneProducer};
-ghost use Rattle.verdict.specs.declared.outcome.Safety.TheVariants.{Safe};
 ghost use Rattle.verdict.specs.Numbers.{HasNumbersInRange};
-ghost use Rattle.verdict.specs.Right.{IsRight};
+ghost use Rattle.verdict.specs.Right.{IsRight, IsSafeByEmptyLog};
 ghost use Rattle.verdict.specs.inner.Answer.{HasRefutingRun, IsAnswered, IsSafetyAnswer};
 
 use super::laws::numbers_in_range;
@@ -18,6 +17,7 @@ use clause_encoding::safety_formula;
 use enactment_model::producers;
 use first_occurrences::unsatisfiable_is_safe;
 use list_base::NoMemory;
+use refutation_log::{new_resolves, steps_are_counted};
 use sat_solver::Outcome;
 use std::alloc::Global;
 use witness_replay::run_of;
@@ -27,11 +27,14 @@ pub(crate) fn decide_safety(alloc: Global, a: &Admitted, budget: u32) -> Result<
     requires some { 1 ≤ budget }
     requires few { budget ≤ 2147483647 }
     ensures right { IfOk result (IsRight a.now budget) }
-    ensures single { HasOneProducer a.now → IfOk result (λ s. s ≡ Safe (record { steps = [] })) }
+    ensures single { HasOneProducer a.now → IfOk result IsSafeByEmptyLog }
     ensures numbers { budget ≤ 1000000 → IfOk result HasNumbersInRange }
 {
     // law: the numbers of a log that resolves are in range
     numbers_in_range();
+    // laws: a new log resolves, and one that resolves derives a clause for each step
+    new_resolves();
+    steps_are_counted();
     let formula = safety_formula(alloc, a)?;
     safety_by(alloc, a, &formula, budget)
 }

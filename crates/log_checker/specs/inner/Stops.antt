@@ -1,16 +1,19 @@
--- Why a link, a chain, a list of steps and a log stop, by the cause that is named.
+-- Why a link, a chain, an entry and a log stop, by the cause that is named.
 use Rattle.std.specs.Prelude.{◌≡◌, ℕ, List}
 use Rattle.clause_core.specs.declared.literal.Lit.{Lit}
 use Rattle.clause_core.specs.declared.formula.Formula.{Formula}
 use Rattle.clause_core.specs.Numbering.{Numbering}
 use Rattle.refutation_log.specs.declared.refutation.Log.{Log}
+use Rattle.refutation_log.specs.declared.refutation.Entry.{Entry}
+use Rattle.refutation_log.specs.Ledger.{Ledger}
 use Rattle.refutation_log.specs.declared.refutation.Link.{Link}
 use Rattle.refutation_log.specs.declared.refutation.Chain.{Chain}
 use Rattle.log_checker.specs.declared.refusal.ChainError.{ChainError}
 use Rattle.log_checker.specs.declared.refusal.ChainError.TheVariants.{NoClause, NoPivot, NoMemory}
 use Rattle.log_checker.specs.declared.refusal.Reject.{Reject}
 use Rattle.log_checker.specs.declared.refusal.Reject.TheVariants as rejects
-use Rattle.log_checker.specs.FirstFailure.{HasNoClause, CannotResolve, LacksClause, LacksPivot, FailsAt, LacksEmpty}
+use Rattle.log_checker.specs.ChainFailure.{HasNoClause, CannotResolve, LacksClause, LacksPivot}
+use Rattle.log_checker.specs.FirstFailure.{AtStep, AtDrop, FailsAt, FailsFirst}
 
 -- why the clause has no resolvent with that of the link of this number
 abbrev pub LinkStops : Numbering → List Lit → Link → ℕ → ChainError → Type 0
@@ -31,17 +34,23 @@ rejection step NoClause = rejects.NoClause step
 rejection step (NoPivot link) = rejects.NoPivot step link
 rejection step NoMemory = rejects.NoMemory
 
--- why the steps do not all derive a clause
-abbrev pub StepsStop : List (List Lit) → List Chain → Reject → Type 0
-StepsStop formula steps (rejects.NoClause step) = FailsAt formula steps step LacksClause
-StepsStop formula steps (rejects.NoPivot step link) = FailsAt formula steps step (LacksPivot link)
-StepsStop formula steps rejects.NotEmpty = ⊥
-StepsStop formula steps rejects.NoMemory = Unit {0}
+-- why the entry stops after `done` steps
+abbrev pub EntryStops : ℕ → Ledger → Entry → Reject → Type 0
+EntryStops done ledger entry (rejects.NoClause step) = AtStep step LacksClause done ledger entry
+EntryStops done ledger entry (rejects.NoPivot step link) =
+    AtStep step (LacksPivot link) done ledger entry
+EntryStops done ledger entry (rejects.NoDrop after item) = AtDrop after item done ledger entry
+EntryStops done ledger entry rejects.NotEmpty = ⊥
+EntryStops done ledger entry rejects.NoMemory = Unit {0}
+
+-- why the entries do not all run
+abbrev pub EntriesStop : List (List Lit) → List Entry → Reject → Type 0
+EntriesStop formula log rejects.NotEmpty = ⊥
+EntriesStop formula log rejects.NoMemory = Unit {0}
+EntriesStop formula log reject =
+    FailsAt formula log (λ done ledger entry. EntryStops done ledger entry reject)
 
 -- why the log is not accepted
 abbrev pub LogStops : Formula → Log → Reject → Type 0
-LogStops f log rejects.NotEmpty = LacksEmpty f.clauses log.steps
-LogStops f log (rejects.NoClause step) = StepsStop f.clauses log.steps (rejects.NoClause step)
-LogStops f log (rejects.NoPivot step link) =
-    StepsStop f.clauses log.steps (rejects.NoPivot step link)
 LogStops f log rejects.NoMemory = Unit {0}
+LogStops f log reject = FailsFirst f log reject

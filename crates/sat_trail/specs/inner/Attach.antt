@@ -6,7 +6,7 @@ use Rattle.clause_core.specs.Propagation.{MakesFalse, OthersFalse}
 use Rattle.sat_trail.specs.declared.entry.Entry.{Entry}
 use Rattle.sat_trail.specs.declared.watch.Cell.{Cell}
 use Rattle.sat_trail.specs.Entry.{entry_of, values_of}
-use Rattle.sat_trail.specs.State.{live}
+use Rattle.clause_core.specs.Numbering.{live}
 use Rattle.sat_trail.specs.inner.Excuse.{AreWatched}
 use Rattle.sat_trail.specs.inner.Watches.{cell_of, Watches, AreLinked}
 

@@ -1,11 +1,10 @@
 -- What the values of the set literals say of one clause.
 use Rattle.std.specs.Prelude.{◌≡◌, ℕ, Bool, Option, Some, List, Contains}
 use Rattle.clause_core.specs.declared.literal.Lit.{Lit}
-use Rattle.clause_core.specs.Numbering.{HasNumber}
+use Rattle.clause_core.specs.Numbering.{HasNumber, live}
 use Rattle.clause_core.specs.Propagation.{OthersFalse, Falsifies, LeavesOnly}
 use Rattle.sat_trail.specs.declared.examination.Finding.{Finding}
 use Rattle.sat_trail.specs.declared.examination.Finding.TheVariants.{Settled, Forces, Falsified}
-use Rattle.sat_trail.specs.State.{live}
 
 -- if the known values make all literals but one false, that one is true by now
 pub record IsSettled (known now : ℕ → Option Bool) (clause : List Lit) : Type 0 where

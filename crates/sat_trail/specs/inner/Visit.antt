@@ -3,7 +3,7 @@ use Rattle.std.specs.Prelude.{◌≡◌, ◌≢◌, ℕ, ◌+◌, ◌*◌, ◌<�
 use Rattle.std.specs.Prelude.{Contains, slice_get}
 use Rattle.clause_core.specs.declared.literal.Lit.{Lit}
 use Rattle.clause_core.specs.Literal.{negated}
-use Rattle.clause_core.specs.Numbering.{HasNumber}
+use Rattle.clause_core.specs.Numbering.{HasNumber, live}
 use Rattle.clause_core.specs.Propagation.{OthersFalse}
 use Rattle.sat_trail.specs.declared.entry.Entry.{Entry}
 use Rattle.sat_trail.specs.declared.propagation.Cursor.{Cursor}
@@ -11,7 +11,6 @@ use Rattle.sat_trail.specs.declared.propagation.Visit.{Visit}
 use Rattle.sat_trail.specs.declared.propagation.Visit.TheVariants.{Stays, Moves, Fails}
 use Rattle.sat_trail.specs.declared.watch.Cell.{Cell}
 use Rattle.sat_trail.specs.Entry.{values_of}
-use Rattle.sat_trail.specs.State.{live}
 use Rattle.sat_trail.specs.inner.Excuse.{IsTrueBy}
 use Rattle.sat_trail.specs.inner.Propagation.{CanPropagate, HasWatches}
 use Rattle.sat_trail.specs.inner.Storage.{Assigned}

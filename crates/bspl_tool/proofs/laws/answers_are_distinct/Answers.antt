@@ -33,5 +33,9 @@ returns c =
           exclusive = c.reads_once-2.ensures.exclusive;
           reports = c.replay_is_once.ensures;
         };
+        agents = record {
+          refusals = c.reads_once-3.ensures.refusal;
+          exclusive = c.reads_once-3.ensures.exclusive;
+        };
       };
     } in record { usage = usage_law; rejection = rejection_law each; refused = refusal_law each }

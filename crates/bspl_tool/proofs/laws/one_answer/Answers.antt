@@ -32,5 +32,9 @@ returns c = answer_law (record {
       exclusive = c.reads_once-2.ensures.exclusive;
       reports = c.replay_is_once.ensures;
     };
+    agents = record {
+      refusals = c.reads_once-3.ensures.refusal;
+      exclusive = c.reads_once-3.ensures.exclusive;
+    };
   };
 }) c.prints_once.ensures

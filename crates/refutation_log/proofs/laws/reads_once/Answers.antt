@@ -1,10 +1,9 @@
 -- A text has one log or one refusal.
-use Rattle.std.proofs.Common.{sym, ◌∙◌}
 use Rattle.refutation_log.proofs.OneAnswer.{no_fault, one_refusal, same_logs}
 use Rattle.refutation_log.proofs.laws.reads_once.Goals as goal
 
 pub returns-clause-logs : goal.returns-clause-logs
-returns-clause-logs c = λ text kind other log another one again. same_logs kind other log another (sym one.text ∙ again.text)
+returns-clause-logs c = λ text kind other log another one again. same_logs text kind other log another one again
 
 pub returns-clause-refusals : goal.returns-clause-refusals
 returns-clause-refusals c = λ text refusal other some any first second. one_refusal text refusal other first second some any

@@ -1,9 +1,14 @@
 -- What has been written of a log.
-use Rattle.std.proofs.Common.{◌≡◌, ◌++◌, take}
+use Rattle.std.proofs.Common.{◌≡◌, ◌++◌, length}
 use Rattle.std.specs.List.{flat_map}
-use Rattle.refutation_log.specs.LogText.{header_line, step_line}
+use Rattle.refutation_log.specs.Entries.{entries}
+use Rattle.refutation_log.specs.LogText.{header_line, entry_line, least_version}
 use Rattle.refutation_log.proofs.writer.write_log.Given as goal
 
--- the steps so far are written
-abbrev pub invariant-loop-step : goal.invariant-loop-step
-invariant-loop-step l = l.text ≡ header_line l.fn.kind ++ flat_map step_line (take l.step-index l.step-items)
+-- the lines of the entries that are left are missing
+abbrev pub invariant-loop-entry : goal.invariant-loop-entry
+invariant-loop-entry l = l.text ++ flat_map entry_line l.entries ≡ header_line (least_version l.log.removals) l.fn.kind ++ flat_map entry_line (entries l.log)
+
+-- the entries that are left
+abbrev pub decreases-loop-entry : goal.decreases-loop-entry
+decreases-loop-entry l = length l.entries

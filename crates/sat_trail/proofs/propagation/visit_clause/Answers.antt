@@ -1,6 +1,6 @@
 -- The other watched literal is true, or the clause is not live, or another literal is not false, or
 -- the other one is the last.
-use Rattle.sat_trail.specs.State.{live}
+use Rattle.clause_core.specs.Numbering.{live}
 use Rattle.sat_trail.proofs.GrowthLemmas.{HasWatches-extends, CanPropagate-once, number-last}
 use Rattle.sat_trail.proofs.MovedLemmas.{AreWatched-moved, AreWatched-left}
 use Rattle.sat_trail.proofs.NumberLemmas.{removed-none}

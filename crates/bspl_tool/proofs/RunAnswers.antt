@@ -1,0 +1,58 @@
+-- What `run` answers, from what is read, verified and played.
+use Rattle.std.proofs.Common.{◌≡◌, ◌≢◌, ℕ, Bool, List, [], refl, sym, subst, append-nil}
+use Rattle.adapter.specs.Desk.{DeskState}
+use Rattle.agent_scripts.specs.declared.refusal.ScriptRefusal.{ScriptRefusal}
+use Rattle.agent_scripts.specs.declared.refusal.ScriptRefusal.TheVariants.{Form, NoMemory, Unknown}
+use Rattle.agent_scripts.specs.Job.{Job}
+use Rattle.agent_scripts.specs.Refusal.{IsRefusedScript}
+use Rattle.agent_scripts.specs.Script.{Script}
+use Rattle.bspl_types.specs.declared.event.Event.{Event}
+use Rattle.bspl_types.specs.declared.expanded.Expanded.{Expanded}
+use Rattle.refutation_log.specs.declared.refutation.Log.{Log}
+use Rattle.report.specs.WorldText.{IsWorldText}
+use Rattle.stamped_history.specs.Explained.{AreLocal}
+use Rattle.verdict.specs.declared.outcome.Safety.{Safety}
+use Rattle.verdict.specs.declared.outcome.Safety.TheVariants.{Safe, Undecided, Unsafe}
+use Rattle.verdict.specs.declared.outcome.Verdicts.{Verdicts}
+use Rattle.world_run.specs.Finished.{IsFinished}
+use Rattle.world_run.specs.World.{HasHistories, histories_of}
+use Rattle.bspl_tool.specs.declared.rejection.Code.TheVariants.{S}
+use Rattle.bspl_tool.specs.declared.rejection.Field.TheVariants as field
+use Rattle.bspl_tool.specs.declared.status.Status.{Status}
+use Rattle.bspl_tool.specs.Rejection.{script_rejection, with_one}
+use Rattle.bspl_tool.specs.RunAnswer.{AgentsText, IsJobAnswer, IsPlayedText, IsRunRefused, bad_script}
+use Rattle.bspl_tool.specs.VerifyAnswer.{IsVerdictAnswer}
+use Rattle.bspl_tool.specs.inner.Error.{RejectsFor, error_for}
+
+-- a text that is no agents' is refused at its first bad line
+pub script_refused : (threads : ℕ) (x : Expanded) (part : List ℕ) (refusal : ScriptRefusal) → (refusal ≢ NoMemory → IsRefusedScript x part refusal) → RejectsFor (IsRunRefused threads x part) (error_for (script_rejection refusal))
+script_refused threads x part (Form number) refused =
+    bad_script (with_one (S 1) (field.Number number)) (record { refusal = Form number; refused = refused (λ is. absurd (cc)); rejection_is = refl })
+script_refused threads x part (Unknown number) refused =
+    bad_script (with_one (S 2) (field.Number number)) (record { refusal = Unknown number; refused = refused (λ is. absurd (cc)); rejection_is = refl })
+script_refused threads x part NoMemory refused = tt
+
+-- the text that reports on a world which has come to its end
+pub finished_text : (job : Job) (x : Expanded) (script : Script) (desks : List DeskState) (text : List ℕ) → x ≡ job.protocol → script ≡ job.script → IsFinished job desks → ((run : List Event) → AreLocal x (histories_of desks) → HasHistories x desks run → IsWorldText x script run text) → IsPlayedText job text
+finished_text job x script desks text same same_script finished reports =
+    let local = subst (λ y. AreLocal y (histories_of desks)) (sym same) finished.local in
+    let histories = subst (λ y. HasHistories y desks finished.run) (sym same) finished.played_out.run_is.histories_kept in
+    let text_is = subst (λ y. IsWorldText y script finished.run text) same (reports finished.run local histories) in
+    record { desks = desks; finished = finished; text_is = subst (λ s. IsWorldText job.protocol s finished.run text) same_script text_is }
+
+-- agents do not play a protocol that is not found safe
+nothing_played : (job : Job) (safety : Safety) → ((log : Log) → safety ≢ Safe log) → AgentsText job safety []
+nothing_played job (Safe log) other = absurd (other log refl)
+nothing_played job (Unsafe run param first second) other = refl
+nothing_played job (Undecided log) other = refl
+
+-- so the verdicts are the answer
+pub verdicts_alone : (brief : Bool) (budget : ℕ) (job : Job) (v : Verdicts) (out : List ℕ) (status : Status) → IsVerdictAnswer brief budget job.protocol v out status → ((log : Log) → v.safety ≢ Safe log) → IsJobAnswer brief budget job out status
+verdicts_alone brief budget job v out status verified other = record {
+  verdicts = v;
+  verdict_text = out;
+  verified = verified;
+  agents_text = [];
+  played = nothing_played job v.safety other;
+  text = sym (append-nil out);
+}

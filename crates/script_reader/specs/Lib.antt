@@ -1,0 +1,2 @@
+-- What holds of agents' texts.
+pub mod Laws
