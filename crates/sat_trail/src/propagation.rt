@@ -166,7 +166,7 @@ fn visit_clause(
     if !store.is_live(at.number) {
         return Visit::Moves(lists.unlink(set.vars(), at.lit, at.before, at.number));
     }
-    match not_false(set, store.clause(at.number).lits(), kept) {
+    match not_false(set, store.lits(at.number), kept) {
         Some(to) => Visit::Moves(lists.move_watch(set.vars(), at.lit, at.before, at.number, to)),
         None => force(store, set, kept, at.number, level),
     }

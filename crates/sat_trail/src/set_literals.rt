@@ -1,4 +1,4 @@
-ghost use Rattle.std.specs.Prelude.{◌≡◌, ◌-◌, ◌+◌, ◌<◌, ◌≤◌, ◌++◌, [], ◌∷◌, None, Some, length};
+ghost use Rattle.std.specs.Prelude.{◌≡◌, ◌-◌, ◌+◌, ◌^◌, ◌<◌, ◌≤◌, ◌++◌, [], ◌∷◌, None, Some, length};
 ghost use Rattle.std.specs.Prelude.{take, IfOk, slice_get, IsTrue, IfSome, ◌↔◌};
 ghost use Rattle.clause_core.specs.Propagation.{MakesFalse};
 ghost use Rattle.sat_trail.specs.Entry.{entry_of, values_of, last_level};
@@ -38,6 +38,7 @@ impl Model for Entries {
 impl Entries {
     /// No literal is set.
     pub fn new(alloc: Global, vars: u32) -> Result<Entries, NoMemory>
+        requires { vars < 2 ^ 31 }
         ensures { IfOk result (λ e. e ≡ record { vars = vars; entries = [] }) }
     {
         let blank = Entry {
@@ -58,7 +59,8 @@ impl Entries {
 
     /// The number of variables.
     pub fn vars(&self) -> u32
-        ensures { result ≡ self.now.vars }
+        ensures same { result ≡ self.now.vars }
+        ensures few { result < 2 ^ 31 }
     {
         self.cells.len() as u32
     }

@@ -8,6 +8,7 @@ ghost use Rattle.sat_trail.specs.inner.Attach.{IsOpenAt, HasOpenTwo, MayWatch, A
 ghost use Rattle.sat_trail.specs.inner.Attach.{IsAttached};
 ghost use Rattle.sat_trail.specs.inner.Watches.{blank};
 
+use super::packed_lit::PackedLit;
 use super::set_literals::Entries;
 use super::watch_lists::WatchLists;
 use clause_core::{Clause, Lit};
@@ -24,16 +25,17 @@ fn may_take(set: &Entries, lit: Lit, kept: Lit) -> bool
 
 /// A literal of the clause that is not false, other than this one. If there is none, the others
 /// are all false.
-pub fn not_false(set: &Entries, clause: &[Lit], kept: Lit) -> Option<Lit>
+pub fn not_false(set: &Entries, clause: &[PackedLit], kept: Lit) -> Option<Lit>
     requires exist { VariablesExist set.now.vars clause.now }
     ensures among { IfSome result (Contains clause.now) }
     ensures differs { IfSome result (λ l. l ≢ kept) }
     ensures found { IfSome result (λ l. ¬ MakesFalse (values_of set.now.entries) l) }
     ensures none { IfNone result (OthersFalse (values_of set.now.entries) clause.now kept) }
 {
-    for lit in clause {
-        if may_take(set, *lit, kept) {
-            return Some(*lit);
+    for packed in clause {
+        let lit = packed.lit();
+        if may_take(set, lit, kept) {
+            return Some(lit);
         }
     }
     None
