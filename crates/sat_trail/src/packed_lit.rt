@@ -1,4 +1,4 @@
-ghost use Rattle.std.specs.Prelude.{◌≡◌, ◌^◌, ◌<◌};
+ghost use Rattle.std.specs.Prelude.{◌≡◌, ◌^◌, ◌<◌, ◌↔◌, IsTrue};
 ghost use Rattle.clause_core.specs.Literal.{rank};
 
 use clause_core::Lit;
@@ -51,5 +51,12 @@ impl PackedLit {
         ensures { result ≡ rank self }
     {
         self.number as usize
+    }
+
+    /// Whether both are one literal.
+    pub fn is(self, other: PackedLit) -> bool
+        ensures { IsTrue result ↔ (self ≡ other) }
+    {
+        self.number == other.number
     }
 }

@@ -23,19 +23,28 @@ fn may_take(set: &Entries, lit: Lit, kept: Lit) -> bool
     lit != kept && !set.is_false(lit)
 }
 
+/// Whether the literal is another one and not false.
+fn may_move(set: &Entries, lit: PackedLit, kept: PackedLit) -> bool
+    requires from_one { 0 < lit.var }
+    requires exists { lit.var ≤ set.now.vars }
+    ensures yes { OnTrue result ((lit ≢ kept) × (¬ MakesFalse (values_of set.now.entries) lit)) }
+    ensures no { OnFalse result (lit ≢ kept → MakesFalse (values_of set.now.entries) lit) }
+{
+    !lit.is(kept) && !set.is_false(lit.lit())
+}
+
 /// A literal of the clause that is not false, other than this one. If there is none, the others
 /// are all false.
-pub fn not_false(set: &Entries, clause: &[PackedLit], kept: Lit) -> Option<Lit>
+pub fn not_false(set: &Entries, clause: &[PackedLit], kept: PackedLit) -> Option<PackedLit>
     requires exist { VariablesExist set.now.vars clause.now }
     ensures among { IfSome result (Contains clause.now) }
     ensures differs { IfSome result (λ l. l ≢ kept) }
     ensures found { IfSome result (λ l. ¬ MakesFalse (values_of set.now.entries) l) }
     ensures none { IfNone result (OthersFalse (values_of set.now.entries) clause.now kept) }
 {
-    for packed in clause {
-        let lit = packed.lit();
-        if may_take(set, lit, kept) {
-            return Some(lit);
+    for lit in clause {
+        if may_move(set, *lit, kept) {
+            return Some(*lit);
         }
     }
     None
