@@ -18,8 +18,8 @@ impl Watch {
     }
 }
 
-/// Both watches of a clause, in 16 bytes. What a walk along one of them wants of the other lies beside
-/// it.
+/// Both watches of a clause, in 16 bytes. What a walk along one of them wants of the other lies
+/// beside it.
 #[derive(Clone, Copy, Debug)]
 pub struct Cell {
     pub one: Watch,
