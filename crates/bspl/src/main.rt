@@ -18,9 +18,9 @@ fn main(rt: HostRuntime) -> ExitCode {
     ExitCode::from(status.number())
 }
 
-/// The call for the arguments over a reader and a writer, which come back as the source and the sink
-/// of the call, with their counts of faults. If the arguments could not be had, nothing is read or
-/// written.
+/// The call for the arguments over a reader and a writer, which come back as the source and the
+/// sink of the call, with their counts of faults. If the arguments could not be had, nothing is
+/// read or written.
 fn answer<R: Read + Drop, W: Write + Drop>(
     alloc: Global,
     args: io::Result<Vec<String>>,

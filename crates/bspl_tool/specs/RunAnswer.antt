@@ -17,8 +17,8 @@ use Rattle.bspl_tool.specs.declared.status.Status.{Status}
 use Rattle.bspl_tool.specs.Rejection.{not_built, script_rejection}
 use Rattle.bspl_tool.specs.VerifyAnswer.{IsVerdictAnswer}
 
--- the text of a world whose histories are local and explained, and whose merged run is legal, played
--- by the job's agents and settled
+-- the text of a world whose histories are local and explained, and whose merged run is legal,
+-- played by the job's agents and settled
 pub record IsPlayedText (job : Job) (text : List ℕ) : Type 0 where
   pub desks : List DeskState
   pub finished : IsFinished job desks

@@ -44,8 +44,8 @@ pub fn texts_are_judged_once()
 }
 
 /// A law: `check`, `replay` and `expand` have one output and one status at most. `verify` and `run`
-/// may have several: the search may find another run, log or number of steps, and the answer with it
-/// is right too.
+/// may have several: the search may find another run, log or number of steps, and the answer with
+/// it is right too.
 pub fn one_answer()
     ensures { OneAnswer }
 {

@@ -16,8 +16,8 @@ use std::alloc::Global;
 use verdict::Safety;
 use world_run::run_one;
 
-/// Answers `run` on the text of agents. Threads are refused before the protocol is verified, whatever
-/// its verdicts would be.
+/// Answers `run` on the text of agents. Threads are refused before the protocol is verified,
+/// whatever its verdicts would be.
 pub fn run(
     alloc: Global,
     brief: bool,
@@ -39,7 +39,8 @@ pub fn run(
     Ok(job_reply(alloc, brief, conflicts, &job)?)
 }
 
-/// The reply that gives the verdicts on the job's protocol. Its agents play only if it is found safe.
+/// The reply that gives the verdicts on the job's protocol. Its agents play only if it is found
+/// safe.
 fn job_reply(alloc: Global, brief: bool, conflicts: u32, job: &Job) -> Result<Reply, NoMemory>
     requires { IsBudget conflicts }
     ensures { IfOk result (λ reply.

@@ -1,5 +1,6 @@
 mod EntryLemmas
 mod NumberLemmas
+mod FlatLemmas
 mod StoreLemmas
 mod LiteralLemmas
 mod CellLemmas

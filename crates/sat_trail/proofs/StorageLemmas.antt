@@ -1,7 +1,7 @@
 -- What the cells keep when an entry is set or taken out.
-use Rattle.std.proofs.Common.{option_map, ◌≡◌, ◌≢◌, ℕ, zero, suc, ◌+◌, ◌-◌, ◌<◌, ◌≤◌, ◌↔◌, Bool, true, false, not, IsTrue, Option, Some, None, List, [], ◌∷◌, ◌++◌, inl, inr, length, take, get_or, set, sym, ap, refl, ◌∙◌, subst, append_assoc, arith, is_some, AllPairs, Contains, cond, length-set, get_or-set_same, get_or-set_other}
+use Rattle.std.proofs.Common.{option_map, ◌≡◌, ◌≢◌, ℕ, zero, suc, ◌+◌, ◌-◌, ◌<◌, ◌≤◌, Bool, true, false, Option, Some, None, List, [], ◌∷◌, ◌++◌, inl, inr, length, take, get_or, set, sym, ap, refl, ◌∙◌, subst, append_assoc, arith, is_some, AllPairs, Contains, cond, length-set, get_or-set_same, get_or-set_other}
 use Rattle.std.specs.List.{count_by}
-use Rattle.std.proofs.lemmas.Bool.{cases_eq, false≢true}
+use Rattle.std.proofs.lemmas.Bool.{cases_eq}
 use Rattle.std.proofs.lemmas.List.{get_or_append_left, get_or_push, length_push, length-take-le, take_more, take_more_set, take_all, get_or_default}
 use Rattle.std.proofs.lemmas.List.Elements.{All-push, All-cons, All-contains, Contains-push}
 use Rattle.std.proofs.lemmas.List.Quantifiers.{all_pairs_push}
@@ -137,20 +137,6 @@ value-stored slots len cells values v stored exists = elim (cases_eq v 0) [
 pub value-read : (slots : List Entry) (len : ℕ) (cells : List (Option Entry)) (values : List Value) (v : ℕ) (w : Value) → IsStored slots len cells values → v ≤ length cells → w ≡ get_or values v w → seen w ≡ values_of (take len slots) v
 value-read slots len cells values v w stored exists read =
     ap seen (read ∙ get_or_default values v w Unset (omega (arith, exists, stored.valued.many))) ∙ value-stored slots len cells values v stored exists
-
--- a literal whose variable has no value is not true
-pub true-unset : (o : Option Bool) (b : Bool) → None ≡ o → IsTrue false ↔ (o ≡ Some b)
-true-unset o b is = (λ yes. absurd (false≢true yes), λ holds. absurd (let clash : None ≡ Some b = is ∙ holds in cc))
-
--- a literal whose variable is false is true if it is negative
-pub true-false : (o : Option Bool) (b : Bool) → Some false ≡ o → IsTrue (not b) ↔ (o ≡ Some b)
-true-false o true is = (λ yes. absurd (false≢true yes), λ holds. absurd (let clash : Some false ≡ Some true = is ∙ holds in cc))
-true-false o false is = (λ yes. sym is, λ holds. refl)
-
--- a literal whose variable is true is true if it is positive
-pub true-true : (o : Option Bool) (b : Bool) → Some true ≡ o → IsTrue b ↔ (o ≡ Some b)
-true-true o true is = (λ yes. sym is, λ holds. refl)
-true-true o false is = (λ yes. absurd (false≢true yes), λ holds. absurd (let clash : Some true ≡ Some false = is ∙ holds in cc))
 
 -- what is stored leaves room while a variable has no value
 pub HasRoom-stored : (slots : List Entry) (len : ℕ) (cells : List (Option Entry)) (values : List Value) → IsStored slots len cells values → HasRoom (record { vars = length cells; entries = take len slots })

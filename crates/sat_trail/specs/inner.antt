@@ -1,5 +1,7 @@
 pub mod Growth
 pub mod Examination
+pub mod Packed
+pub mod Flat
 pub mod Storage
 pub mod Watches
 pub mod Walk

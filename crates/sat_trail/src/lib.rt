@@ -4,8 +4,11 @@
 mod clause_store;
 mod entry;
 mod examination;
+mod flat_clauses;
+mod packed_lit;
 mod propagation;
 mod set_literals;
+mod span;
 mod trail;
 mod value;
 mod watch;

@@ -14,10 +14,10 @@ ghost use Rattle.sat_trail.specs.inner.Watches.{AreLinked};
 use super::clause_store::ClauseStore;
 use super::entry::Entry;
 use super::examination::{Finding, examine};
+use super::packed_lit::PackedLit;
 use super::set_literals::Entries;
 use super::watch_choice::not_false;
 use super::watch_lists::WatchLists;
-use clause_core::Lit;
 
 /// Where a walk along the list of a false literal has come to.
 #[derive(Clone, Copy)]
@@ -25,7 +25,7 @@ struct Cursor {
     /// The position of the entry that makes the literal false.
     position: usize,
     /// The literal whose list it is.
-    lit: Lit,
+    lit: PackedLit,
     /// The number of the clause before, or 0.
     before: u32,
     /// The number of the clause here, or 0 at the end.
@@ -34,7 +34,7 @@ struct Cursor {
 
 impl Cursor {
     /// The place of a clause in the list of the literal.
-    fn new(position: usize, lit: Lit, before: u32, number: u32) -> Cursor
+    fn new(position: usize, lit: PackedLit, before: u32, number: u32) -> Cursor
         ensures { let at : Place = record {
           position = position;
           lit = lit;
@@ -118,7 +118,7 @@ pub fn examine_new(
 }
 
 /// Sets the only literal of the clause that is left, unless it is false too.
-fn force(store: &ClauseStore, set: &mut Entries, lit: Lit, number: u32, level: u32) -> Visit
+fn force(store: &ClauseStore, set: &mut Entries, lit: PackedLit, number: u32, level: u32) -> Visit
     requires fits { CanPropagate store.now set.old level }
     requires left { IsLastLeft store.now set.old.entries number lit }
     requires untrue { values_of set.old.entries lit.var ≢ Some lit.positive }
@@ -128,11 +128,12 @@ fn force(store: &ClauseStore, set: &mut Entries, lit: Lit, number: u32, level: u
     ensures fails { result ≡ Visit.Fails →
         IsFalsified (live store.now) (values_of set.new.entries) number }
 {
-    if set.is_false(lit) {
+    let last = lit.lit();
+    if set.is_false(last) {
         return Visit::Fails;
     }
     set.push(Entry {
-        lit,
+        lit: last,
         level,
         reason: Some(number),
     });
@@ -160,13 +161,13 @@ fn visit_clause(
         IsFalsified (live store.now) (values_of set.new.entries) at.number }
 {
     let kept = lists.watches(at.number, at.lit).other.lit;
-    if set.is_true(kept) {
+    if set.is_true(kept.lit()) {
         return Visit::Stays;
     }
     if !store.is_live(at.number) {
         return Visit::Moves(lists.unlink(set.vars(), at.lit, at.before, at.number));
     }
-    match not_false(set, store.clause(at.number).lits(), kept) {
+    match not_false(set, store.lits(at.number), kept) {
         Some(to) => Visit::Moves(lists.move_watch(set.vars(), at.lit, at.before, at.number, to)),
         None => force(store, set, kept, at.number, level),
     }
@@ -192,7 +193,7 @@ fn propagate_entry(
     ensures falsified { IfSome result
         (IsFalsified (live store.now) (values_of set.new.entries)) }
 {
-    let lit = set.at(position).lit.negation();
+    let lit = PackedLit::of(set.at(position).lit.negation());
     let mut before = 0;
     let mut number = lists.first(lit);
     for _passed in 0..lists.cells.len() {

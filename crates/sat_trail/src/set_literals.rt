@@ -1,4 +1,4 @@
-ghost use Rattle.std.specs.Prelude.{◌≡◌, ◌-◌, ◌+◌, ◌<◌, ◌≤◌, ◌++◌, [], ◌∷◌, None, Some, length};
+ghost use Rattle.std.specs.Prelude.{◌≡◌, ◌-◌, ◌+◌, ◌^◌, ◌<◌, ◌≤◌, ◌++◌, [], ◌∷◌, None, Some, length};
 ghost use Rattle.std.specs.Prelude.{take, IfOk, slice_get, IsTrue, IfSome, ◌↔◌};
 ghost use Rattle.clause_core.specs.Propagation.{MakesFalse};
 ghost use Rattle.sat_trail.specs.Entry.{entry_of, values_of, last_level};
@@ -38,6 +38,7 @@ impl Model for Entries {
 impl Entries {
     /// No literal is set.
     pub fn new(alloc: Global, vars: u32) -> Result<Entries, NoMemory>
+        requires { vars < 2 ^ 31 }
         ensures { IfOk result (λ e. e ≡ record { vars = vars; entries = [] }) }
     {
         let blank = Entry {
@@ -58,7 +59,8 @@ impl Entries {
 
     /// The number of variables.
     pub fn vars(&self) -> u32
-        ensures { result ≡ self.now.vars }
+        ensures same { result ≡ self.now.vars }
+        ensures few { result < 2 ^ 31 }
     {
         self.cells.len() as u32
     }
@@ -78,6 +80,7 @@ impl Entries {
         ensures entry { slice_get self.now.entries i ≡ Some result }
         ensures from_one { 0 < result.lit.var }
         ensures exists { result.lit.var ≤ self.now.vars }
+        ensures few { result.lit.var < 2 ^ 31 }
     {
         self.slots[i]
     }
@@ -105,11 +108,7 @@ impl Entries {
         requires { lit.var ≤ self.now.vars }
         ensures { IsTrue result ↔ (values_of self.now.entries lit.var ≡ Some lit.positive) }
     {
-        match self.values[lit.var as usize] {
-            Value::Unset => false,
-            Value::False => !lit.positive,
-            Value::True => lit.positive,
-        }
+        holds(self.values[lit.var as usize], lit.positive)
     }
 
     /// Whether the literal is false.
@@ -118,11 +117,7 @@ impl Entries {
         requires exists { lit.var ≤ self.now.vars }
         ensures { IsTrue result ↔ MakesFalse (values_of self.now.entries) lit }
     {
-        match self.values[lit.var as usize] {
-            Value::Unset => false,
-            Value::False => lit.positive,
-            Value::True => !lit.positive,
-        }
+        holds(self.values[lit.var as usize], !lit.positive)
     }
 
     /// Whether the variable has no value, or was set at the level.
@@ -148,7 +143,7 @@ impl Entries {
         self.slots[self.len] = entry;
         self.len += 1;
         self.cells[entry.lit.var as usize - 1] = Some(entry);
-        self.values[entry.lit.var as usize] = value_of(entry.lit);
+        self.values[entry.lit.var as usize] = value_of(entry.lit.positive);
     }
 
     /// Takes the last entry out.
@@ -184,13 +179,16 @@ impl Entries {
     }
 }
 
-/// The value of a variable whose literal is true.
-fn value_of(lit: Lit) -> Value
-    ensures { seen result ≡ Some lit.positive }
+/// The value of a variable with a true literal of this sign.
+fn value_of(positive: bool) -> Value
+    ensures { seen result ≡ Some positive }
 {
-    if lit.positive {
-        Value::True
-    } else {
-        Value::False
-    }
+    if positive { Value::True } else { Value::False }
+}
+
+/// Whether a literal of this sign is true if its variable has the value.
+fn holds(value: Value, positive: bool) -> bool
+    ensures { IsTrue result ↔ (seen value ≡ Some positive) }
+{
+    value == value_of(positive)
 }

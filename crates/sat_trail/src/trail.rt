@@ -18,6 +18,10 @@ use list_base::{NoMemory, TryClone};
 use std::alloc::Global;
 use std::marker::Model;
 
+/// Literals have numbers of four bytes. The tables of more variables would take over 100 GB, so
+/// there is no trail over more.
+const MOST_VARS: u32 = 2_147_483_647;
+
 /// Set literals over numbered clauses, of which each watches two literals (Moskewicz et al. 2001).
 /// The list of the set literals is also the queue of unit propagation: its first `head` entries are
 /// propagated, and the first `examined` clauses were examined since they were added. A clause that
@@ -53,6 +57,9 @@ impl<'f> Trail<'f> {
         ensures start { IfOk result (IsStart f.now) }
         ensures sound { IfOk result IsTrail }
     {
+        if f.vars > MOST_VARS {
+            return Err(NoMemory);
+        }
         let given = f.clauses.as_slice();
         let store = ClauseStore::new(alloc, given)?;
         let set = Entries::new(alloc, f.vars)?;
@@ -79,10 +86,11 @@ impl<'f> Trail<'f> {
         ensures sound { IsTrail self.new }
     {
         let number = self.store.len() as u32 + 1;
+        let vars = self.set.vars();
         let watched = choose(&self.set, c.lits(), self.level);
         self.lists.reserve(number)?;
         self.store.push(c)?;
-        self.lists.attach(self.set.vars(), number, watched);
+        self.lists.attach(vars, number, watched);
         self.ready = false;
         Ok(number)
     }

@@ -1,5 +1,5 @@
 /// The value of a variable, in one byte.
-#[derive(Clone, Copy, Debug)]
+#[derive(Clone, Copy, Debug, PartialEq, Eq)]
 pub enum Value {
     /// It has none.
     Unset,

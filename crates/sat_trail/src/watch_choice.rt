@@ -8,6 +8,7 @@ ghost use Rattle.sat_trail.specs.inner.Attach.{IsOpenAt, HasOpenTwo, MayWatch, A
 ghost use Rattle.sat_trail.specs.inner.Attach.{IsAttached};
 ghost use Rattle.sat_trail.specs.inner.Watches.{blank};
 
+use super::packed_lit::PackedLit;
 use super::set_literals::Entries;
 use super::watch_lists::WatchLists;
 use clause_core::{Clause, Lit};
@@ -22,9 +23,19 @@ fn may_take(set: &Entries, lit: Lit, kept: Lit) -> bool
     lit != kept && !set.is_false(lit)
 }
 
+/// Whether the literal is another one and not false.
+fn may_move(set: &Entries, lit: PackedLit, kept: PackedLit) -> bool
+    requires from_one { 0 < lit.var }
+    requires exists { lit.var ≤ set.now.vars }
+    ensures yes { OnTrue result ((lit ≢ kept) × (¬ MakesFalse (values_of set.now.entries) lit)) }
+    ensures no { OnFalse result (lit ≢ kept → MakesFalse (values_of set.now.entries) lit) }
+{
+    !lit.is(kept) && !set.is_false(lit.lit())
+}
+
 /// A literal of the clause that is not false, other than this one. If there is none, the others
 /// are all false.
-pub fn not_false(set: &Entries, clause: &[Lit], kept: Lit) -> Option<Lit>
+pub fn not_false(set: &Entries, clause: &[PackedLit], kept: PackedLit) -> Option<PackedLit>
     requires exist { VariablesExist set.now.vars clause.now }
     ensures among { IfSome result (Contains clause.now) }
     ensures differs { IfSome result (λ l. l ≢ kept) }
@@ -32,7 +43,7 @@ pub fn not_false(set: &Entries, clause: &[Lit], kept: Lit) -> Option<Lit>
     ensures none { IfNone result (OthersFalse (values_of set.now.entries) clause.now kept) }
 {
     for lit in clause {
-        if may_take(set, *lit, kept) {
+        if may_move(set, *lit, kept) {
             return Some(*lit);
         }
     }

@@ -7,6 +7,7 @@ ghost use Rattle.sat_trail.specs.declared.watch.Cell.{Cell as SpecCell};
 ghost use Rattle.sat_trail.specs.inner.Walk.{AreOthersListed, SetsLink, PutsFront, MovesWatch};
 ghost use Rattle.sat_trail.specs.inner.Walk.{Unlinks, Walks, IsNewWatch};
 
+use super::packed_lit::PackedLit;
 use super::watch::{Cell, Watch};
 use clause_core::Lit;
 use list_base::NoMemory;
@@ -50,15 +51,15 @@ impl WatchLists {
     }
 
     /// The first clause that watches the literal, or 0.
-    pub fn first(&self, lit: Lit) -> u32
+    pub fn first(&self, lit: PackedLit) -> u32
         requires { rank lit < length self.now.heads.items }
         ensures { result ≡ head_of self.now.heads.items lit }
     {
-        self.heads[lit.rank() as usize]
+        self.heads[lit.rank()]
     }
 
     /// The watches of the number, that of the literal first.
-    pub fn watches(&self, number: u32, lit: Lit) -> Cell
+    pub fn watches(&self, number: u32, lit: PackedLit) -> Cell
         requires within { number < length self.now.cells.items }
         requires there { Watches (cell_of self.now.cells.items number) lit }
         ensures turns { IsTurn (cell_of self.now.cells.items number) result }
@@ -68,7 +69,7 @@ impl WatchLists {
     }
 
     /// Puts the clause of the number, which watches nothing yet, at the front of both lists.
-    pub fn link(&mut self, number: u32, one: Lit, other: Lit)
+    pub fn link(&mut self, number: u32, one: PackedLit, other: PackedLit)
         requires one { rank one < length self.old.heads.items }
         requires other { rank other < length self.old.heads.items }
         requires within { number < length self.old.cells.items }
@@ -91,12 +92,13 @@ impl WatchLists {
                 link: self.first(other),
             },
         };
-        self.heads[one.rank() as usize] = number;
-        self.heads[other.rank() as usize] = number;
+        self.heads[one.rank()] = number;
+        self.heads[other.rank()] = number;
     }
 
     /// Lets the clause of the number watch these literals, if there are any.
     pub fn attach(&mut self, vars: u32, number: u32, watched: Option<(Lit, Lit)>)
+        requires few { vars < 2 ^ 31 }
         requires linked { AreLinked vars self.old.cells.items self.old.heads.items }
         requires within { (0 < number) × (number < length self.old.cells.items) }
         requires blank { IsUnwatched (cell_of self.old.cells.items number) }
@@ -105,13 +107,20 @@ impl WatchLists {
         ensures attached { IsAttachedTo self.old.cells.items self.new.cells.items number watched }
     {
         if let Some((one, other)) = watched {
-            self.link(number, one, other);
+            self.link(number, PackedLit::of(one), PackedLit::of(other));
         }
     }
 
     /// Takes the clause of the number, which comes after `before` in the list of the literal, out
     /// of it, and puts it at the front of another. Gives the number that came next.
-    pub fn move_watch(&mut self, vars: u32, lit: Lit, before: u32, number: u32, to: Lit) -> u32
+    pub fn move_watch(
+        &mut self,
+        vars: u32,
+        lit: PackedLit,
+        before: u32,
+        number: u32,
+        to: PackedLit,
+    ) -> u32
         requires vars { length self.old.heads.items ≡ 2 * vars + 2 }
         requires walk { Walks self.old.cells.items self.old.heads.items lit before number }
         requires others { AreOthersListed vars self.old.cells.items self.old.heads.items lit }
@@ -129,7 +138,7 @@ impl WatchLists {
     /// Takes the clause of the number, which comes after `before` in the list of the literal, out
     /// of it. Gives the number that came next. What the clause watches in place of the literal is
     /// one of variable 0, whose list is never walked.
-    pub fn unlink(&mut self, vars: u32, lit: Lit, before: u32, number: u32) -> u32
+    pub fn unlink(&mut self, vars: u32, lit: PackedLit, before: u32, number: u32) -> u32
         requires vars { length self.old.heads.items ≡ 2 * vars + 2 }
         requires walk { Walks self.old.cells.items self.old.heads.items lit before number }
         requires others { AreOthersListed vars self.old.cells.items self.old.heads.items lit }
@@ -138,15 +147,15 @@ impl WatchLists {
             self.new.heads.items lit before number result }
     {
         let other = self.watches(number, lit).other.lit;
-        let none = Lit {
+        let none = PackedLit::of(Lit {
             var: 0,
-            positive: !other.positive,
-        };
+            positive: !other.lit().positive,
+        });
         self.move_watch(vars, lit, before, number, none)
     }
 
     /// Lets the clause of the number, or the list if that is 0, go on with another.
-    fn set_link(&mut self, lit: Lit, number: u32, next: u32)
+    fn set_link(&mut self, lit: PackedLit, number: u32, next: u32)
         requires list { rank lit < length self.old.heads.items }
         requires within { number < length self.old.cells.items }
         requires there { 0 < number → Watches (cell_of self.old.cells.items number) lit }
@@ -154,7 +163,7 @@ impl WatchLists {
             self.old.heads.items self.new.heads.items lit number next }
     {
         if number == 0 {
-            self.heads[lit.rank() as usize] = next;
+            self.heads[lit.rank()] = next;
             return;
         }
         let cell = self.cells[number as usize];
@@ -162,7 +171,7 @@ impl WatchLists {
     }
 
     /// Puts the clause of the number at the front of a list, in place of another's.
-    fn put_front(&mut self, lit: Lit, number: u32, to: Lit)
+    fn put_front(&mut self, lit: PackedLit, number: u32, to: PackedLit)
         requires list { rank to < length self.old.heads.items }
         requires within { number < length self.old.cells.items }
         requires there { Watches (cell_of self.old.cells.items number) lit }
@@ -179,7 +188,7 @@ impl WatchLists {
                 link: first,
             },
         );
-        self.heads[to.rank() as usize] = number;
+        self.heads[to.rank()] = number;
     }
 }
 
@@ -187,47 +196,49 @@ impl WatchLists {
 fn blank() -> Cell
     ensures { result ≡ blank }
 {
-    let watch = Watch {
-        lit: Lit {
+    Cell {
+        one: no_watch(),
+        other: no_watch(),
+    }
+}
+
+/// A watch of no literal.
+fn no_watch() -> Watch
+    ensures { result ≡ blank.one }
+{
+    Watch {
+        lit: PackedLit::of(Lit {
             var: 0,
             positive: false,
-        },
+        }),
         link: 0,
-    };
-    Cell {
-        one: watch,
-        other: watch,
     }
 }
 
 /// The cell with the watch of the literal first.
-fn turned(cell: Cell, lit: Lit) -> Cell
+fn turned(cell: Cell, lit: PackedLit) -> Cell
     requires { Watches cell lit }
     ensures turns { IsTurn cell result }
     ensures here { result.one.lit ≡ lit }
 {
-    if cell.one.lit == lit {
-        return cell;
+    let (one, other) = (cell.one, cell.other);
+    if one.is_of(lit) {
+        return Cell { one, other };
     }
     Cell {
-        one: cell.other,
-        other: cell.one,
+        one: other,
+        other: one,
     }
 }
 
 /// The cell with another watch in place of that of the literal.
-fn put(cell: Cell, lit: Lit, watch: Watch) -> Cell
+fn put(cell: Cell, lit: PackedLit, watch: Watch) -> Cell
     requires { Watches cell lit }
     ensures { IsPut cell lit watch result }
 {
-    if cell.one.lit == lit {
-        return Cell {
-            one: watch,
-            other: cell.other,
-        };
+    let (one, other) = (cell.one, cell.other);
+    if one.is_of(lit) {
+        return Cell { one: watch, other };
     }
-    Cell {
-        one: cell.one,
-        other: watch,
-    }
+    Cell { one, other: watch }
 }

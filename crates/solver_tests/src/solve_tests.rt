@@ -6,7 +6,8 @@ use std::test::Fail;
 
 /// The letter of an answer, its count if one is wanted, the budget, the variables, and the clauses
 /// of a formula, each ended by 0. The letter is `s` for an assignment, whose count is that of its
-/// variables, `u` for a refutation and `b` for a spent budget, whose counts are those of their steps.
+/// variables, `u` for a refutation and `b` for a spent budget, whose counts are those of their
+/// steps.
 const ROWS: &[(char, Option<usize>, u32, u32, &str)] = &[
     ('b', Some(1), 1, 2, "1 2 0 -1 2 0 1 -2 0 -1 -2 0"),
     ('u', None, 9, 2, "1 2 0 -1 2 0 1 -2 0 -1 -2 0"),

@@ -36,8 +36,8 @@ pub record IsUnsafeVerdict (x : Expanded) (run : List Event) (param first second
   pub last : second ≡ length run
   pub unsafe : ¬ SafeProtocol x
 
--- the log is new over such a formula, has exactly as many steps as the budget allows, and derives no
--- empty clause
+-- the log is new over such a formula, has exactly as many steps as the budget allows, and derives
+-- no empty clause
 pub record IsUndecidedVerdict (IsFormulaOf : Formula → Type 0) (budget : ℕ) (log : Log)
     : Type 0 where
   pub formula : Formula

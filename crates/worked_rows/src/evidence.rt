@@ -14,7 +14,8 @@ struct Verdicts {
 }
 
 impl Verdicts {
-    /// Takes a line. At the end of a block it is tried: one that holds leaves a line, any other stays.
+    /// Takes a line. At the end of a block it is tried: one that holds leaves a line, any other
+    /// stays.
     fn take(&mut self, alloc: Global, input: &[u8], line: &[u8]) -> Result<(), NoMemory> {
         if self.block.is_empty() && !begins_block(line) {
             return self.take_claim(alloc, line);
@@ -55,8 +56,8 @@ impl Verdicts {
     }
 }
 
-/// The output with a line `log ..` or `run ..` for each block of evidence that holds, and without the
-/// positions of a conflict.
+/// The output with a line `log ..` or `run ..` for each block of evidence that holds, and without
+/// the positions of a conflict.
 pub(crate) fn without_evidence(
     alloc: Global,
     input: &[u8],
@@ -84,7 +85,8 @@ fn begins_block(line: &[u8]) -> bool {
     line.starts_with(b"log ") || line == b"run 1".as_slice()
 }
 
-/// Whether `check` accepts the log for the claim; for an undecided one, whether all its steps resolve.
+/// Whether `check` accepts the log for the claim; for an undecided one, whether all its steps
+/// resolve.
 fn log_holds(
     alloc: Global,
     name: &[u8],
@@ -106,8 +108,8 @@ fn log_holds(
     Ok(answer.status.as_str() == "0" && answer.output.as_slice() == wanted.as_slice())
 }
 
-/// Whether `replay` finds in the run what is claimed: the conflict, at these positions and the second one
-/// last, or the parameter that stays unbound at the key of all ones.
+/// Whether `replay` finds in the run what is claimed: the conflict, at these positions and the
+/// second one last, or the parameter that stays unbound at the key of all ones.
 fn run_holds(
     alloc: Global,
     name: &[u8],

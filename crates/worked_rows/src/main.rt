@@ -1,4 +1,5 @@
-//! Gives each worked row on standard input to its program, and prints those that are answered otherwise.
+//! Gives each worked row on standard input to its program, and prints those that are answered
+//! otherwise.
 #![tactic(auto)]
 
 mod answer;

@@ -2,8 +2,8 @@ use list_base::{Bytes, NoMemory};
 use refutation_log::{number_of, split_once};
 use std::alloc::Global;
 
-/// Appends what the line of a row stands for. A line `* COUNT TEXT` stands for COUNT lines TEXT, numbered
-/// from 1; every other line has the number 0.
+/// Appends what the line of a row stands for. A line `* COUNT TEXT` stands for COUNT lines TEXT,
+/// numbered from 1; every other line has the number 0.
 pub(crate) fn append_line(alloc: Global, out: &mut Bytes, line: &[u8]) -> Result<(), NoMemory> {
     let Some((count, text)) = repetition(line) else {
         return append_once(alloc, out, line, 0);
@@ -31,8 +31,8 @@ fn append_once(alloc: Global, out: &mut Bytes, text: &[u8], number: u64) -> Resu
     }
 }
 
-/// Appends the text, in which `\xHH` is the byte of these two hexadecimal digits, `\#` the number and `\+`
-/// the number after it.
+/// Appends the text, in which `\xHH` is the byte of these two hexadecimal digits, `\#` the number
+/// and `\+` the number after it.
 pub(crate) fn append_spelled(
     alloc: Global,
     out: &mut Bytes,

@@ -11,7 +11,8 @@ struct Tally {
 }
 
 impl Tally {
-    /// Counts the row. If it is answered otherwise, its number, its command and the answer are reported.
+    /// Counts the row. If it is answered otherwise, its number, its command and the answer are
+    /// reported.
     fn count(&mut self, alloc: Global, row: &Row) -> Result<(), NoMemory> {
         self.rows = self.rows.saturating_add(1);
         let answer = row.answer(alloc)?;
@@ -30,9 +31,9 @@ impl Tally {
     }
 }
 
-/// The report on the rows. A line `$ PROGRAM ARGUMENTS` begins a row, the lines after it are the input, a
-/// line `= STATUS` or `~ STATUS` ends the input, and the lines after that are the output. A line that
-/// begins with `# ` is passed over.
+/// The report on the rows. A line `$ PROGRAM ARGUMENTS` begins a row, the lines after it are the
+/// input, a line `= STATUS` or `~ STATUS` ends the input, and the lines after that are the output.
+/// A line that begins with `# ` is passed over.
 pub(crate) fn report_on(alloc: Global, rows: &[u8]) -> Result<Bytes, NoMemory> {
     let mut tally = Tally {
         rows: 0,

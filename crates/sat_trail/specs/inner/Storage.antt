@@ -46,7 +46,7 @@ pub record IsStored
     (slots : List Entry) (len : ℕ) (cells : List (Option Entry)) (values : List Value)
     : Type 0 where
   pub room : length slots ≡ length cells
-  pub few : length cells < 2 ^ 32
+  pub few : length cells < 2 ^ 31
   pub filled : len ≤ length slots
   pub agrees : Agrees (take len slots) cells
   pub valued : HasValues cells values
@@ -58,8 +58,8 @@ pub record StartsWith (level : ℕ) (old new : Assigned) : Type 0 where
   pub whole : old.entries ≡ new.entries ++ dropped
   pub above : All (λ e. level < e.level) dropped
 
--- while a variable has no value, there are fewer entries than variables, and less than 2 ^ 32
+-- while a variable has no value, there are fewer entries than variables, and less than 2 ^ 31
 pub record HasRoom (set : Assigned) : Type 0 where
-  pub few : set.vars < 2 ^ 32
+  pub few : set.vars < 2 ^ 31
   pub more : (v : ℕ) → 0 < v → v ≤ set.vars → values_of set.entries v ≡ None →
       length set.entries < set.vars

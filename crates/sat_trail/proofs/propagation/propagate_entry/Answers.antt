@@ -9,17 +9,17 @@ use Rattle.sat_trail.proofs.propagation.propagate_entry.Goals.{in-Stays, in-Move
 
 pub loop-passed-init : goal.loop-passed-init
 loop-passed-init c = record {
-  walking = walking-start c.args.store.now c.args.set.now _ _ _ _ c.negation-lit.result _ c.requires.fits c.requires.watched c.requires.linked
-      (subst (λ (k : Lit). (0 < k.var) × (k.var ≤ c.args.set.now.vars)) (sym c.negation-lit.ensures.exact) (c.at.ensures.from_one, c.at.ensures.exists))
+  walking = walking-start c.args.store.now c.args.set.now _ _ _ _ c.of-lit.result _ c.requires.fits c.requires.watched c.requires.linked
+      (subst (λ (k : Lit). (0 < k.var) × (k.var ≤ c.args.set.now.vars)) (sym (c.of-lit.ensures ∙ c.negation.ensures.exact)) (c.at.ensures.from_one, c.at.ensures.exists))
       c.first-number.ensures;
   cells = search rules;
 }
 
 pub returns-then-number-eq0-clause-passed : goal.returns-then-number-eq0-clause-passed
 returns-then-number-eq0-clause-passed c =
-    walking-passed c.args.store.now c.args.set.now c.loop-passed.set c.loop-passed.lists.cells.items c.loop-passed.lists.heads.items c.args.level c.args.position c.negation-lit.result c.loop-passed.before c.loop-passed.number c.loop-passed._passed c.loop-passed.invariant.walking c.if-number-eq0.true
-    (false-extends c.args.store.now c.args.set.now c.loop-passed.set c.args.level c.args.position c.negation-lit.result c.loop-passed.invariant.walking.runs.extends
-    (record { entry = c.at.result; there = c.at.ensures.entry; fails = sym c.negation-lit.ensures.exact }))
+    walking-passed c.args.store.now c.args.set.now c.loop-passed.set c.loop-passed.lists.cells.items c.loop-passed.lists.heads.items c.args.level c.args.position c.of-lit.result c.loop-passed.before c.loop-passed.number c.loop-passed._passed c.loop-passed.invariant.walking c.if-number-eq0.true
+    (false-extends c.args.store.now c.args.set.now c.loop-passed.set c.args.level c.args.position c.of-lit.result c.loop-passed.invariant.walking.runs.extends
+    (record { entry = c.at.result; there = c.at.ensures.entry; fails = sym (c.of-lit.ensures ∙ c.negation.ensures.exact) }))
 
 pub returns-then-number-eq0-clause-linked : goal.returns-then-number-eq0-clause-linked
 returns-then-number-eq0-clause-linked c = walking-linked _ _ _ _ _ _ _ _ _ _ _ c.loop-passed.invariant.walking
@@ -27,9 +27,9 @@ returns-then-number-eq0-clause-linked c = walking-linked _ _ _ _ _ _ _ _ _ _ _ c
 pub visit_clause-requires : goal.visit_clause-requires
 visit_clause-requires c = rw c.new-at.ensures
     (walking-visits _ _ _ _ _ _ _ _ _ _ _ c.loop-passed.invariant.walking c.if-number-eq0.false
-    (false-extends c.args.store.now c.args.set.now c.loop-passed.set c.args.level c.args.position c.negation-lit.result c.loop-passed.invariant.walking.runs.extends
-    (record { entry = c.at.result; there = c.at.ensures.entry; fails = sym c.negation-lit.ensures.exact }))
-    (subst (λ (k : Lit). (0 < k.var) × (k.var ≤ c.args.set.now.vars)) (sym c.negation-lit.ensures.exact) (c.at.ensures.from_one, c.at.ensures.exists)))
+    (false-extends c.args.store.now c.args.set.now c.loop-passed.set c.args.level c.args.position c.of-lit.result c.loop-passed.invariant.walking.runs.extends
+    (record { entry = c.at.result; there = c.at.ensures.entry; fails = sym (c.of-lit.ensures ∙ c.negation.ensures.exact) }))
+    (subst (λ (k : Lit). (0 < k.var) × (k.var ≤ c.args.set.now.vars)) (sym (c.of-lit.ensures ∙ c.negation.ensures.exact)) (c.at.ensures.from_one, c.at.ensures.exists)))
 
 pub watches-number-requires-clause-within : goal.watches-number-requires-clause-within
 watches-number-requires-clause-within c = (stayed-member _ _ _ c.visit_clause.new.set _ _ _ _ _ _ _ _ _ _ c.loop-passed.invariant.walking c.if-number-eq0.false (rw c.new-at.ensures at c.in-Stays.ensures.visit)).0
@@ -55,10 +55,10 @@ loop-passed-preserved c = record {
 
 pub returns-clause-passed : goal.returns-clause-passed
 returns-clause-passed c =
-    walking-passed c.args.store.now c.args.set.now c.loop-passed.set c.loop-passed.lists.cells.items c.loop-passed.lists.heads.items c.args.level c.args.position c.negation-lit.result c.loop-passed.before c.loop-passed.number c.loop-passed._passed c.loop-passed.invariant.walking
+    walking-passed c.args.store.now c.args.set.now c.loop-passed.set c.loop-passed.lists.cells.items c.loop-passed.lists.heads.items c.args.level c.args.position c.of-lit.result c.loop-passed.before c.loop-passed.number c.loop-passed._passed c.loop-passed.invariant.walking
     (walking-ended _ _ _ _ _ _ _ _ _ _ _ c.loop-passed.invariant.walking (omega (arith, c.loop-passed.invariant.cells, c.loop-passed-test.false)))
-    (false-extends c.args.store.now c.args.set.now c.loop-passed.set c.args.level c.args.position c.negation-lit.result c.loop-passed.invariant.walking.runs.extends
-    (record { entry = c.at.result; there = c.at.ensures.entry; fails = sym c.negation-lit.ensures.exact }))
+    (false-extends c.args.store.now c.args.set.now c.loop-passed.set c.args.level c.args.position c.of-lit.result c.loop-passed.invariant.walking.runs.extends
+    (record { entry = c.at.result; there = c.at.ensures.entry; fails = sym (c.of-lit.ensures ∙ c.negation.ensures.exact) }))
 
 pub returns-clause-linked : goal.returns-clause-linked
 returns-clause-linked c = walking-linked _ _ _ _ _ _ _ _ _ _ _ c.loop-passed.invariant.walking

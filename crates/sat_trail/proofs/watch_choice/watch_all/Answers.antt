@@ -18,6 +18,6 @@ attach-requires-clause-blank c = attached-blank _ _ _ _ _ _ c.loop-clause.invari
 pub loop-clause-preserved : goal.loop-clause-preserved
 loop-clause-preserved c = record {
   counted = ap (λ n. n + 1) c.loop-clause.invariant.counted;
-  attached = attached-next _ _ c.loop-clause.number c.vars.result _ c.args.set.now.entries c.clause-item.result c.lits.result.now _ _ _ _ c.choose.result c.loop-clause.invariant.counted c.vars.ensures c.requires.none c.loop-clause-test.true c.clause-item.is c.lits.ensures.same
+  attached = attached-next _ _ c.loop-clause.number c.vars.result _ c.args.set.now.entries c.clause-item.result c.lits.result.now _ _ _ _ c.choose.result c.loop-clause.invariant.counted c.vars.ensures.same c.requires.none c.loop-clause-test.true c.clause-item.is c.lits.ensures.same
       c.loop-clause.invariant.attached c.choose.ensures.chosen c.choose.ensures.none c.attach.ensures.linked c.attach.ensures.attached;
 }

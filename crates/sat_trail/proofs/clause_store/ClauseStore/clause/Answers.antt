@@ -12,7 +12,7 @@ returns-then-index-self c = rw (← c.self.view_is)
 
 pub at-requires : goal.at-requires
 at-requires c =
-    omega (arith, live-within (c.self.inside.given.now ++ c.self.inside.added) c.self.inside.marks.items c.args.number (rw (← c.self.view_is) at c.requires), c.if-index-self.false, length-append c.self.inside.given.now c.self.inside.added)
+    omega (arith, live-within c.self.inside.flat (c.self.inside.given.now ++ c.self.inside.added) c.args.number c.self.invariant (rw (← c.self.view_is) at c.requires), c.if-index-self.false, length-append c.self.inside.given.now c.self.inside.added)
 
 pub returns : goal.returns
 returns c = rw (← c.self.view_is)

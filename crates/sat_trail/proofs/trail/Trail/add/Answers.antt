@@ -29,7 +29,7 @@ returns-in_err-push-clause-sound c = rw c.in_err-push.ensures.err (IsTrail-grown
 
 pub attach-requires-clause-linked : goal.attach-requires-clause-linked
 attach-requires-clause-linked c =
-    subst (λ vars. AreLinked vars c.reserve.new.self.cells.items c.reserve.new.self.heads.items) (sym c.vars.ensures)
+    subst (λ vars. AreLinked vars c.reserve.new.self.cells.items c.reserve.new.self.heads.items) (sym c.vars-vars.ensures.same)
     (IsKept-reserved _ _ _ _ _ _ _ _ _ _ c.reserve.ensures.grows c.reserve.ensures.heads c.self.invariant).linked
 
 pub attach-requires-clause-blank : goal.attach-requires-clause-blank
@@ -39,14 +39,14 @@ attach-requires-clause-blank c =
 
 pub invariant_of-self-2 : goal.invariant_of-self-2
 invariant_of-self-2 c =
-    IsKept-attached _ _ c.reserve.new.self.cells.items _ _ _ _ _ _ _ _ c.args.c c.lits.result.now c.choose-watched.result c.len.result c.vars.result c.len.ensures c.vars.ensures c.lits.ensures.same
+    IsKept-attached _ _ c.reserve.new.self.cells.items _ _ _ _ _ _ _ _ c.args.c c.lits.result.now c.choose-watched.result c.len.result c.vars-vars.result c.len.ensures c.vars-vars.ensures.same c.lits.ensures.same
     (IsKept-reserved _ _ _ _ _ _ _ _ _ _ c.reserve.ensures.grows c.reserve.ensures.heads c.self.invariant)
     (rw (← c.self.view_is) at c.requires.exist) (rw (← c.self.view_is) at c.requires.few) (rw (← c.self.view_is) at c.requires.open)
     c.in_ok-reserve.ensures.ok c.choose-watched.ensures.chosen c.choose-watched.ensures.none c.attach.ensures.linked c.attach.ensures.attached c.in_ok-push.ensures.ok
 
 pub returns-clause-sound : goal.returns-clause-sound
 returns-clause-sound c = IsTrail-grown _
-    (IsKept-attached _ _ c.reserve.new.self.cells.items _ _ _ _ _ _ _ _ c.args.c c.lits.result.now c.choose-watched.result c.len.result c.vars.result c.len.ensures c.vars.ensures c.lits.ensures.same
+    (IsKept-attached _ _ c.reserve.new.self.cells.items _ _ _ _ _ _ _ _ c.args.c c.lits.result.now c.choose-watched.result c.len.result c.vars-vars.result c.len.ensures c.vars-vars.ensures.same c.lits.ensures.same
     (IsKept-reserved _ _ _ _ _ _ _ _ _ _ c.reserve.ensures.grows c.reserve.ensures.heads c.self.invariant)
     (rw (← c.self.view_is) at c.requires.exist) (rw (← c.self.view_is) at c.requires.few) (rw (← c.self.view_is) at c.requires.open)
     c.in_ok-reserve.ensures.ok c.choose-watched.ensures.chosen c.choose-watched.ensures.none c.attach.ensures.linked c.attach.ensures.attached c.in_ok-push.ensures.ok).trail

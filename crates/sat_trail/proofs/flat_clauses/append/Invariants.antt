@@ -1,0 +1,6 @@
+-- The literals that were passed are at the end.
+use Rattle.std.proofs.Common.{◌≡◌, ◌++◌, take}
+use Rattle.sat_trail.proofs.flat_clauses.append.Given as goal
+
+abbrev pub invariant-loop-lit : goal.invariant-loop-lit
+invariant-loop-lit l = l.lits.items ≡ l.fn.lits.items ++ take l.lit-index l.more
