@@ -24,11 +24,12 @@ use Rattle.bspl_types.specs.Instance.{Fits}
 use Rattle.bspl_types.specs.Knowledge.{CanEmit, Knows}
 use Rattle.bspl_types.specs.Value.{EqualValuesAreOne}
 use Rattle.agent_scripts.specs.Job.{Job}
-use Rattle.agent_scripts.specs.Script.{free_outs, is_declined, rule_of, value_at, values_of}
+use Rattle.agent_scripts.specs.Script.{is_declined, rule_of, value_at, values_of}
 use Rattle.agent_scripts.specs.Statement.{IsSentBy}
 use Rattle.enactment_model.specs.Liveness.{IsEmitted}
 use Rattle.local_store.specs.Consistent.{IsConsistent}
-use Rattle.local_store.specs.Emission.{chosen_params, chosen_values, IsEmission}
+use Rattle.bspl_types.specs.Choice.{chosen_params}
+use Rattle.local_store.specs.Emission.{chosen_values, IsEmission}
 use Rattle.local_store.specs.State.{acts_of}
 use Rattle.played_runs.specs.Laws.{PlayedGrows}
 use Rattle.played_runs.specs.Played.{IsChosen, IsPassed}
@@ -43,7 +44,7 @@ use Rattle.adapter.specs.Steps.{IsPlanned, with_emission}
 use Rattle.adapter.specs.inner.Turns.{envelope_of, IsOrderly, IsPossible, IsTurn}
 use Rattle.adapter.proofs.EventLemmas.{none_if_not_emitted, with_event}
 use Rattle.adapter.proofs.NextLemmas.{has_order, key_held, order_sent}
-use Rattle.adapter.proofs.ValueLemmas.{given_value, same_params}
+use Rattle.adapter.proofs.ValueLemmas.{given_value}
 
 -- the order of the desk's role
 order_at : (job : Job) (d : DeskState) → IsOrderly job → IsKept job d.store.role d → slice_get job.script.orders d.store.role ≡ Some ((rules_of job).order d.store.role)
@@ -72,7 +73,7 @@ same_number job n k key orderly number is other =
 pub possible : (job : Job) (d : DeskState) (n : ℕ) (t : Turn) → IsOrderly job → IsKept job d.store.role d → IsWorkload job n → IsTurn job d.store n t → IsPossible d.store t
 possible job d n t orderly kept number turn =
     let own : IsSentBy d.store.protocol d.store.role t.message = sent job d t.message orderly kept (in_order job d n t.message turn.next) in
-    let many : length t.outs ≡ length (chosen_params job.protocol t.message) = ap length turn.outs_are ∙ length-map (free_outs job.protocol t.message) (λ (c : Carried). value_at (rule_of job.script.rules t.message c.param) n) ∙ ap length (same_params job.protocol t.message) in
+    let many : length t.outs ≡ length (chosen_params job.protocol t.message) = ap length turn.outs_are ∙ length-map (chosen_params job.protocol t.message) (λ (c : Carried). value_at (rule_of job.script.rules t.message c.param) n) in
     record {
       known = own.0;
       own = own.1;

@@ -14,32 +14,15 @@ use Rattle.bspl_types.specs.declared.protocol.Adornment.TheVariants.{In, Out, Ni
 use Rattle.bspl_types.specs.declared.protocol.Carried.{Carried}
 use Rattle.bspl_types.specs.declared.value.Value.{Value}
 use Rattle.bspl_types.specs.Adornment.{has_value, valued}
+use Rattle.bspl_types.specs.Choice.{chosen_params, is_chosen, is_out}
 use Rattle.bspl_types.specs.Expansion.{message_of}
 use Rattle.bspl_types.specs.Instance.{Carries}
-use Rattle.agent_scripts.specs.Script as agents
-use Rattle.agent_scripts.specs.Script.{is_free_out, free_outs, rule_of, Script, value_at, values_of}
-use Rattle.local_store.specs.Emission as stores
-use Rattle.local_store.specs.Emission.{chosen_params, chosen_values, is_chosen}
-
-same_out : (a : Adornment) → agents.is_out a ≡ stores.is_out a
-same_out In = refl
-same_out Out = refl
-same_out Nil = refl
-
--- the parameters whose values a message gives are those that its sender chooses
-same_choice : (keys : List ℕ) (c : Carried) → is_free_out keys c ≡ is_chosen keys c
-same_choice keys c = ap (λ b. b && not (list_any (λ key. key == c.param) keys)) (same_out c.adornment)
-
-filter_same : {X : Type 0} (p q : X → Bool) → ((x : X) → p x ≡ q x) → (xs : List X) → filter p xs ≡ filter q xs
-filter_same p q same [] = refl
-filter_same p q same (x ∷ xs) = rw (same x, filter_same p q same xs)
-
-pub same_params : (x : Expanded) (m : ℕ) → free_outs x m ≡ chosen_params x m
-same_params x m = filter_same (is_free_out x.keys) (is_chosen x.keys) (same_choice x.keys) (message_of x m).carried
+use Rattle.agent_scripts.specs.Script.{rule_of, Script, value_at, values_of}
+use Rattle.local_store.specs.Emission.{chosen_values}
 
 -- a chosen parameter has a value
 chosen_valued : (keys : List ℕ) (c : Carried) → is_chosen keys c ≡ true → has_value c.adornment ≡ true
-chosen_valued keys c chosen = (elim c.adornment as (λ a. (stores.is_out a && not (list_any (λ key. key == c.param) keys)) ≡ true → has_value a ≡ true) [
+chosen_valued keys c chosen = (elim c.adornment as (λ a. (is_out a && not (list_any (λ key. key == c.param) keys)) ≡ true → has_value a ≡ true) [
   | In ↦ λ is. refl
   | Out ↦ λ is. refl
   | Nil ↦ λ is. absurd (true≢false (sym is))
@@ -108,5 +91,5 @@ given_value x script i n p v given carries free =
     let test = is_chosen x.keys in
     let g = λ (c : Carried). value_at (rule_of script.rules i.message c.param) n in
     let c : Carried = record { param = p; adornment = Out } in
-    let params : free_outs x i.message ≡ filter test (valued carried) = same_params x i.message ∙ sym (filter_within test (λ d. has_value d.adornment) (chosen_valued x.keys) carried) in
+    let params : chosen_params x i.message ≡ filter test (valued carried) = sym (filter_within test (λ d. has_value d.adornment) (chosen_valued x.keys) carried) in
     pair_value test g (valued carried) i.values (given ∙ ap (map g) params) c v carries (ap not (no_key x.keys p free))

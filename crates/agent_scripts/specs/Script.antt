@@ -1,14 +1,11 @@
 -- What a script is, and which script and plan the statements of a text give.
-use Rattle.std.specs.Prelude.{ℕ, ◌+◌, ◌*◌, ◌%◌, Bool, true, false, not, ◌==◌, ◌&&◌, if◌then◌else◌}
+use Rattle.std.specs.Prelude.{ℕ, ◌+◌, ◌*◌, ◌%◌, Bool, ◌==◌, ◌&&◌, if◌then◌else◌}
 use Rattle.std.specs.Prelude.{List, [], ◌∷◌, map}
-use Rattle.std.specs.List.{filter, list_any}
+use Rattle.std.specs.List.{list_any}
 use Rattle.bspl_types.specs.declared.expanded.Expanded.{Expanded}
-use Rattle.bspl_types.specs.declared.protocol.Adornment.{Adornment}
-use Rattle.bspl_types.specs.declared.protocol.Adornment.TheVariants.{Out}
-use Rattle.bspl_types.specs.declared.protocol.Carried.{Carried}
 use Rattle.bspl_types.specs.declared.value.Value.{Value}
 use Rattle.bspl_types.specs.declared.value.Value.TheVariants.{Number, Text}
-use Rattle.bspl_types.specs.Expansion.{message_of}
+use Rattle.bspl_types.specs.Choice.{chosen_params}
 use Rattle.agent_scripts.specs.declared.rules.Declined.{Declined}
 use Rattle.agent_scripts.specs.declared.rules.ValueRule.{ValueRule}
 use Rattle.agent_scripts.specs.declared.statement.Rule.{Rule}
@@ -37,22 +34,9 @@ abbrev pub value_at : Rule → ℕ → Value
 value_at (Linear a b) n = Number (a * n + b)
 value_at (Fixed text) n = Text text
 
--- adorned `out`
-abbrev pub is_out : Adornment → Bool
-is_out Out = true
-is_out _ = false
-
--- an `out` parameter that is no key
-abbrev pub is_free_out : List ℕ → Carried → Bool
-is_free_out keys c = is_out c.adornment && not (list_any (λ k. k == c.param) keys)
-
--- the parameters whose values message m gives, in its order
-abbrev pub free_outs : Expanded → ℕ → List Carried
-free_outs x m = filter (is_free_out x.keys) (message_of x m).carried
-
--- their values at workload number n, by the rules
+-- the values that message m's sender chooses at workload number n, by the rules
 abbrev pub given_values : Expanded → List ValueRule → ℕ → ℕ → List Value
-given_values x rules m n = map (λ c. value_at (rule_of rules m c.param) n) (free_outs x m)
+given_values x rules m n = map (λ c. value_at (rule_of rules m c.param) n) (chosen_params x m)
 
 -- and by those of the script
 abbrev pub values_of : Expanded → Script → ℕ → ℕ → List Value

@@ -2,7 +2,8 @@ ghost use Rattle.std.specs.Prelude.{◌≡◌, ◌<◌, ◌≤◌, ◌==◌, len
 ghost use Rattle.std.specs.List.{All, filter, list_any};
 ghost use Rattle.bspl_types.specs.Limits.{carried_limit};
 ghost use Rattle.agent_scripts.specs.Rules.{RuleFits};
-ghost use Rattle.agent_scripts.specs.Script.{rule_of, value_at, is_free_out, given_values};
+ghost use Rattle.bspl_types.specs.Choice.{is_chosen};
+ghost use Rattle.agent_scripts.specs.Script.{rule_of, value_at, given_values};
 
 use super::rules::ValueRule;
 use super::statement::Rule;
@@ -17,11 +18,11 @@ pub fn values_of(x: &Expanded, rules: &[ValueRule], message: u32, n: u64) -> Val
     ensures { result ≡ given_values x.now rules.now message n }
 {
     let carried = x.messages.at(message as usize).carried.as_slice();
-    free_values(x.keys.as_slice(), carried, rules, message, n)
+    chosen_values(x.keys.as_slice(), carried, rules, message, n)
 }
 
 /// The values of those of the parameters that are adorned `out` and are no keys.
-fn free_values(
+fn chosen_values(
     keys: &[u32],
     carried: &[Carried],
     rules: &[ValueRule],
@@ -32,11 +33,11 @@ fn free_values(
     requires small { n ≤ 10000 }
     requires fits { All (λ r. RuleFits n r.rule) rules.now }
     ensures { result ≡ map (λ c. value_at (rule_of rules.now message c.param) n)
-        (filter (is_free_out keys.now) carried.now) }
+        (filter (is_chosen keys.now) carried.now) }
 {
     let mut values = ValueList::new();
     for c in carried {
-        if is_free_out(keys, *c) {
+        if is_chosen(keys, *c) {
             let rule = rule_of(rules, message, c.param, n);
             values.push(value_at(rule, n));
         }
@@ -45,8 +46,8 @@ fn free_values(
 }
 
 /// Whether the parameter is adorned `out` and is no key.
-fn is_free_out(keys: &[u32], c: Carried) -> bool
-    ensures { result ≡ is_free_out keys.now c }
+fn is_chosen(keys: &[u32], c: Carried) -> bool
+    ensures { result ≡ is_chosen keys.now c }
 {
     matches!(c.adornment, Adornment::Out) && !is_key(keys, c.param)
 }

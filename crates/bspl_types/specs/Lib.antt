@@ -10,6 +10,7 @@ pub mod ValueSpelling
 pub mod Expansion
 pub mod KeyAgrees
 pub mod Instance
+pub mod Choice
 pub mod History
 pub mod Knowledge
 pub mod Admission

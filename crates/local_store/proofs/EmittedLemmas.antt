@@ -19,7 +19,8 @@ use Rattle.bspl_types.specs.KeyAgrees.{KeyAgrees}
 use Rattle.bspl_types.specs.Knowledge.{CanEmit, IsKnown, Knows}
 use Rattle.stamped_history.specs.Entries.{last_stamp}
 use Rattle.local_store.specs.Consistent.{IsConsistent}
-use Rattle.local_store.specs.Emission.{chosen_params, is_chosen, IsEmission}
+use Rattle.bspl_types.specs.Choice.{chosen_params, is_chosen}
+use Rattle.local_store.specs.Emission.{IsEmission}
 use Rattle.local_store.specs.State.{StoreState, acts_of}
 use Rattle.local_store.specs.inner.Acts.{value_in}
 use Rattle.local_store.specs.inner.Filling.{filled, filling, key_value}

@@ -1,33 +1,18 @@
 -- Which instance a store emits, and with which stamp and number.
-use Rattle.std.specs.Prelude.{◌≡◌, ℕ, ◌+◌, ◌==◌, Bool, true, false, ◌&&◌, not, List, map, length}
-use Rattle.std.specs.List.{filter, list_any}
+use Rattle.std.specs.Prelude.{◌≡◌, ℕ, ◌+◌, List, map, length}
+use Rattle.std.specs.List.{filter}
 use Rattle.bspl_types.specs.declared.envelope.Stamped.{Stamped}
 use Rattle.bspl_types.specs.declared.event.Instance.{Instance}
 use Rattle.bspl_types.specs.declared.expanded.Expanded.{Expanded}
-use Rattle.bspl_types.specs.declared.protocol.Adornment.{Adornment}
-use Rattle.bspl_types.specs.declared.protocol.Adornment.TheVariants.{In, Out, Nil}
-use Rattle.bspl_types.specs.declared.protocol.Carried.{Carried}
+use Rattle.bspl_types.specs.declared.protocol.Adornment.TheVariants.{In}
 use Rattle.bspl_types.specs.declared.value.Value.{Value}
-use Rattle.bspl_types.specs.Expansion.{message_of}
+use Rattle.bspl_types.specs.Choice.{is_chosen}
 use Rattle.bspl_types.specs.Instance.{Carries, Fits, pairs}
 use Rattle.bspl_types.specs.Knowledge.{Knows}
 use Rattle.stamped_history.specs.Entries.{last_stamp}
 use Rattle.local_store.specs.State.{StoreState, acts_of}
 
-abbrev pub is_out : Adornment → Bool
-is_out In = false
-is_out Out = true
-is_out Nil = false
-
--- the parameter is adorned `out` and is no key: its value is the sender's choice
-abbrev pub is_chosen : List ℕ → Carried → Bool
-is_chosen keys c = is_out c.adornment && not (list_any (λ key. key == c.param) keys)
-
--- the parameters of the message whose values its sender chooses, in the message's order
-abbrev pub chosen_params : Expanded → ℕ → List Carried
-chosen_params x m = filter (is_chosen x.keys) (message_of x m).carried
-
--- the instance's values of these parameters, in the message's order
+-- the instance's values of the parameters that the sender chooses, in the message's order
 abbrev pub chosen_values : Expanded → Instance → List Value
 chosen_values x i = map (λ pair. pair.1) (filter (λ pair. is_chosen x.keys pair.0) (pairs x i))
 

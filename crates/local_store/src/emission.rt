@@ -6,7 +6,8 @@ ghost use Rattle.bspl_types.specs.Expansion.{message_of};
 ghost use Rattle.bspl_types.specs.Knowledge.{CanEmit};
 ghost use Rattle.role_knowledge.specs.Blocked.{IsFirstBlock};
 ghost use Rattle.stamped_history.specs.Entries.{last_stamp};
-ghost use Rattle.local_store.specs.Emission.{chosen_params, IsEmission};
+ghost use Rattle.bspl_types.specs.Choice.{chosen_params};
+ghost use Rattle.local_store.specs.Emission.{IsEmission};
 ghost use Rattle.local_store.specs.State.{acts_of, with_entry};
 
 use super::act::Kind;

@@ -1,6 +1,6 @@
 ghost use Rattle.std.specs.Prelude.{◌≡◌, ◌==◌, length};
 ghost use Rattle.std.specs.List.{filter, list_any};
-ghost use Rattle.local_store.specs.Emission.{is_chosen};
+ghost use Rattle.bspl_types.specs.Choice.{is_chosen};
 
 use super::fixtures::{has_room, hold, key, number, store};
 use super::protocols::{IN, OUT, Protocol};
@@ -10,8 +10,8 @@ use role_knowledge::Block;
 use std::alloc::Global;
 use std::test::Fail;
 
-/// What is answered: the stamp and the number of what is emitted, or a parameter that is missing, or
-/// one that is bound and the number that is kept.
+/// What is answered: the stamp and the number of what is emitted, or a parameter that is missing,
+/// or one that is bound and the number that is kept.
 #[derive(Clone, Copy, PartialEq)]
 enum Outcome {
     Emitted(u64, u32),

@@ -16,8 +16,8 @@ const CLASH: Protocol = (
     ],
 );
 
-/// What is answered: the receipt is new, or it is not, or a parameter has two values: the one that is
-/// kept and the one that arrived.
+/// What is answered: the receipt is new, or it is not, or a parameter has two values: the one that
+/// is kept and the one that arrived.
 #[derive(Clone, Copy, PartialEq)]
 enum Answer {
     Fresh,

@@ -9,7 +9,7 @@ use Rattle.stamped_history.specs.Entries.{last_stamp}
 use Rattle.agent_scripts.specs.Job.{Job}
 use Rattle.agent_scripts.specs.Laws.{FitsProtocol}
 use Rattle.agent_scripts.specs.Script.{values_of}
-use Rattle.local_store.specs.Emission.{chosen_params}
+use Rattle.bspl_types.specs.Choice.{chosen_params}
 use Rattle.local_store.specs.State.{StoreState, acts_of}
 use Rattle.reorder_net.specs.Losses.{copies_of}
 use Rattle.adapter.specs.declared.turn.Turn.{Turn}

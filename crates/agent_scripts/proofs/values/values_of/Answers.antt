@@ -7,4 +7,4 @@ pub returns : goal.returns
 returns c =
     let x = c.args.x.now in
     let is = get_or_from_slice_get x.messages c.args.message c.at.result.now no_message c.at.ensures in
-    rw (c.as_slice-carried.ensures, ← is, c.as_slice.ensures) at c.free_values.ensures
+    rw (c.as_slice-carried.ensures, ← is, c.as_slice.ensures) at c.chosen_values.ensures
