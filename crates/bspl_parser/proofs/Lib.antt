@@ -22,6 +22,8 @@ pub mod Listed
 pub mod Lists
 pub mod NameLemmas
 pub mod NameLengthLemmas
+pub mod PackedTokens
+pub mod PlainNames
 pub mod Primitives
 pub mod Printed
 pub mod ScanSteps

@@ -1,7 +1,7 @@
 -- Tokens that were taken from the start of a text, and the rest of it.
 use Rattle.std.proofs.Common.{◌≡◌, ℕ, ◌+◌, ◌<◌, ◌≤◌, List, [], ◌∷◌, ◌++◌, length, take, drop, Some, None, inl, inr, refl, sym, ap, subst, ◌∙◌, append_assoc, arith}
 use Rattle.std.proofs.lemmas.List.{append-nil, take-append-drop, length-take-le, length-append}
-use Rattle.bspl_parser.specs.declared.scanner.Kind.{Kind}
+use Rattle.bspl_parser.specs.declared.packed_token.Kind.{Kind}
 use Rattle.bspl_parser.specs.declared.token.Token.{Token}
 use Rattle.bspl_parser.specs.inner.Scanner.{gap_len, first_token, IsTokenOf}
 use Rattle.bspl_parser.specs.Tokens.{IsGap, nothing, IsEnd, BeginsWithToken, TokensTo, Tokens, BeginsNothing, IsBadByte}

@@ -9,8 +9,8 @@ use Rattle.std.proofs.lemmas.Bool.{or_from, ltb-true, ltb-false}
 use Rattle.std.proofs.lemmas.List.{take-append-drop, length-append, take_at, length-take, length-take-le, nil_from_length}
 use Rattle.bspl_types.specs.Name.{is_name}
 use Rattle.bspl_parser.specs.declared.name_length.State.TheVariants.{Start}
-use Rattle.bspl_parser.specs.declared.scanner.Kind.{Kind}
-use Rattle.bspl_parser.specs.declared.scanner.Kind.TheVariants as kind
+use Rattle.bspl_parser.specs.declared.packed_token.Kind.{Kind}
+use Rattle.bspl_parser.specs.declared.packed_token.Kind.TheVariants as kind
 use Rattle.bspl_parser.specs.declared.symbol.Symbol.{Symbol}
 use Rattle.bspl_parser.specs.declared.symbol.Symbol.TheVariants.{Arrow}
 use Rattle.bspl_parser.specs.declared.token.Token.{Token}

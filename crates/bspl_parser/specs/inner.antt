@@ -2,6 +2,8 @@
 pub mod SymbolTable
 pub mod NameLength
 pub mod Scanner
+pub mod PackedToken
 pub mod ParseResult
+pub mod Place
 pub mod TokenParsers
 pub mod GrammarParsers

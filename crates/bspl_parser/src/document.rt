@@ -30,77 +30,77 @@ impl Adorn {
 
 /// An adorned parameter.
 #[derive(Drop)]
-pub struct Formal {
+pub struct Formal<'t> {
     /// Its adornment.
     pub adorn: Adorn,
     /// The offset of the adornment.
     pub offset: u64,
     /// Its name.
-    pub name: Word,
+    pub name: Word<'t>,
     /// The offset of the word `key`, if it is there.
     pub key: Option<u64>,
 }
 
 /// Adorned parameters in reading order.
-pub type FormalList = Seq<Formal>;
+pub type FormalList<'t> = Seq<Formal<'t>>;
 
 /// A message: from whom, to whom, its name and its parameters.
 #[derive(Drop)]
-pub struct Schema {
+pub struct Schema<'t> {
     /// The role that sends it.
-    pub sender: Word,
+    pub sender: Word<'t>,
     /// The role that receives it.
-    pub receiver: Word,
+    pub receiver: Word<'t>,
     /// Its name.
-    pub name: Word,
+    pub name: Word<'t>,
     /// Its parameters, at least one.
-    pub params: FormalList,
+    pub params: FormalList<'t>,
 }
 
 /// A use of another protocol, with the roles and parameters that it is given.
 #[derive(Drop)]
-pub struct Reference {
+pub struct Reference<'t> {
     /// The protocol's name.
-    pub protocol: Word,
+    pub protocol: Word<'t>,
     /// The roles given, at least one.
-    pub roles: WordList,
+    pub roles: WordList<'t>,
     /// The parameters given.
-    pub params: FormalList,
+    pub params: FormalList<'t>,
 }
 
 /// One item of a protocol's body.
 #[derive(Drop)]
-pub enum Item {
+pub enum Item<'t> {
     /// A message.
-    Message(Schema),
+    Message(Schema<'t>),
     /// A use of another protocol.
-    Reference(Reference),
+    Reference(Reference<'t>),
 }
 
 /// A body in reading order.
-pub type ItemList = Seq<Item>;
+pub type ItemList<'t> = Seq<Item<'t>>;
 
 /// One protocol.
 #[derive(Drop)]
-pub struct Declaration {
+pub struct Declaration<'t> {
     /// Its name.
-    pub name: Word,
+    pub name: Word<'t>,
     /// Its roles, at least one.
-    pub roles: WordList,
+    pub roles: WordList<'t>,
     /// Its public parameters, at least one.
-    pub public: FormalList,
+    pub public: FormalList<'t>,
     /// Its private parameters.
-    pub private: WordList,
+    pub private: WordList<'t>,
     /// Its items.
-    pub body: ItemList,
+    pub body: ItemList<'t>,
 }
 
 /// Protocols in reading order.
-pub type DeclarationList = Seq<Declaration>;
+pub type DeclarationList<'t> = Seq<Declaration<'t>>;
 
 /// What a text spells.
 #[derive(Drop)]
-pub struct Document {
+pub struct Document<'t> {
     /// Its protocols, at least one.
-    pub protocols: DeclarationList,
+    pub protocols: DeclarationList<'t>,
 }

@@ -16,19 +16,19 @@ use super::word::{Word, WordList};
 use bspl_types::Seq;
 use std::alloc::Global;
 
-impl Parse for Word {
+impl<'t> Parse<'t> for Word<'t> {
     ghost at = { parse_word };
 
-    fn read(_alloc: Global, stream: &mut TokenStream) -> Result<Word, ParseError> {
+    fn read(_alloc: Global, stream: &mut TokenStream<'t>) -> Result<Word<'t>, ParseError> {
         Ok(stream.word()?)
     }
 }
 
-impl Parse for Formal {
+impl<'t> Parse<'t> for Formal<'t> {
     ghost at = { parse_formal };
 
     #[tactic(auto, unfolding(crate::specs::inner::GrammarParsers::parse_formal))]
-    fn read(_alloc: Global, stream: &mut TokenStream) -> Result<Formal, ParseError> {
+    fn read(_alloc: Global, stream: &mut TokenStream<'t>) -> Result<Formal<'t>, ParseError> {
         let (adorn, offset) = stream.adornment()?;
         let name = stream.word()?;
         let key = stream.key(adorn)?;
@@ -43,8 +43,12 @@ impl Parse for Formal {
 
 /// Reads a message after its sender.
 #[tactic(auto, unfolding(crate::specs::inner::GrammarParsers::parse_message))]
-fn read_message(alloc: Global, stream: &mut TokenStream, sender: Word) -> Result<Schema, ParseError>
-    ensures gives { Gives result stream.new (parse_message sender stream.old) }
+fn read_message<'t>(
+    alloc: Global,
+    stream: &mut TokenStream<'t>,
+    sender: Word<'t>,
+) -> Result<Schema<'t>, ParseError>
+    ensures gives { Gives result stream.new (parse_message sender.entry stream.old) }
     ensures no_longer { OnOk result (length stream.new ≤ length stream.old) }
 {
     stream.symbol(Symbol::Arrow)?;
@@ -64,12 +68,12 @@ fn read_message(alloc: Global, stream: &mut TokenStream, sender: Word) -> Result
 
 /// Reads a reference after its protocol's name.
 #[tactic(auto, unfolding(crate::specs::inner::GrammarParsers::parse_reference))]
-fn read_reference(
+fn read_reference<'t>(
     alloc: Global,
-    stream: &mut TokenStream,
-    protocol: Word,
-) -> Result<Reference, ParseError>
-    ensures gives { Gives result stream.new (parse_reference protocol stream.old) }
+    stream: &mut TokenStream<'t>,
+    protocol: Word<'t>,
+) -> Result<Reference<'t>, ParseError>
+    ensures gives { Gives result stream.new (parse_reference protocol.entry stream.old) }
     ensures no_longer { OnOk result (length stream.new ≤ length stream.old) }
 {
     stream.symbol(Symbol::OpenParen)?;
@@ -86,11 +90,11 @@ fn read_reference(
     })
 }
 
-impl Parse for Item {
+impl<'t> Parse<'t> for Item<'t> {
     ghost at = { parse_item };
 
     #[tactic(auto, unfolding(crate::specs::inner::GrammarParsers::parse_item))]
-    fn read(alloc: Global, stream: &mut TokenStream) -> Result<Item, ParseError> {
+    fn read(alloc: Global, stream: &mut TokenStream<'t>) -> Result<Item<'t>, ParseError> {
         let name = stream.word()?;
         if stream.begins_with(Symbol::OpenParen) {
             let reference = read_reference(alloc, stream, name)?;
@@ -103,7 +107,7 @@ impl Parse for Item {
 
 /// Reads the private parameters, if there are any.
 #[tactic(auto, unfolding(crate::specs::inner::GrammarParsers::parse_private))]
-fn read_private(alloc: Global, stream: &mut TokenStream) -> Result<WordList, ParseError>
+fn read_private<'t>(alloc: Global, stream: &mut TokenStream<'t>) -> Result<WordList<'t>, ParseError>
     ensures gives { Gives result stream.new (parse_private stream.old) }
     ensures no_longer { OnOk result (length stream.new ≤ length stream.old) }
 {
@@ -114,11 +118,11 @@ fn read_private(alloc: Global, stream: &mut TokenStream) -> Result<WordList, Par
     Ok(Seq::new(alloc))
 }
 
-impl Parse for Declaration {
+impl<'t> Parse<'t> for Declaration<'t> {
     ghost at = { parse_declaration };
 
     #[tactic(auto, unfolding(crate::specs::inner::GrammarParsers::parse_declaration))]
-    fn read(alloc: Global, stream: &mut TokenStream) -> Result<Declaration, ParseError> {
+    fn read(alloc: Global, stream: &mut TokenStream<'t>) -> Result<Declaration<'t>, ParseError> {
         let name = stream.word()?;
         stream.symbol(Symbol::OpenBrace)?;
         stream.either(Symbol::Roles, Symbol::Role)?;
@@ -140,7 +144,10 @@ impl Parse for Declaration {
 
 /// Reads protocols up to the end of the tokens.
 #[tactic(auto, unfolding(crate::specs::inner::GrammarParsers::parse_document))]
-pub fn read_document(alloc: Global, stream: &mut TokenStream) -> Result<Document, ParseError>
+pub fn read_document<'t>(
+    alloc: Global,
+    stream: &mut TokenStream<'t>,
+) -> Result<Document<'t>, ParseError>
     ensures gives { Gives result stream.new (parse_document stream.old) }
     ensures all { OnOk result (stream.new ≡ []) }
 {

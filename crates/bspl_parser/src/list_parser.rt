@@ -12,20 +12,20 @@ use bspl_types::Seq;
 use std::alloc::Global;
 
 /// What a line of the grammar reads from tokens.
-pub trait Parse: Drop {
+pub trait Parse<'t>: Drop {
     /// The reading of one, over lists of tokens.
     ghost at: { List SpecToken → Result (Self × List SpecToken) SpecErrorPosition };
 
     /// Reads one.
-    fn read(alloc: Global, stream: &mut TokenStream) -> Result<Self, ParseError>
+    fn read(alloc: Global, stream: &mut TokenStream<'t>) -> Result<Self, ParseError>
         ensures gives { Gives result stream.new (at stream.old) }
         ensures shorter { OnOk result (length stream.new < length stream.old) };
 }
 
 /// Reads the further items of a list, and puts them after those that were read before.
-pub fn read_more<T: Parse>(
+pub fn read_more<'t, T: Parse<'t>>(
     alloc: Global,
-    stream: &mut TokenStream,
+    stream: &mut TokenStream<'t>,
     kind: ListKind,
     prefix: Seq<T>,
 ) -> Result<Seq<T>, ParseError>
@@ -44,7 +44,10 @@ pub fn read_more<T: Parse>(
 
 /// Reads one item, and one more after each comma.
 #[tactic(auto, unfolding(crate::specs::inner::GrammarParsers::parse_list))]
-pub fn read_list<T: Parse>(alloc: Global, stream: &mut TokenStream) -> Result<Seq<T>, ParseError>
+pub fn read_list<'t, T: Parse<'t>>(
+    alloc: Global,
+    stream: &mut TokenStream<'t>,
+) -> Result<Seq<T>, ParseError>
     ensures gives { Gives result stream.new (parse_list T.at stream.old) }
     ensures shorter { OnOk result (length stream.new < length stream.old) }
 {

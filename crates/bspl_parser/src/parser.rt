@@ -22,7 +22,7 @@ fn error_offset(position: ErrorPosition, len: usize) -> u64
 /// The document that the text spells. Otherwise the text is refused at an offset: that of the first
 /// byte at which no token begins; or, if there is none, that of the first token that no valid
 /// document can have at that point, or the end of the text if more has to come.
-pub fn parse(alloc: Global, text: &[u8]) -> Result<Document, Refusal>
+pub fn parse(alloc: Global, text: &[u8]) -> Result<Document<'_>, Refusal>
     ensures ok { IfOk result (IsText text.now) }
     ensures refused { IfErr result (IsRefusedFor text.now) }
 {

@@ -26,7 +26,7 @@ pub fn print(alloc: Global, document: &Document) -> Result<Bytes, NoMemory>
     Ok(text)
 }
 
-impl Print for Declaration {
+impl<'t> Print for Declaration<'t> {
     ghost printed = { printed_declaration };
 
     #[tactic(auto, unfolding(crate::specs::Layout::printed_declaration))]
@@ -51,7 +51,7 @@ fn add_private(text: &mut Bytes, words: &[Word]) -> Result<(), NoMemory>
     add_list_line(text, b"private ", words)
 }
 
-impl Print for Item {
+impl<'t> Print for Item<'t> {
     ghost printed = { item_line };
 
     fn add_to(&self, text: &mut Bytes) -> Result<(), NoMemory> {
@@ -62,7 +62,7 @@ impl Print for Item {
     }
 }
 
-impl Print for Schema {
+impl<'t> Print for Schema<'t> {
     ghost printed = { printed_message };
 
     fn add_to(&self, text: &mut Bytes) -> Result<(), NoMemory> {
@@ -77,7 +77,7 @@ impl Print for Schema {
     }
 }
 
-impl Print for Reference {
+impl<'t> Print for Reference<'t> {
     ghost printed = { printed_reference };
 
     fn add_to(&self, text: &mut Bytes) -> Result<(), NoMemory> {
@@ -89,7 +89,7 @@ impl Print for Reference {
     }
 }
 
-impl Print for Formal {
+impl<'t> Print for Formal<'t> {
     ghost printed = { printed_formal };
 
     fn add_to(&self, text: &mut Bytes) -> Result<(), NoMemory> {
@@ -123,7 +123,7 @@ fn add_key(text: &mut Bytes, key: Option<u64>) -> Result<(), NoMemory>
     }
 }
 
-impl Print for Word {
+impl<'t> Print for Word<'t> {
     ghost printed = { printed_word };
 
     fn add_to(&self, text: &mut Bytes) -> Result<(), NoMemory> {

@@ -1,37 +1,16 @@
-ghost use Rattle.std.specs.Prelude.{◌≡◌, ◌≤◌, ◌<◌, ◌==◌, nat_eq, length, position};
-ghost use Rattle.std.specs.Prelude.{IfSome, IfOk, IfErr, IsTrue};
-ghost use Rattle.std.specs.List.{find, starts_with};
-ghost use Rattle.bspl_types.specs.Name.{is_name};
-ghost use Rattle.bspl_parser.specs.Symbol.{spelling};
-ghost use Rattle.bspl_parser.specs.inner.SymbolTable.{marks};
+ghost use Rattle.std.specs.Prelude.{◌≡◌, ◌≤◌, ◌<◌, ◌==◌, length, position};
+ghost use Rattle.std.specs.Prelude.{IfSome, IfOk, IfErr};
 ghost use Rattle.bspl_parser.specs.Tokens.{is_blank_byte, Tokens};
-ghost use Rattle.bspl_parser.specs.inner.Scanner.{comment_len, gap_len, word_symbol, word_kind};
-ghost use Rattle.bspl_parser.specs.inner.Scanner.{mark_at, first_token, IsTokenOf, IsScanError};
+ghost use Rattle.bspl_parser.specs.inner.Scanner.{comment_len, blanks_len, gap_len, word_symbol};
+ghost use Rattle.bspl_parser.specs.inner.Scanner.{word_kind, mark_at, first_token, IsScanError};
 
 use super::name_length::name_len;
+use super::packed_token::{Kind, PackedToken};
 use super::parse_error::{ErrorPosition, ParseError};
-use super::symbol::{MARKS, Symbol, WORDS};
-use super::token::Token;
+use super::symbol::Symbol;
 use super::token_stream::TokenStream;
-use super::word::Word;
-use bspl_types::{NoMemory, Seq};
+use bspl_types::Seq;
 use std::alloc::Global;
-
-/// What a token is, but for its text and its offset.
-#[derive(Clone, Copy)]
-pub enum Kind {
-    /// A name.
-    Name,
-    /// A reserved word or a mark.
-    Fixed(Symbol),
-}
-
-/// Whether the byte is a space, a tab, a LF or a CR.
-fn is_blank_byte(byte: u8) -> bool
-    ensures { result ≡ is_blank_byte byte }
-{
-    matches!(byte, b' ' | b'\t' | b'\n' | b'\r')
-}
 
 /// The index of the first LF.
 fn line_end(bytes: &[u8]) -> Option<usize>
@@ -52,23 +31,36 @@ fn comment_len(bytes: &[u8]) -> usize
     }
 }
 
-/// The length of a blank or a comment that the bytes begin with; 0 if they begin with neither.
+/// Whether the byte is a space, a tab, a LF or a CR.
+fn is_blank_byte(byte: u8) -> bool
+    ensures { result ≡ is_blank_byte byte }
+{
+    matches!(byte, b' ' | b'\t' | b'\n' | b'\r')
+}
+
+/// How many blanks the bytes begin with.
+fn blanks_len(bytes: &[u8]) -> usize
+    ensures exact { result ≡ blanks_len bytes.now }
+    ensures within { result ≤ length bytes.now }
+{
+    for (i, byte) in bytes.iter().enumerate() {
+        if !is_blank_byte(*byte) {
+            return i;
+        }
+    }
+    bytes.len()
+}
+
+/// The length of the blanks or of the comment that the bytes begin with; 0 if they begin with
+/// neither.
 #[tactic(auto, unfolding(crate::specs::inner::Scanner::gap_len))]
 fn gap_len(bytes: &[u8]) -> usize
     ensures exact { result ≡ gap_len bytes.now }
     ensures within { result ≤ length bytes.now }
 {
     match bytes {
-        [] => 0,
-        [first, ..] => {
-            if is_blank_byte(*first) {
-                return 1;
-            }
-            if bytes.starts_with(b"//") {
-                return comment_len(bytes);
-            }
-            0
-        }
+        [b'/', b'/', ..] => comment_len(bytes),
+        _ => blanks_len(bytes),
     }
 }
 
@@ -76,7 +68,20 @@ fn gap_len(bytes: &[u8]) -> usize
 fn word_symbol(text: &[u8]) -> Option<Symbol>
     ensures { result ≡ word_symbol text.now }
 {
-    WORDS.iter().copied().find(|s| text == s.spelling())
+    match text {
+        b"roles" => Some(Symbol::Roles),
+        b"role" => Some(Symbol::Role),
+        b"parameters" => Some(Symbol::Parameters),
+        b"parameter" => Some(Symbol::Parameter),
+        b"private" => Some(Symbol::Private),
+        b"in" => Some(Symbol::In),
+        b"out" => Some(Symbol::Out),
+        b"nil" => Some(Symbol::Nil),
+        b"any" => Some(Symbol::Any),
+        b"opt" => Some(Symbol::Opt),
+        b"key" => Some(Symbol::Key),
+        _ => None,
+    }
 }
 
 /// What a token of that text is: a reserved word, or else a name.
@@ -89,26 +94,24 @@ fn word_kind(text: &[u8]) -> Kind
     }
 }
 
-/// The mark that the bytes begin with, but for the other arrow.
-fn short_mark_at(bytes: &[u8]) -> Option<Symbol>
-    ensures { result ≡ find (λ s. starts_with nat_eq bytes.now (spelling s)) marks }
-{
-    MARKS
-        .iter()
-        .copied()
-        .find(|s| bytes.starts_with(s.spelling()))
-}
-
 /// The mark that the bytes begin with, and its length.
 #[tactic(auto, unfolding(crate::specs::inner::Scanner::mark_at))]
 fn mark_at(bytes: &[u8]) -> Option<(Symbol, usize)>
     ensures { result ≡ mark_at bytes.now }
 {
-    if bytes.starts_with(b"\xE2\x86\xA6") {
-        return Some((Symbol::Arrow, 3));
+    match bytes {
+        [b'{', ..] => Some((Symbol::OpenBrace, 1)),
+        [b'}', ..] => Some((Symbol::CloseBrace, 1)),
+        [b'[', ..] => Some((Symbol::OpenBracket, 1)),
+        [b']', ..] => Some((Symbol::CloseBracket, 1)),
+        [b'(', ..] => Some((Symbol::OpenParen, 1)),
+        [b')', ..] => Some((Symbol::CloseParen, 1)),
+        [b',', ..] => Some((Symbol::Comma, 1)),
+        [b':', ..] => Some((Symbol::Colon, 1)),
+        [b'-', b'>', ..] => Some((Symbol::Arrow, 2)),
+        [0xE2, 0x86, 0xA6, ..] => Some((Symbol::Arrow, 3)),
+        _ => None,
     }
-    let symbol = short_mark_at(bytes)?;
-    Some((symbol, symbol.spelling().len()))
 }
 
 /// The longest token that the bytes begin with, and its length.
@@ -132,39 +135,35 @@ fn first_token(bytes: &[u8]) -> Option<(Kind, usize)>
     word_or_mark(bytes)
 }
 
-/// The token of that kind, text and offset.
-fn make_token(alloc: Global, kind: Kind, text: &[u8], offset: u64) -> Result<Token, NoMemory>
-    requires { kind ≡ Kind.Name → IsTrue (is_name text.now) }
-    ensures { IfOk result (λ token. IsTokenOf kind text.now offset token) }
-{
-    match kind {
-        Kind::Name => {
-            let text = Seq::from_slice(alloc, text)?;
-            Ok(Token::Name(Word { text, offset }))
-        }
-        Kind::Fixed(symbol) => Ok(Token::Fixed { symbol, offset }),
-    }
-}
-
-/// The tokens of the text.
-pub fn tokens_of(alloc: Global, text: &[u8]) -> Result<TokenStream, ParseError>
+/// The tokens of the text. One of four gibibytes or more has no room in packed tokens.
+pub fn tokens_of(alloc: Global, text: &[u8]) -> Result<TokenStream<'_>, ParseError>
     ensures ok { IfOk result (λ tokens. Tokens text.now tokens) }
     ensures error { IfErr result (IsScanError text.now) }
 {
-    let mut tokens = TokenStream::new(alloc);
+    if text.len() > u32::MAX as usize {
+        return Err(ParseError::NoMemory);
+    }
+    let mut tokens = Seq::new(alloc);
     let mut offset = 0;
     while offset < text.len() {
         let rest = &text[offset..];
-        let skipped = gap_len(rest);
-        if 0 < skipped {
-            offset += skipped;
-        } else {
-            let Some((kind, len)) = first_token(rest) else {
-                return Err(ParseError::Invalid(ErrorPosition::At(offset as u64)));
-            };
-            tokens.push(make_token(alloc, kind, &rest[..len], offset as u64)?)?;
-            offset += len;
+        match first_token(rest) {
+            Some((kind, len)) => {
+                tokens.push(PackedToken {
+                    start: offset as u32,
+                    len: len as u32,
+                    kind,
+                })?;
+                offset += len;
+            }
+            None => {
+                let skipped = gap_len(rest);
+                if skipped == 0 {
+                    return Err(ParseError::Invalid(ErrorPosition::At(offset as u64)));
+                }
+                offset += skipped;
+            }
         }
     }
-    Ok(tokens)
+    Ok(TokenStream::new(text, tokens))
 }

@@ -27,34 +27,6 @@ pub enum Symbol {
     Colon,
 }
 
-/// The symbols that are words.
-pub const WORDS: [Symbol; 11] = [
-    Symbol::Roles,
-    Symbol::Role,
-    Symbol::Parameters,
-    Symbol::Parameter,
-    Symbol::Private,
-    Symbol::In,
-    Symbol::Out,
-    Symbol::Nil,
-    Symbol::Any,
-    Symbol::Opt,
-    Symbol::Key,
-];
-
-/// The symbols that are no words.
-pub const MARKS: [Symbol; 9] = [
-    Symbol::Arrow,
-    Symbol::OpenBrace,
-    Symbol::CloseBrace,
-    Symbol::OpenBracket,
-    Symbol::CloseBracket,
-    Symbol::OpenParen,
-    Symbol::CloseParen,
-    Symbol::Comma,
-    Symbol::Colon,
-];
-
 impl Symbol {
     /// The bytes that spell the symbol.
     pub fn spelling(self) -> &'static [u8]

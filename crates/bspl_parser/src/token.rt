@@ -3,9 +3,9 @@ use super::word::Word;
 
 /// One token of a text.
 #[derive(Drop)]
-pub enum Token {
+pub enum Token<'t> {
     /// A name.
-    Name(Word),
+    Name(Word<'t>),
     /// A reserved word or a mark, and the offset of its first byte.
     Fixed { symbol: Symbol, offset: u64 },
 }

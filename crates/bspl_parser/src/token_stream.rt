@@ -1,5 +1,6 @@
-ghost use Rattle.std.specs.Prelude.{◌≡◌, ◌<◌, ◌≤◌, [], ◌∷◌, ◌++◌, drop, length};
+ghost use Rattle.std.specs.Prelude.{◌≡◌, ◌==◌, ◌<◌, ◌≤◌, [], ◌∷◌, drop, length};
 ghost use Rattle.std.specs.Prelude.{IfSome, IfNone, OnOk};
+ghost use Rattle.bspl_parser.specs.inner.PackedToken.{ArePacked, all_unpacked};
 ghost use Rattle.bspl_parser.specs.inner.ParseResult.{Returns, ReturnsRest};
 ghost use Rattle.bspl_parser.specs.inner.TokenParsers.{begins_with, begins_with_name, parse_word};
 ghost use Rattle.bspl_parser.specs.inner.TokenParsers.{parse_symbol};
@@ -9,63 +10,74 @@ ghost use Rattle.bspl_parser.specs.inner.GrammarParsers.{has_more, parse_separat
 
 use super::document::Adorn;
 use super::list_kind::ListKind;
+use super::packed_token::{PackedToken, packed_at, unpack};
 use super::parse_error::ErrorPosition;
 use super::symbol::Symbol;
 use super::token::Token;
 use super::word::Word;
-use bspl_types::NoMemory;
-use std::alloc::Global;
-use std::collections::VecDeque;
+use bspl_types::Seq;
 use std::marker::Model;
 
-/// The tokens that are still to come, in order.
+/// The tokens of a text that are still to come, in order.
 #[derive(Drop)]
-pub struct TokenStream {
-    tokens: VecDeque<Token>,
+pub struct TokenStream<'t> {
+    text: &'t [u8],
+    tokens: Seq<PackedToken>,
+    position: usize,
 }
 
-impl Model for TokenStream {
-    ghost use Rattle.std.specs.Prelude.{List};
+impl<'t> Model for TokenStream<'t> {
+    ghost use Rattle.std.specs.Prelude.{List, drop};
     ghost use Rattle.bspl_parser.specs.declared.token.Token.{Token as SpecToken};
+    ghost use Rattle.bspl_parser.specs.inner.PackedToken.{ArePacked, all_unpacked};
 
     ghost Value = { List SpecToken };
 
-    ghost view = { λ c. c.tokens.items };
+    ghost view = { λ s. drop s.position (all_unpacked s.text.now s.tokens) };
+
+    ghost invariant = { λ s. ArePacked s.text.now s.tokens };
 }
 
-impl TokenStream {
-    /// No tokens.
-    pub fn new(alloc: Global) -> TokenStream
-        ensures { result ≡ [] }
+impl<'t> TokenStream<'t> {
+    /// The tokens, which lie in the text.
+    pub fn new(text: &'t [u8], tokens: Seq<PackedToken>) -> TokenStream<'t>
+        requires { ArePacked text.now tokens }
+        ensures { result ≡ all_unpacked text.now tokens }
     {
         TokenStream {
-            tokens: VecDeque::new(alloc),
+            text,
+            tokens,
+            position: 0,
         }
     }
 
-    /// Puts a token at the end.
-    pub fn push(&mut self, token: Token) -> Result<(), NoMemory>
-        ensures { OnOk result (self.new ≡ self.old ++ token ∷ []) }
-    {
-        self.tokens.push_back(token)?;
-        Ok(())
-    }
-
     /// Takes the next token.
-    fn next(&mut self) -> Option<Token>
+    fn next(&mut self) -> Option<Token<'t>>
         ensures some { IfSome result (λ token. self.old ≡ token ∷ self.new) }
         ensures none { IfNone result (self.old ≡ []) }
     {
-        self.tokens.pop_front()
+        let Some(packed) = packed_at(self.tokens.as_slice(), self.position) else {
+            return None;
+        };
+        let token = unpack(self.text, packed);
+        self.position += 1;
+        Some(token)
+    }
+
+    /// Whether no token is left.
+    fn is_empty(&self) -> bool
+        ensures { result ≡ (length self.now == 0) }
+    {
+        self.tokens.len() <= self.position
     }
 
     /// Whether the symbol comes next.
     pub fn begins_with(&self, symbol: Symbol) -> bool
         ensures { result ≡ begins_with symbol self.now }
     {
-        match self.tokens.front() {
-            Some(Token::Fixed { symbol: other, .. }) => other.is(symbol),
-            _ => false,
+        match packed_at(self.tokens.as_slice(), self.position) {
+            Some(packed) => packed.is_symbol(symbol),
+            None => false,
         }
     }
 
@@ -73,7 +85,11 @@ impl TokenStream {
     fn has_name_after(&self, skipped: usize) -> bool
         ensures { result ≡ begins_with_name (drop skipped self.now) }
     {
-        matches!(self.tokens.get(skipped), Some(Token::Name(_)))
+        let position = self.position.saturating_add(skipped);
+        match packed_at(self.tokens.as_slice(), position) {
+            Some(packed) => packed.is_name(),
+            None => false,
+        }
     }
 
     /// Whether a further item of the list comes.
@@ -84,7 +100,7 @@ impl TokenStream {
             ListKind::Comma => self.begins_with(Symbol::Comma),
             ListKind::CommaName => self.begins_with(Symbol::Comma) && self.has_name_after(1),
             ListKind::Name => self.has_name_after(0),
-            ListKind::Rest => !self.tokens.is_empty(),
+            ListKind::Rest => !self.is_empty(),
         }
     }
 
@@ -101,7 +117,7 @@ impl TokenStream {
 
     /// Takes a name.
     #[tactic(auto, unfolding(crate::specs::inner::TokenParsers::parse_word))]
-    pub fn word(&mut self) -> Result<Word, ErrorPosition>
+    pub fn word(&mut self) -> Result<Word<'t>, ErrorPosition>
         ensures gives { Returns result self.new (parse_word self.old) }
         ensures shorter { OnOk result (length self.new < length self.old) }
     {

@@ -82,8 +82,8 @@ const ROWS: &[(Parts, Option<bool>)] = &[
     ((AB, &[ID], 1, &[SCHEMA, SCHEMA]), None),
 ];
 
-/// Instances that do not fit the protocol of ping alone: the message, and the numbers of the key and
-/// of the values.
+/// Instances that do not fit the protocol of ping alone: the message, and the numbers of the key
+/// and of the values.
 const MISFITS: &[(u32, &[u64], &[u64])] = &[
     (1, &[7], &[7]),
     (0, &[8], &[7]),

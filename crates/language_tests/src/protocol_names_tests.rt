@@ -4,7 +4,7 @@ use std::alloc::Global;
 use std::test::Fail;
 
 /// The document of the text.
-fn read(alloc: Global, text: &[u8]) -> Result<Document, Fail> {
+fn read(alloc: Global, text: &[u8]) -> Result<Document<'_>, Fail> {
     Ok(parse(alloc, text).ok().ok_or("this is a text")?)
 }
 

@@ -1,9 +1,8 @@
 -- One name more, among those that are declared one after the other.
-use Rattle.std.proofs.Common.{◌≡◌, ℕ, ◌⊎◌, Bool, List, [], ◌∷◌, ◌++◌, length, Option, None, Result, Ok, Err, refl, sym, ◌∙◌, ap, subst, inl, inr, arith}
-use Rattle.std.specs.Prelude.{◌↔◌, IsTrue, OnOk}
+use Rattle.std.proofs.Common.{◌≡◌, ℕ, ◌⊎◌, Bool, List, [], ◌∷◌, ◌++◌, length, Option, None, refl, sym, ◌∙◌, ap, subst, inl, inr, arith}
+use Rattle.std.specs.Prelude.{◌↔◌, IsTrue}
 use Rattle.std.specs.List.{Contains}
 use Rattle.std.proofs.lemmas.List.{append_assoc, length-append, map-append}
-use Rattle.list_base.specs.declared.memory.NoMemory.{NoMemory}
 use Rattle.bspl_parser.specs.declared.word.Word.{Word}
 use Rattle.protocol_names.specs.declared.fault.DocumentFault.{DocumentFault}
 use Rattle.protocol_names.specs.declared.fault.FaultKind.{FaultKind}
@@ -61,8 +60,3 @@ named_push words w names names' first fault first' again named tests finds is_fi
       finds_same (EitherFault (IsDuplicate words) (FaultIf (Contains (texts words) w.text) Duplicate w.offset)) (IsDuplicate (words ++ w ∷ [])) first' (to_longer words w) (from_longer words w)
       (finds_two (IsDuplicate words) (FaultIf (Contains (texts words) w.text) Duplicate w.offset) first fault first' named.duplicate one is_first);
 }
-
--- the same where the name was taken up
-pub named_if : (words : List Word) (w : Word) (names names' : List (List ℕ)) (first fault first' : Option DocumentFault) (again : Bool) (result : Result (Unit {0}) NoMemory) → AreDeclared words names first → IsTrue again ↔ Contains names w.text → FindsFirst (FaultIf (IsTrue again) Duplicate w.offset) fault → first' ≡ earlier first fault → OnOk result (names' ≡ names ++ w.text ∷ []) → OnOk result (AreDeclared (words ++ w ∷ []) names' first')
-named_if words w names names' first fault first' again (Ok u) named tests finds is_first is_names = named_push words w names names' first fault first' again named tests finds is_first is_names
-named_if words w names names' first fault first' again (Err e) named tests finds is_first is_names = tt

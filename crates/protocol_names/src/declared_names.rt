@@ -13,16 +13,16 @@ use std::alloc::Global;
 
 /// Names that are declared one after the other, and the first duplicate among them.
 #[derive(Drop)]
-pub(crate) struct DeclaredNames {
+pub(crate) struct DeclaredNames<'n> {
     /// The names, in order.
-    pub names: NameTable,
+    pub names: NameTable<'n>,
     /// The first duplicate, if there is one.
     pub first: Option<DocumentFault>,
 }
 
-impl DeclaredNames {
+impl<'n> DeclaredNames<'n> {
     /// No names yet.
-    fn new(alloc: Global) -> DeclaredNames
+    fn new(alloc: Global) -> DeclaredNames<'n>
         ensures { AreDeclared [] result.names result.first }
     {
         DeclaredNames {
@@ -32,18 +32,18 @@ impl DeclaredNames {
     }
 
     /// Notes a name that is declared after the others.
-    fn add(&mut self, word: &Word) -> Result<(), NoMemory>
+    fn add(&mut self, word: &'n Word<'n>) -> Result<(), NoMemory>
         ensures { (words : List SpecWord) → AreDeclared words self.old.names self.old.first →
             OnOk result (AreDeclared (words ++ word.now ∷ []) self.new.names self.new.first) }
     {
-        let again = self.names.has(word.text.as_slice());
+        let again = self.names.add(word.text.as_slice())?;
         let fault = fault_if(again, FaultKind::Duplicate, word.offset);
         self.first = earlier(self.first, fault);
-        self.names.push(word.text.as_slice())
+        Ok(())
     }
 
     /// Notes the name that an item declares, if it declares one.
-    fn add_declared(&mut self, item: &Item) -> Result<(), NoMemory>
+    fn add_declared(&mut self, item: &'n Item<'n>) -> Result<(), NoMemory>
         ensures { (words : List SpecWord) → AreDeclared words self.old.names self.old.first →
             OnOk result
             (AreDeclared (words ++ declared_word item.now) self.new.names self.new.first) }
@@ -56,7 +56,10 @@ impl DeclaredNames {
 }
 
 /// Notes the names of roles.
-pub(crate) fn named_roles(alloc: Global, roles: &[Word]) -> Result<DeclaredNames, NoMemory>
+pub(crate) fn named_roles<'n>(
+    alloc: Global,
+    roles: &'n [Word<'n>],
+) -> Result<DeclaredNames<'n>, NoMemory>
     ensures { IfOk result (λ n. AreDeclared roles.now n.names n.first) }
 {
     let mut declared = DeclaredNames::new(alloc);
@@ -67,11 +70,11 @@ pub(crate) fn named_roles(alloc: Global, roles: &[Word]) -> Result<DeclaredNames
 }
 
 /// Notes the names of parameters, the public ones first.
-pub(crate) fn named_params(
+pub(crate) fn named_params<'n>(
     alloc: Global,
-    public: &[Formal],
-    private: &[Word],
-) -> Result<DeclaredNames, NoMemory>
+    public: &'n [Formal<'n>],
+    private: &'n [Word<'n>],
+) -> Result<DeclaredNames<'n>, NoMemory>
     ensures { IfOk result (λ n.
         AreDeclared (map (λ f. f.name) public.now ++ private.now) n.names n.first) }
 {
@@ -86,7 +89,10 @@ pub(crate) fn named_params(
 }
 
 /// Notes the names of messages.
-pub(crate) fn named_messages(alloc: Global, body: &[Item]) -> Result<DeclaredNames, NoMemory>
+pub(crate) fn named_messages<'n>(
+    alloc: Global,
+    body: &'n [Item<'n>],
+) -> Result<DeclaredNames<'n>, NoMemory>
     ensures { IfOk result (λ n. AreDeclared (flat_map declared_word body.now) n.names n.first) }
 {
     let mut declared = DeclaredNames::new(alloc);
@@ -97,10 +103,10 @@ pub(crate) fn named_messages(alloc: Global, body: &[Item]) -> Result<DeclaredNam
 }
 
 /// Notes the names of protocols.
-pub(crate) fn named_protocols(
+pub(crate) fn named_protocols<'n>(
     alloc: Global,
-    protocols: &[Declaration],
-) -> Result<DeclaredNames, NoMemory>
+    protocols: &'n [Declaration<'n>],
+) -> Result<DeclaredNames<'n>, NoMemory>
     ensures { IfOk result (λ n. AreDeclared (protocol_words protocols.now) n.names n.first) }
 {
     let mut declared = DeclaredNames::new(alloc);
@@ -111,7 +117,10 @@ pub(crate) fn named_protocols(
 }
 
 /// The names of the parameters that are marked as keys.
-pub(crate) fn key_names(alloc: Global, public: &[Formal]) -> Result<NameTable, NoMemory>
+pub(crate) fn key_names<'n>(
+    alloc: Global,
+    public: &'n [Formal<'n>],
+) -> Result<NameTable<'n>, NoMemory>
     ensures { IfOk result (λ names. names ≡
         texts (map (λ f. f.name) (filter (λ f. is_some f.key) public.now))) }
 {

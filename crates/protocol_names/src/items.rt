@@ -62,7 +62,7 @@ fn unknown_in(declared: &NameTable, words: &[Word]) -> Option<DocumentFault>
 }
 
 /// The parameters that a message or a reference uses.
-fn params_used(item: &Item) -> &[Formal]
+fn params_used<'a, 't>(item: &'a Item<'t>) -> &'a [Formal<'t>]
     ensures { result.now ≡ params_used item.now }
 {
     match item {

@@ -5,6 +5,7 @@ mod declared_names;
 mod document;
 mod fault;
 mod fault_order;
+mod flat_protocol;
 mod items;
 mod laws;
 mod name_table;
@@ -15,6 +16,7 @@ mod references;
 
 pub use document::first_fault;
 pub use fault::{DocumentFault, FaultKind};
+pub use flat_protocol::{FlatProtocol, SchemaList};
 pub use laws::{faults_have_causes, names_find_protocols};
 pub use name_table::NameTable;
 pub use protocol_table::ProtocolTable;

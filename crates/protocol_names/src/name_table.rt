@@ -1,39 +1,37 @@
-ghost use Rattle.std.specs.Prelude.{◌≡◌, ◌↔◌, ℕ, List, [], ◌∷◌, ◌++◌, length, IsTrue, OnOk, OnErr};
+ghost use Rattle.std.specs.Prelude.{◌≡◌, ◌↔◌, ℕ, List, [], ◌∷◌, ◌++◌, length, IsTrue, IfOk, OnOk, OnErr};
 ghost use Rattle.std.specs.List.{Contains, position};
 ghost use Rattle.std.specs.Str.{bytes_eq};
 ghost use Rattle.protocol_names.specs.inner.IndexMap.{IsIndexMap};
 
-use bspl_types::{NameList, NoMemory, Seq};
+use bspl_types::{NoMemory, Seq};
 use std::alloc::Global;
 use std::collections::BTreeMap;
 use std::marker::Model;
 
-/// Names in order, found by an ordered map. Contracts see the names.
+/// Names in order, found by an ordered map. The text lends them. Contracts see their bytes.
 #[derive(Drop)]
-pub struct NameTable {
-    alloc: Global,
-    names: NameList,
-    indices: BTreeMap<Vec<u8>, usize>,
+pub struct NameTable<'n> {
+    names: Seq<&'n [u8]>,
+    indices: BTreeMap<&'n [u8], usize>,
 }
 
-impl Model for NameTable {
+impl<'n> Model for NameTable<'n> {
     ghost use Rattle.std.specs.Prelude.{List, ℕ};
-    ghost use Rattle.protocol_names.specs.inner.IndexMap.{IsIndexMap};
+    ghost use Rattle.protocol_names.specs.inner.IndexMap.{IsIndexMap, bytes_of};
 
     ghost Value = { List (List ℕ) };
 
-    ghost view = { λ r. r.names };
+    ghost view = { λ r. bytes_of r.names };
 
-    ghost invariant = { λ r. IsIndexMap r.names r.indices };
+    ghost invariant = { λ r. IsIndexMap (bytes_of r.names) r.indices };
 }
 
-impl NameTable {
+impl<'n> NameTable<'n> {
     /// A table without names.
-    pub fn new(alloc: Global) -> NameTable
+    pub fn new(alloc: Global) -> NameTable<'n>
         ensures { result ≡ [] }
     {
         NameTable {
-            alloc,
             names: Seq::new(alloc),
             indices: BTreeMap::new(alloc),
         }
@@ -60,40 +58,47 @@ impl NameTable {
         self.indices.get(name).copied()
     }
 
-    /// Adds the name at the end. A name that is there already keeps its first index.
-    pub fn push(&mut self, name: &[u8]) -> Result<(), NoMemory>
+    /// Adds the name at the end, and returns whether it was there. If so, it keeps its first index.
+    pub fn add(&mut self, name: &'n [u8]) -> Result<bool, NoMemory>
         ensures ok { OnOk result (self.new ≡ self.old ++ name.now ∷ []) }
+        ensures known { IfOk result (λ known. IsTrue known ↔ Contains self.old name.now) }
         ensures err { OnErr result (self.new ≡ self.old) }
     {
         let index = self.names.len();
-        let copy = Seq::from_slice(self.alloc, name)?;
-        self.names.push(copy)?;
-        match keep_index(self.alloc, &mut self.indices, name, index) {
-            Ok(()) => Ok(()),
+        self.names.push(name)?;
+        match keep_index(&mut self.indices, name, index) {
+            Ok(known) => Ok(known),
             Err(error) => {
                 self.names.pop();
                 Err(error)
             }
         }
     }
+
+    /// Adds the name at the end. A name that is there already keeps its first index.
+    pub fn push(&mut self, name: &'n [u8]) -> Result<(), NoMemory>
+        ensures ok { OnOk result (self.new ≡ self.old ++ name.now ∷ []) }
+        ensures err { OnErr result (self.new ≡ self.old) }
+    {
+        self.add(name)?;
+        Ok(())
+    }
 }
 
-/// Writes the index of a name that comes after the others, unless it has one.
-fn keep_index(
-    alloc: Global,
-    indices: &mut BTreeMap<Vec<u8>, usize>,
-    name: &[u8],
+/// Writes the index of a name that comes after the others, unless it has one. Returns whether it
+/// has.
+fn keep_index<'n>(
+    indices: &mut BTreeMap<&'n [u8], usize>,
+    name: &'n [u8],
     index: usize,
-) -> Result<(), NoMemory>
+) -> Result<bool, NoMemory>
     ensures ok { (names : List (List ℕ)) → length names ≡ index → IsIndexMap names indices.old →
         OnOk result (IsIndexMap (names ++ name.now ∷ []) indices.new) }
+    ensures known { (names : List (List ℕ)) → length names ≡ index → IsIndexMap names indices.old →
+        IfOk result (λ known. IsTrue known ↔ Contains names name.now) }
     ensures err { (names : List (List ℕ)) → IsIndexMap names indices.old →
         OnErr result (IsIndexMap names indices.new) }
 {
-    if indices.contains_key(name) {
-        return Ok(());
-    }
-    let copy = Vec::from_slice(alloc, name)?;
-    indices.insert(copy, index)?;
-    Ok(())
+    let first = *indices.entry(name)?.or_insert(index);
+    Ok(first != index)
 }

@@ -2,11 +2,11 @@ use super::name_table::NameTable;
 
 /// The names that one protocol declares.
 #[derive(Drop)]
-pub struct Names {
+pub struct Names<'n> {
     /// The roles.
-    pub roles: NameTable,
+    pub roles: NameTable<'n>,
     /// The public parameters, and the private ones after them.
-    pub params: NameTable,
+    pub params: NameTable<'n>,
     /// The public parameters that are marked as keys.
-    pub keys: NameTable,
+    pub keys: NameTable<'n>,
 }

@@ -11,15 +11,18 @@ use std::alloc::Global;
 #[derive(Drop)]
 pub struct ProtocolTable<'a> {
     /// The protocols, in the order of the document.
-    pub protocols: &'a [Declaration],
+    pub protocols: &'a [Declaration<'a>],
     /// Their names, in the same order.
-    pub names: NameTable,
+    pub names: NameTable<'a>,
     pub ghost in_order: { names ≡ texts (protocol_words protocols.now) },
 }
 
 impl<'a> ProtocolTable<'a> {
     /// A table of the protocols.
-    pub fn new(alloc: Global, protocols: &'a [Declaration]) -> Result<ProtocolTable<'a>, NoMemory>
+    pub fn new(
+        alloc: Global,
+        protocols: &'a [Declaration<'a>],
+    ) -> Result<ProtocolTable<'a>, NoMemory>
         ensures { IfOk result (λ d. d.protocols.now ≡ protocols.now) }
     {
         let declared = named_protocols(alloc, protocols)?;
@@ -30,7 +33,7 @@ impl<'a> ProtocolTable<'a> {
     }
 
     /// The first protocol of the name.
-    pub fn protocol(&self, name: &[u8]) -> Option<&'a Declaration>
+    pub fn protocol(&self, name: &[u8]) -> Option<&'a Declaration<'a>>
         ensures { option_copied result ≡ protocol_of self.now.protocols.now name.now }
     {
         let index = self.names.index(name)?;

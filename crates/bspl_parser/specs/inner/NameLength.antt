@@ -8,10 +8,30 @@ use Rattle.bspl_parser.specs.declared.name_length.State.{State}
 use Rattle.bspl_parser.specs.declared.name_length.State.TheVariants.{Start, Plain, Dash, Hash}
 use Rattle.bspl_parser.specs.declared.name_length.State.TheVariants.{Number}
 
+-- a plain name may begin with the first byte
+abbrev pub has_begin : List ℕ → Bool
+has_begin [] = false
+has_begin (b ∷ bs) = begins_name b
+
+-- a plain name may go on with the byte
+abbrev pub is_plain : ℕ → Bool
+is_plain b = is_ascii_alphanumeric b || b == 95
+
+-- a plain name may go on with the first byte
+abbrev pub has_plain : List ℕ → Bool
+has_plain [] = false
+has_plain (b ∷ bs) = is_plain b
+
+-- a name may go on with the bytes after a plain one
+abbrev pub goes_on : List ℕ → Bool
+goes_on [] = false
+goes_on (b ∷ []) = b == 35
+goes_on (b ∷ c ∷ bs) = if b == 45 then is_ascii_alphanumeric c else b == 35
+
 -- the state after a byte that follows a letter, a digit or `_`
 abbrev pub after_plain : ℕ → Option State
 after_plain b =
-    if is_ascii_alphanumeric b || b == 95
+    if is_plain b
     then Some Plain
     else (if b == 45 then Some Dash else (if b == 35 then Some Hash else None))
 

@@ -7,8 +7,8 @@ use Rattle.std.specs.Str.{bytes_eq}
 use Rattle.bspl_parser.specs.declared.parse_error.ErrorPosition.TheVariants.{At, End}
 use Rattle.bspl_parser.specs.declared.parse_error.ParseError.{ParseError}
 use Rattle.bspl_parser.specs.declared.parse_error.ParseError.TheVariants as error
-use Rattle.bspl_parser.specs.declared.scanner.Kind.{Kind}
-use Rattle.bspl_parser.specs.declared.scanner.Kind.TheVariants as kind
+use Rattle.bspl_parser.specs.declared.packed_token.Kind.{Kind}
+use Rattle.bspl_parser.specs.declared.packed_token.Kind.TheVariants as kind
 use Rattle.bspl_parser.specs.declared.symbol.Symbol.{Symbol}
 use Rattle.bspl_parser.specs.declared.symbol.Symbol.TheVariants.{Arrow}
 use Rattle.bspl_parser.specs.declared.token.Token.{Token}
@@ -23,13 +23,15 @@ abbrev pub comment_len : List ℕ → ℕ
 comment_len bytes =
     option_map_or (λ index. index + 1) (position (λ b. b == 10) bytes) (length bytes)
 
--- the length of a blank or a comment that the bytes begin with, or 0
+-- how many blanks the bytes begin with
+abbrev pub blanks_len : List ℕ → ℕ
+blanks_len [] = 0
+blanks_len (b ∷ bs) = if is_blank_byte b then 1 + blanks_len bs else 0
+
+-- the length of the blanks or of the comment that the bytes begin with, or 0
 unfoldable pub gap_len : List ℕ → ℕ
-gap_len [] = 0
-gap_len (b ∷ bs) =
-    if is_blank_byte b
-    then 1
-    else (if starts_with nat_eq (b ∷ bs) (codes "//") then comment_len (b ∷ bs) else 0)
+gap_len bytes =
+    if starts_with nat_eq bytes (codes "//") then comment_len bytes else blanks_len bytes
 
 -- the reserved word that the text is
 abbrev pub word_symbol : List ℕ → Option Symbol

@@ -1,12 +1,19 @@
--- A name that is there keeps its index, and a new one gets the last.
-use Rattle.std.proofs.Common.{◌∙◌, sym}
-use Rattle.protocol_names.proofs.IndexMapLemmas.{kept, placed}
+-- The first index of the name stays, or is the last.
+use Rattle.std.proofs.Common.{◌∙◌, ap, rules, arith}
+use Rattle.std.specs.BTreeMap.Entry.{map_with_value}
+use Rattle.std.specs.Option.{unwrap_or}
+use Rattle.std.proofs.lemmas.Grind.{common_steps}
+use Rattle.protocol_names.proofs.IndexMapLemmas.{placed, was_there}
 use Rattle.protocol_names.proofs.name_table.keep_index.Goals as goal
-
-pub returns-then-contains_key-clause-ok : goal.returns-then-contains_key-clause-ok
-returns-then-contains_key-clause-ok c = λ names is_last is_map. kept names c.args.name.now c.args.indices.now is_map (sym c.contains_key.ensures ∙ c.if-contains_key.true)
 
 pub returns-clause-ok : goal.returns-clause-ok
 returns-clause-ok c = λ names is_last is_map.
-    placed names c.args.name.now c.in_ok-copy.copy.items c.args.index c.args.indices.now c.insert.new.self
-    c.in_ok-copy.ensures.items is_last is_map (sym c.contains_key.ensures ∙ c.if-contains_key.false) c.in_ok-insert.ensures.updates
+    let first = c.or_insert-first.result.now in
+    let is_first = c.or_insert-first.ensures.value ∙ ap (λ o. unwrap_or o c.args.index) c.in_ok-indices.ensures.value in
+    let set = placed names c.args.name.now c.args.index first c.args.indices.now (map_with_value c.in_ok-indices.field-0 first) is_last is_map is_first (c.in_ok-indices.ensures.update.0 first) in
+    record { finds = λ other. grind (arith, common_steps, set.finds other) }
+
+pub returns-clause-known : goal.returns-clause-known
+returns-clause-known c = λ names is_last is_map.
+    was_there names c.args.name.now c.args.index c.or_insert-first.result.now _ c.args.indices.now is_last is_map
+    (c.or_insert-first.ensures.value ∙ ap (λ o. unwrap_or o c.args.index) c.in_ok-indices.ensures.value) (search rules)
