@@ -1,6 +1,7 @@
-use bspl_parser::{Declaration, Document, parse, print};
-use bspl_types::{Bytes, Expanded, NoMemory, Seq};
-use flat_expansion::{declaration_of, expansion_of};
+use bspl_parser::{Document, parse, print, reads_back};
+use bspl_types::{Bytes, Expanded, NoMemory, Refusal, Seq};
+use flat_expansion::declaration_of;
+use protocol_expand::expand;
 use std::alloc::Global;
 use std::test::Fail;
 
@@ -23,22 +24,24 @@ const NOT_EXPANDED: [&[u8]; 15] = [
     b"P { roles A, B parameters out ID key A -> B: m[out ID] B -> A: m[in ID] }",
 ];
 
-/// The protocol of the text.
-fn declaration(alloc: Global, text: &[u8]) -> Result<Declaration, Fail> {
-    let mut document = parse(alloc, text).ok().ok_or("this is a text")?;
-    Ok(document.protocols.pop().ok_or("there is a protocol")?)
-}
-
-/// Its expansion.
-fn expansion(alloc: Global, d: &Declaration) -> Result<Option<Expanded>, Fail> {
-    Ok(expansion_of(alloc, d).ok().ok_or("there is memory")?)
+/// The expansion of the protocol `P` of the text, if it is not refused.
+pub(crate) fn expansion(alloc: Global, text: &[u8]) -> Result<Option<Expanded>, Fail> {
+    // law: the document of a text is well formed
+    reads_back();
+    let Ok(document) = parse(alloc, text) else {
+        return Err("this is a text".into());
+    };
+    match expand(alloc, &document, b"P") {
+        Ok(x) => Ok(Some(x)),
+        Err(Refusal::NoMemory) => Err("there is memory".into()),
+        Err(_) => Ok(None),
+    }
 }
 
 #[test]
 fn one_fault_leaves_nothing(rt: HostRuntime) -> Result<(), Fail> {
     for text in NOT_EXPANDED {
-        let d = declaration(rt.alloc(), text)?;
-        assert!(rt; expansion(rt.alloc(), &d)?.is_none(), "{:?}", text);
+        assert!(rt; expansion(rt.alloc(), text)?.is_none(), "{:?}", text);
     }
     Ok(())
 }
@@ -53,8 +56,7 @@ fn printed(alloc: Global, x: &Expanded) -> Result<Bytes, NoMemory> {
 #[test]
 fn an_expansion_is_printed(rt: HostRuntime) -> Result<(), Fail> {
     let text = b"P{roles A-1,B parameters out ID key,nil w private x B->A-1:m[in ID key, nil x]}";
-    let d = declaration(rt.alloc(), text.as_slice())?;
-    let x = expansion(rt.alloc(), &d)?.ok_or("it has an expansion")?;
+    let x = expansion(rt.alloc(), text)?.ok_or("it has an expansion")?;
     let text = printed(rt.alloc(), &x).ok().ok_or("there is memory")?;
     let wanted = b"P {
   roles A-1, B

@@ -1,5 +1,4 @@
-use bspl_parser::{Declaration, parse};
-use flat_expansion::expansion_of;
+use super::flat_expansion_tests::expansion;
 use std::alloc::Global;
 use std::test::Fail;
 
@@ -33,8 +32,8 @@ fn add_each(text: &mut String, count: u32, before: &str, after: &str) -> Result<
     Ok(())
 }
 
-/// A protocol with the counts.
-fn crowd(alloc: Global, counts: Counts) -> Result<Declaration, Fail> {
+/// The text of a protocol with the counts.
+fn crowd(alloc: Global, counts: Counts) -> Result<String, Fail> {
     let mut text = String::new(alloc);
     text.push_str("P { roles ")?;
     add_each(&mut text, counts.roles, "r", "")?;
@@ -49,29 +48,13 @@ fn crowd(alloc: Global, counts: Counts) -> Result<Declaration, Fail> {
         text.push_str("]")?;
     }
     text.push_str(" }")?;
-    read(alloc, text.as_bytes())
-}
-
-/// The protocol of the text.
-fn read(alloc: Global, text: &[u8]) -> Result<Declaration, Fail> {
-    let mut document = parse(alloc, text).ok().ok_or("this is a text")?;
-    Ok(document.protocols.pop().ok_or("there is a protocol")?)
-}
-
-/// Whether it has an expansion.
-fn expands(alloc: Global, d: &Declaration) -> Result<bool, Fail> {
-    Ok(
-        expansion_of(alloc, d)
-            .ok()
-            .ok_or("there is memory")?
-            .is_some(),
-    )
+    Ok(text)
 }
 
 #[test]
 fn each_limit_counts(rt: HostRuntime) -> Result<(), Fail> {
     let most = crowd(rt.alloc(), MOST)?;
-    assert!(rt; expands(rt.alloc(), &most)?);
+    assert!(rt; expansion(rt.alloc(), most.as_bytes())?.is_some());
     let rows = [
         Counts { roles: 9, ..MOST },
         Counts {
@@ -93,8 +76,8 @@ fn each_limit_counts(rt: HostRuntime) -> Result<(), Fail> {
         },
     ];
     for counts in rows {
-        let d = crowd(rt.alloc(), counts)?;
-        assert!(rt; !expands(rt.alloc(), &d)?);
+        let text = crowd(rt.alloc(), counts)?;
+        assert!(rt; expansion(rt.alloc(), text.as_bytes())?.is_none());
     }
     Ok(())
 }

@@ -30,7 +30,8 @@ fn add_protocol(
     out.append(b"} ")
 }
 
-/// Protocols P1, P2 and so on, each with `times` references to the next, and the last with the body.
+/// Protocols P1, P2 and so on, each with `times` references to the next, and the last with the
+/// body.
 fn chain(alloc: Global, count: usize, times: usize, body: &[u8]) -> Result<Bytes, NoMemory> {
     let mut out = Seq::new(alloc);
     for number in 1..count {

@@ -1,13 +1,10 @@
 -- When a protocol of messages alone has an expansion, and that its messages are determined.
-use Rattle.std.proofs.Common.{◌≡◌, ◌++◌, ℕ, List, length, map, Some, Ok, Err, None, Option, Result, sym, ◌∙◌, subst}
-use Rattle.std.specs.Prelude.{IfOk, IfSome, IfNone, MatchOption}
+use Rattle.std.proofs.Common.{◌≡◌, ◌++◌, ℕ, List, length, map, sym, ◌∙◌, subst}
 use Rattle.std.specs.List.{AllZip}
 use Rattle.bspl_types.specs.declared.expanded.Expanded.{Expanded}
-use Rattle.list_base.specs.declared.memory.NoMemory.{NoMemory}
 use Rattle.bspl_types.specs.declared.protocol.Carried.{Carried}
 use Rattle.bspl_types.specs.declared.protocol.Message.{Message}
 use Rattle.bspl_types.specs.declared.protocol.ParamInfo.{ParamInfo}
-use Rattle.bspl_types.specs.Parts.{HasParts}
 use Rattle.bspl_types.specs.Shape.{IsWellFormed, key_indices}
 use Rattle.bspl_parser.specs.declared.document.Declaration.{Declaration}
 use Rattle.bspl_parser.specs.declared.document.Formal.{Formal}
@@ -40,10 +37,6 @@ images_found d x roles params is_roles is_params expands =
     subst (λ rs. AllZip (IsMessageOfItem rs params) d.body x.messages) (expands.roles ∙ sym is_roles)
     (subst (λ ps. AllZip (IsMessageOfItem x.roles ps) d.body x.messages) (expands.params ∙ sym is_params) expands.images)
 
--- without images there is no expansion
-pub none_without_images : (d : Declaration) (roles : List (List ℕ)) (params : List ParamInfo) → roles ≡ map (λ w. w.text) d.roles → params ≡ params_of d → ((ms : List Message) → ¬ AllZip (IsMessageOfItem roles params) d.body ms) → (x : Expanded) → ¬ IsExpansionOf d x
-none_without_images d roles params is_roles is_params none x expands = none x.messages (images_found d x roles params is_roles is_params expands)
-
 -- an expansion has the shape of its parts
 shape_of_parts : (x : Expanded) (name : List ℕ) (roles : List (List ℕ)) (params : List ParamInfo) (public : ℕ) (messages : List Message) → x.name ≡ name → x.roles ≡ roles → x.params ≡ params → x.public ≡ public → x.messages ≡ messages → IsWellFormed name roles params public (key_indices params) messages
 shape_of_parts x name roles params public messages same_name same_roles same_params same_public same_messages =
@@ -72,26 +65,6 @@ images_are roles roles' params params' body body' ms same_roles same_params same
     subst (λ rs. AllZip (IsMessageOfItem rs params') body' ms) same_roles
     (subst (λ ps. AllZip (IsMessageOfItem roles ps) body' ms) same_params
     (subst (λ b. AllZip (IsMessageOfItem roles params) b ms) same_body all))
-
--- what was assembled is the expansion, and where nothing was, there is none
-pub assembled : (d : Declaration) (name : List ℕ) (roles : List (List ℕ)) (params : List ParamInfo) (public : ℕ) (messages : List Message) (result : Result (Option Expanded) NoMemory) →
-    name ≡ d.name.text → roles ≡ map (λ w. w.text) d.roles → params ≡ params_of d → public ≡ length d.public → AllZip (IsMessageOfItem roles params) d.body messages →
-    IfOk result (λ made. IfSome made (λ x. HasParts x name roles params public messages)) → IfOk result (λ made. IfNone made (¬ IsWellFormed name roles params public (key_indices params) messages)) →
-    IfOk result (λ found. MatchOption found ((x : Expanded) → ¬ IsExpansionOf d x) (IsExpansionOf d))
-assembled d name roles params public messages (Ok (Some x)) is_name is_roles is_params is_public images made refused =
-    record {
-      named = made.same_name ∙ is_name;
-      roles = made.same_roles ∙ is_roles;
-      params = made.same_params ∙ is_params;
-      public = made.same_public ∙ is_public;
-      images =
-          subst (λ rs. AllZip (IsMessageOfItem rs x.params) d.body x.messages) (sym made.same_roles)
-          (subst (λ ps. AllZip (IsMessageOfItem roles ps) d.body x.messages) (sym made.same_params)
-          (subst (λ ms. AllZip (IsMessageOfItem roles params) d.body ms) (sym made.same_messages) images));
-    }
-assembled d name roles params public messages (Ok None) is_name is_roles is_params is_public images made refused = λ x expands.
-    refused (shape_made d x name roles params public messages expands is_name is_roles is_params is_public images)
-assembled d name roles params public messages (Err e) is_name is_roles is_params is_public images made refused = tt
 
 -- two expansions of a protocol have the same messages
 pub same_messages : (d : Declaration) (x y : Expanded) → IsExpansionOf d x → IsExpansionOf d y → x.messages ≡ y.messages

@@ -3,4 +3,5 @@ pub mod Expansion
 pub mod WellScoped
 pub mod Canonical
 pub mod Laws
+pub mod inner
 pub use Rattle.protocol_names.specs.Names

@@ -7,13 +7,13 @@ ghost use Rattle.flat_expansion.specs.Expansion.{adornment_of, IsExpansionOf};
 ghost use Rattle.flat_expansion.specs.Canonical.{IsCanonical, IsPrivateOf, IsPublicOf, IsWordOf};
 
 use super::schemas::items_of;
-use bspl_parser::{Adorn, Declaration, Formal, FormalList, Word, WordList};
+use bspl_parser::{Adorn, Declaration, Formal, FormalList, Text, Word, WordList};
 use bspl_types::{Adornment, Expanded, Name, NoMemory, ParamInfo, Seq};
 use std::alloc::Global;
 
 /// A protocol of messages alone that has the expansion. Its words have no offsets, so it is for
 /// printing.
-pub fn declaration_of(alloc: Global, x: &Expanded) -> Result<Declaration, NoMemory>
+pub fn declaration_of(alloc: Global, x: &Expanded) -> Result<Declaration<'_>, NoMemory>
     ensures flat { IfOk result (λ d. IsExpansionOf d x.now) }
     ensures formed { IfOk result IsDeclaration }
     ensures bare { IfOk result IsCanonical }
@@ -21,7 +21,7 @@ pub fn declaration_of(alloc: Global, x: &Expanded) -> Result<Declaration, NoMemo
     let params = x.params.as_slice();
     let (public, private) = params.split_at(x.public as usize);
     Ok(Declaration {
-        name: word_of(alloc, &x.name)?,
+        name: word_of(&x.name),
         roles: role_words(alloc, x.roles.as_slice())?,
         public: public_formals(alloc, public)?,
         private: private_words(alloc, private)?,
@@ -30,56 +30,65 @@ pub fn declaration_of(alloc: Global, x: &Expanded) -> Result<Declaration, NoMemo
 }
 
 /// The word for a name.
-pub(crate) fn word_of(alloc: Global, name: &Name) -> Result<Word, NoMemory>
+pub(crate) fn word_of(name: &Name) -> Word<'_>
     requires { IsTrue (is_name name.now) }
-    ensures { IfOk result (IsWordOf name.now) }
+    ensures { IsWordOf name.now result }
 {
-    Ok(Word {
-        text: Seq::from_slice(alloc, name.as_slice())?,
+    Word {
+        text: Text::lent(name.as_slice()),
         offset: 0,
-    })
+    }
 }
 
 /// The words for the roles.
-fn role_words(alloc: Global, names: &[Name]) -> Result<WordList, NoMemory>
+fn role_words(alloc: Global, names: &[Name]) -> Result<WordList<'_>, NoMemory>
     requires { All (λ n. IsTrue (is_name n)) names.now }
     ensures { IfOk result (AllZip IsWordOf names.now) }
 {
     let mut words = Seq::new(alloc);
     for name in names {
-        words.push(word_of(alloc, name)?)?;
+        words.push(word_of(name))?;
     }
     Ok(words)
 }
 
 /// The public parameters.
-fn public_formals(alloc: Global, params: &[ParamInfo]) -> Result<FormalList, NoMemory>
+fn public_formals(alloc: Global, params: &[ParamInfo]) -> Result<FormalList<'_>, NoMemory>
     requires named { All (λ p. IsTrue (is_name p.name)) params.now }
     requires adorned { All (λ p. p.adornment ≢ None) params.now }
     ensures { IfOk result (AllZip IsPublicOf params.now) }
 {
     let mut formals = Seq::new(alloc);
     for p in params {
-        formals.push(public_formal(alloc, p)?)?;
+        formals.push(public_formal(p))?;
     }
     Ok(formals)
 }
 
 /// One public parameter.
-fn public_formal(alloc: Global, p: &ParamInfo) -> Result<Formal, NoMemory>
+fn public_formal(p: &ParamInfo) -> Formal<'_>
     requires named { IsTrue (is_name p.now.name) }
     requires adorned { p.now.adornment ≢ None }
-    ensures { IfOk result (IsPublicOf p.now) }
+    ensures { IsPublicOf p.now result }
 {
-    let Some(adornment) = p.adornment else {
-        unreachable!()
-    };
-    Ok(Formal {
-        adorn: adorn_of(adornment),
+    Formal {
+        adorn: public_adorn(p.adornment),
         offset: 0,
-        name: word_of(alloc, &p.name)?,
+        name: word_of(&p.name),
         key: key_mark(p.key),
-    })
+    }
+}
+
+/// The adornment of a public parameter, which has one, as a text has it.
+fn public_adorn(adornment: Option<Adornment>) -> Adorn
+    requires { adornment ≢ None }
+    ensures { adornment_of result ≡ adornment }
+{
+    match adornment {
+        Some(Adornment::In) => Adorn::In,
+        Some(Adornment::Out) => Adorn::Out,
+        _ => Adorn::Nil,
+    }
 }
 
 /// The word `key`, if the parameter is a key.
@@ -102,7 +111,7 @@ pub(crate) fn adorn_of(adornment: Adornment) -> Adorn
 }
 
 /// The private parameters.
-fn private_words(alloc: Global, params: &[ParamInfo]) -> Result<WordList, NoMemory>
+fn private_words(alloc: Global, params: &[ParamInfo]) -> Result<WordList<'_>, NoMemory>
     requires named { All (λ p. IsTrue (is_name p.name)) params.now }
     requires bare { All (λ p. p.adornment ≡ None) params.now }
     requires unkeyed { All (λ p. p.key ≡ false) params.now }
@@ -110,17 +119,17 @@ fn private_words(alloc: Global, params: &[ParamInfo]) -> Result<WordList, NoMemo
 {
     let mut words = Seq::new(alloc);
     for p in params {
-        words.push(private_word(alloc, p)?)?;
+        words.push(private_word(p))?;
     }
     Ok(words)
 }
 
 /// One private parameter.
-fn private_word(alloc: Global, p: &ParamInfo) -> Result<Word, NoMemory>
+fn private_word(p: &ParamInfo) -> Word<'_>
     requires named { IsTrue (is_name p.now.name) }
     requires bare { p.now.adornment ≡ None }
     requires unkeyed { p.now.key ≡ false }
-    ensures { IfOk result (IsPrivateOf p.now) }
+    ensures { IsPrivateOf p.now result }
 {
-    word_of(alloc, &p.name)
+    word_of(&p.name)
 }

@@ -1,47 +1,46 @@
-ghost use Rattle.std.specs.Prelude.{◌≡◌, ◌++◌, map, IfOk, MatchOption};
-ghost use Rattle.bspl_types.specs.declared.expanded.Expanded.{Expanded as SpecExpanded};
+ghost use Rattle.std.specs.Prelude.{◌≡◌, ◌≢◌, ◌++◌, map, IfOk, Some};
+ghost use Rattle.std.specs.List.{All};
+ghost use Rattle.bspl_parser.specs.declared.document.Adorn.TheVariants.{Any, Opt};
+ghost use Rattle.protocol_names.specs.Plain.{as_declaration};
 ghost use Rattle.flat_expansion.specs.Expansion.{adornment_of, public_param, private_param};
 ghost use Rattle.flat_expansion.specs.Expansion.{IsExpansionOf};
+ghost use Rattle.flat_expansion.specs.WellScoped.{IsAdorned, IsWellScoped};
 
 use super::messages::messages_of;
-use bspl_parser::{Adorn, Declaration, Formal, Word};
+use bspl_parser::{Adorn, Formal, Word};
 use bspl_types::{
-    Adornment, Expanded, NameList, NoMemory, PARAM_LIMIT, ParamInfo, ParamInfoList, ROLE_LIMIT, Seq,
+    Adornment, Expanded, NameList, NoMemory, ParamInfo, ParamInfoList, Seq, key_indices,
 };
+use protocol_names::FlatProtocol;
 use std::alloc::Global;
 
-/// The expansion of a protocol whose body has messages alone, if it has one.
-pub fn expansion_of(alloc: Global, d: &Declaration) -> Result<Option<Expanded>, NoMemory>
-    ensures { IfOk result (λ found. MatchOption found
-        ((x : SpecExpanded) → ¬ IsExpansionOf d.now x) (IsExpansionOf d.now)) }
+/// The expansion of a well-scoped protocol. No name and no count is tested again.
+pub fn expansion_of_well_scoped(alloc: Global, p: &FlatProtocol) -> Result<Expanded, NoMemory>
+    requires { IsWellScoped (as_declaration p.now) }
+    ensures { IfOk result (IsExpansionOf (as_declaration p.now)) }
 {
-    let roles = role_names(alloc, d.roles.as_slice())?;
-    let params = declared_params(alloc, d.public.as_slice(), d.private.as_slice())?;
-    let public = d.public.len();
-    if roles.len() > ROLE_LIMIT || params.len() > PARAM_LIMIT || public > PARAM_LIMIT {
-        return Ok(None);
-    }
-    let Some(messages) = messages_of(
+    let roles = role_names(alloc, p.roles.as_slice())?;
+    let params = declared_params(alloc, p.public.as_slice(), p.private.as_slice())?;
+    let messages = messages_of(
         alloc,
         roles.as_slice(),
         params.as_slice(),
-        d.body.as_slice(),
-    )?
-    else {
-        return Ok(None);
-    };
-    Expanded::assemble(
-        alloc,
-        Seq::from_slice(alloc, d.name.text.as_slice())?,
+        p.messages.as_slice(),
+    )?;
+    let keys = key_indices(alloc, params.as_slice())?;
+    let name = Seq::from_slice(alloc, p.name.text.as_slice())?;
+    Ok(Expanded {
+        name,
         roles,
         params,
-        public as u32,
+        public: p.public.len() as u32,
+        keys,
         messages,
-    )
+    })
 }
 
 /// The names of the roles.
-pub(crate) fn role_names(alloc: Global, words: &[Word]) -> Result<NameList, NoMemory>
+fn role_names(alloc: Global, words: &[Word]) -> Result<NameList, NoMemory>
     ensures { IfOk result (λ names. names ≡ map (λ w. w.text) words.now) }
 {
     let mut names = Seq::new(alloc);
@@ -52,11 +51,12 @@ pub(crate) fn role_names(alloc: Global, words: &[Word]) -> Result<NameList, NoMe
 }
 
 /// The parameters, the public ones first.
-pub(crate) fn declared_params(
+fn declared_params(
     alloc: Global,
     public: &[Formal],
     private: &[Word],
 ) -> Result<ParamInfoList, NoMemory>
+    requires { All IsAdorned public.now }
     ensures { IfOk result
         (λ params. params ≡ map public_param public.now ++ map private_param private.now) }
 {
@@ -72,11 +72,12 @@ pub(crate) fn declared_params(
 
 /// A public parameter.
 fn public_param(alloc: Global, f: &Formal) -> Result<ParamInfo, NoMemory>
+    requires { IsAdorned f.now }
     ensures { IfOk result (λ p. p ≡ public_param f.now) }
 {
     Ok(ParamInfo {
         name: Seq::from_slice(alloc, f.name.text.as_slice())?,
-        adornment: adornment_of(f.adorn),
+        adornment: Some(adornment_of(f.adorn)),
         key: f.key.is_some(),
     })
 }
@@ -92,14 +93,15 @@ fn private_param(alloc: Global, w: &Word) -> Result<ParamInfo, NoMemory>
     })
 }
 
-/// The adornment in an expansion, if it is supported.
-pub(crate) fn adornment_of(adorn: Adorn) -> Option<Adornment>
-    ensures { result ≡ adornment_of adorn }
+/// The adornment in an expansion, where it is supported.
+pub(crate) fn adornment_of(adorn: Adorn) -> Adornment
+    requires not_any { adorn ≢ Any }
+    requires not_opt { adorn ≢ Opt }
+    ensures { adornment_of adorn ≡ Some result }
 {
     match adorn {
-        Adorn::In => Some(Adornment::In),
-        Adorn::Out => Some(Adornment::Out),
-        Adorn::Nil => Some(Adornment::Nil),
-        Adorn::Any | Adorn::Opt => None,
+        Adorn::In => Adornment::In,
+        Adorn::Out => Adornment::Out,
+        _ => Adornment::Nil,
     }
 }

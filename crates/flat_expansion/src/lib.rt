@@ -7,9 +7,7 @@ mod laws;
 mod messages;
 mod param_names;
 mod schemas;
-mod well_scoped;
 
 pub use declaration::declaration_of;
-pub use expansion::expansion_of;
+pub use expansion::expansion_of_well_scoped;
 pub use laws::{expansions_are_unique, expansions_keep_names, well_scoped_protocols_expand};
-pub use well_scoped::expansion_of_well_scoped;

@@ -1,4 +1,5 @@
-ghost use Rattle.std.specs.Prelude.{◌≡◌, ◌-◌, drop, length};
+ghost use Rattle.std.specs.Prelude.{◌≡◌, ◌<◌, ◌-◌, drop, length, map, Some};
+ghost use Rattle.std.specs.List.{Contains};
 ghost use Rattle.std.specs.Str.{bytes_eq};
 ghost use Rattle.flat_expansion.specs.Expansion.{param_index};
 
@@ -7,11 +8,17 @@ use bspl_types::ParamInfo;
 /// How many bytes of two names are compared before the rest.
 const ENDING: usize = 32;
 
-/// The first index of the parameter's name.
-pub(crate) fn param_index(params: &[ParamInfo], name: &[u8]) -> Option<usize>
-    ensures { result ≡ param_index params.now name.now }
+/// The first index of the parameter's name, which is declared.
+pub(crate) fn param_index(params: &[ParamInfo], name: &[u8]) -> usize
+    requires { Contains (map (λ p. p.name) params.now) name.now }
+    ensures found { param_index params.now name.now ≡ Some result }
+    ensures within { result < length params.now }
 {
-    params.iter().position(|p| has_name(p, name))
+    let mut index = 0;
+    while !has_name(&params[index], name) {
+        index += 1;
+    }
+    index
 }
 
 /// Whether the parameter has the name. Private names of one protocol have one prefix, which may be

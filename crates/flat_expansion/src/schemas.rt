@@ -10,12 +10,12 @@ use bspl_types::{Carried, Message, Name, NoMemory, ParamInfo, Seq};
 use std::alloc::Global;
 
 /// The items of a body for messages over these roles and parameters.
-pub fn items_of(
+pub fn items_of<'x>(
     alloc: Global,
-    roles: &[Name],
-    params: &[ParamInfo],
-    messages: &[Message],
-) -> Result<ItemList, NoMemory>
+    roles: &'x [Name],
+    params: &'x [ParamInfo],
+    messages: &'x [Message],
+) -> Result<ItemList<'x>, NoMemory>
     requires roles { AreNamed (λ name. name) roles.now }
     requires params { AreNamed (λ p. p.name) params.now }
     requires named { All (λ m. IsTrue (is_name m.name)) messages.now }
@@ -31,12 +31,12 @@ pub fn items_of(
 }
 
 /// The schema of a message.
-fn schema_of(
+fn schema_of<'x>(
     alloc: Global,
-    roles: &[Name],
-    params: &[ParamInfo],
-    m: &Message,
-) -> Result<Schema, NoMemory>
+    roles: &'x [Name],
+    params: &'x [ParamInfo],
+    m: &'x Message,
+) -> Result<Schema<'x>, NoMemory>
     requires roles { AreNamed (λ name. name) roles.now }
     requires params { AreNamed (λ p. p.name) params.now }
     requires named { IsTrue (is_name m.now.name) }
@@ -44,40 +44,40 @@ fn schema_of(
     ensures { IfOk result (IsSchemaOf roles.now params.now m.now) }
 {
     Ok(Schema {
-        sender: word_of(alloc, &roles[m.sender as usize])?,
-        receiver: word_of(alloc, &roles[m.receiver as usize])?,
-        name: word_of(alloc, &m.name)?,
+        sender: word_of(&roles[m.sender as usize]),
+        receiver: word_of(&roles[m.receiver as usize]),
+        name: word_of(&m.name),
         params: formals_of(alloc, params, m.carried.as_slice())?,
     })
 }
 
 /// The parameters of a message.
-fn formals_of(
+fn formals_of<'x>(
     alloc: Global,
-    params: &[ParamInfo],
+    params: &'x [ParamInfo],
     carried: &[Carried],
-) -> Result<FormalList, NoMemory>
+) -> Result<FormalList<'x>, NoMemory>
     requires params { AreNamed (λ p. p.name) params.now }
     requires placed { All (λ c. c.param < length params.now) carried.now }
     ensures { IfOk result (AllZip (IsFormalOf params.now) carried.now) }
 {
     let mut formals = Seq::new(alloc);
     for c in carried {
-        formals.push(formal_of(alloc, params, *c)?)?;
+        formals.push(formal_of(params, *c))?;
     }
     Ok(formals)
 }
 
 /// One parameter of a message.
-fn formal_of(alloc: Global, params: &[ParamInfo], c: Carried) -> Result<Formal, NoMemory>
+fn formal_of(params: &[ParamInfo], c: Carried) -> Formal<'_>
     requires params { AreNamed (λ p. p.name) params.now }
     requires placed { c.param < length params.now }
-    ensures { IfOk result (IsFormalOf params.now c) }
+    ensures { IsFormalOf params.now c result }
 {
-    Ok(Formal {
+    Formal {
         adorn: adorn_of(c.adornment),
         offset: 0,
-        name: word_of(alloc, &params[c.param as usize].name)?,
+        name: word_of(&params[c.param as usize].name),
         key: None,
-    })
+    }
 }

@@ -1,11 +1,12 @@
 -- Words that are noted one after the other, until one has the name of another.
-use Rattle.std.proofs.Common.{◌≡◌, ◌≢◌, ℕ, ◌+◌, ◌<◌, List, [], ◌∷◌, ◌++◌, length, map, take, drop, get_or, refl, sym, ◌∙◌, ap, subst, arith, append_assoc, add-one}
+use Rattle.std.proofs.Common.{◌≡◌, ◌≢◌, Bool, true, false, cond, Result, Ok, Err, ℕ, ◌+◌, ◌<◌, List, [], ◌∷◌, ◌++◌, length, map, take, drop, get_or, refl, sym, ◌∙◌, ap, subst, arith, append_assoc, add-one}
+use Rattle.std.specs.Prelude.{◌↔◌, IsTrue, IfOk, OnOk}
 use Rattle.std.specs.List.{Contains, flat_map}
+use Rattle.std.proofs.lemmas.Bool.{false≢true}
 use Rattle.std.proofs.lemmas.List.{get_or-map, length-map, map-append, take-append-drop}
-use Rattle.std.proofs.lemmas.List.Concat.{flat_map-append}
 use Rattle.std.proofs.lemmas.List.Quantifiers.{all_pairs_push}
 use Rattle.std.proofs.Math.Seq.{drop-cons}
-use Rattle.bspl_parser.specs.declared.document.Item.{Item}
+use Rattle.list_base.specs.declared.memory.NoMemory.{NoMemory}
 use Rattle.bspl_parser.specs.declared.document.Item.TheVariants.{Message}
 use Rattle.bspl_parser.specs.declared.document.Schema.{Schema}
 use Rattle.bspl_parser.specs.declared.document.Formal.{Formal}
@@ -25,6 +26,16 @@ one_noted words w names names' noted new is_names = record {
   };
 }
 
+-- what a table says of a name that is added
+noted_or_not : (words : List Word) (w : Word) (names names' : List (List ℕ)) (known : Bool) → AreNoted words names → IsTrue known ↔ Contains names w.text → names' ≡ names ++ w.text ∷ [] → cond known (Contains (texts words) w.text) (AreNoted (words ++ w ∷ []) names')
+noted_or_not words w names names' true noted tests is_names = subst (λ ns. Contains ns w.text) noted.in_order (tests.0 refl)
+noted_or_not words w names names' false noted tests is_names = one_noted words w names names' noted (λ there. false≢true (tests.1 there)) is_names
+
+-- the same of an answer
+pub noted_answer : (words : List Word) (w : Word) (names names' : List (List ℕ)) (result : Result Bool NoMemory) → AreNoted words names → IfOk result (λ known. IsTrue known ↔ Contains names w.text) → OnOk result (names' ≡ names ++ w.text ∷ []) → IfOk result (λ known. cond known (Contains (texts words) w.text) (AreNoted (words ++ w ∷ []) names'))
+noted_answer words w names names' (Ok known) noted tests is_names = noted_or_not words w names names' known noted tests is_names
+noted_answer words w names names' (Err e) noted tests is_names = tt
+
 -- an item of a list stands behind those before it
 cut : {X : Type 0} (xs : List X) (i : ℕ) (x : X) → i < length xs → x ≡ get_or xs i x → xs ≡ take i xs ++ x ∷ drop (i + 1) xs
 cut {X} xs i x within stands =
@@ -36,13 +47,18 @@ repeated_at : (words front back : List Word) (w : Word) (names : List (List ℕ)
 repeated_at words front back w names parts noted again = record { before = front; word = w; after = back; parts = parts; distinct = noted.distinct; repeats = again; located = refl }
 
 -- the name of a message
-pub message_repeated : (body : List Item) (i : ℕ) (x : Item) (s : Schema) (names : List (List ℕ)) → i < length body → x ≡ get_or body i x → x ≡ Message s →
-    AreNoted (flat_map declared_word (take i body)) names → Contains (texts (flat_map declared_word (take i body))) s.name.text → RepeatsFirst (flat_map declared_word body) s.name.offset
-message_repeated body i x s names within stands is_message noted again =
-    repeated_at (flat_map declared_word body) (flat_map declared_word (take i body)) (flat_map declared_word (drop (i + 1) body)) s.name names
-    (ap (flat_map declared_word) (cut body i x within stands) ∙ flat_map-append declared_word (take i body) (x ∷ drop (i + 1) body)
-    ∙ ap (λ (y : Item). flat_map declared_word (take i body) ++ (declared_word y ++ flat_map declared_word (drop (i + 1) body))) is_message)
+pub message_repeated : (messages : List Schema) (i : ℕ) (s : Schema) (names : List (List ℕ)) → i < length messages → s ≡ get_or messages i s →
+    AreNoted (map (λ m. m.name) (take i messages)) names → Contains (texts (map (λ m. m.name) (take i messages))) s.name.text → RepeatsFirst (map (λ m. m.name) messages) s.name.offset
+message_repeated messages i s names within stands noted again =
+    let word = λ (m : Schema). m.name in
+    repeated_at (map word messages) (map word (take i messages)) (map word (drop (i + 1) messages)) s.name names
+    (ap (map word) (cut messages i s within stands) ∙ map-append word (take i messages) (s ∷ drop (i + 1) messages))
     noted again
+
+-- the names of a body are those of its messages
+pub names_of_messages : (messages : List Schema) → flat_map declared_word (map Message messages) ≡ map (λ m. m.name) messages
+names_of_messages [] = refl
+names_of_messages (m ∷ ms) = ap (λ (ws : List Word). m.name ∷ ws) (names_of_messages ms)
 
 -- the name of a public parameter
 pub public_repeated : (public : List Formal) (private : List Word) (i : ℕ) (f : Formal) (names : List (List ℕ)) → i < length public → f ≡ get_or public i f →

@@ -6,7 +6,7 @@ ghost use Rattle.protocol_expand.specs.Refusals.{IsNotExpanded, refusal_at};
 
 use super::flat::expand_flat;
 use bspl_parser::Document;
-use bspl_types::{Expanded, Refusal, Seq, TryClone};
+use bspl_types::{Expanded, Refusal, Seq};
 use protocol_limits::{
     Survey, messages_are_counted, numbers_are_of_protocols, privates_are_counted,
     references_are_a_graph, survey,
@@ -73,7 +73,7 @@ fn expand_faultless(alloc: Global, document: &Document, name: &[u8]) -> Result<E
     }
     match survey(alloc, &table, number as u32)? {
         Survey::Cycle(node) => Err(Refusal::Recursion {
-            name: protocols[node as usize].name.text.try_clone()?,
+            name: Seq::from_slice(alloc, protocols[node as usize].name.text.as_slice())?,
         }),
         Survey::Over { what, count } => Err(Refusal::Limit { what, count }),
         Survey::Within {

@@ -1,12 +1,11 @@
 -- Items that are put at the end, one for each of a list.
-use Rattle.std.proofs.Common.{◌≡◌, ℕ, ◌+◌, ◌<◌, ◌≤◌, List, [], ◌++◌, length, get_or, map, take, Result, Ok, Err, sym, ap, subst, ◌∙◌}
+use Rattle.std.proofs.Common.{◌≡◌, ℕ, ◌+◌, ◌<◌, ◌≤◌, List, [], ◌∷◌, ◌++◌, length, get_or, map, take, Result, Ok, Err, sym, ap, subst, ◌∙◌}
 use Rattle.std.specs.Prelude.{OnOk}
 use Rattle.std.specs.List.{AllZip, enumerate_from, flat_map}
 use Rattle.std.proofs.lemmas.List.{append-nil, append_assoc}
-use Rattle.bspl_parser.specs.declared.document.Item.{Item}
-use Rattle.bspl_parser.specs.declared.document.Item.TheVariants.{Message, Reference}
+use Rattle.bspl_parser.specs.declared.document.Item.TheVariants.{Message}
 use Rattle.bspl_parser.specs.declared.document.Schema.{Schema}
-use Rattle.protocol_paths.specs.inner.AddsEach.{AddsEach}
+use Rattle.protocol_paths.specs.inner.AddsEach.{AddsEach, IsImageMessage}
 use Rattle.protocol_paths.specs.Flat.{IsImageItem}
 use Rattle.protocol_paths.specs.Path.{Step, through}
 use Rattle.protocol_paths.specs.Scope.{Scope, after}
@@ -35,16 +34,26 @@ pub adds_all : {X Y Z : Type 0} (R : Z → Y → Type 0) (f : ℕ × X → List 
 adds_all {X} {Y} {Z} R f xs i old new past so_far = subst (λ (list : List Z). AddsEach R list old new) (made_all f xs i past) so_far
 
 -- an image from the next scope is one through the step
-image_after : (scope : Scope) (s : Step) (x : List Step × Schema) (y : Item) → IsImageItem (after scope s) x y → IsImageItem scope (through s x) y
-image_after scope s (path, m) (Message m') is = is
-image_after scope s (path, m) (Reference r) is = absurd is
+image_after : (scope : Scope) (s : Step) (x : List Step × Schema) (y : Schema) → IsImageMessage (after scope s) x y → IsImageMessage scope (through s x) y
+image_after scope s (path, m) m' is = is
 
-pub adds_after : (scope next : Scope) (s : Step) (xs : List (List Step × Schema)) (old new : List Item) → next ≡ after scope s → AddsEach (IsImageItem next) xs old new → AddsEach (IsImageItem scope) (map (through s) xs) old new
+pub adds_after : (scope next : Scope) (s : Step) (xs : List (List Step × Schema)) (old new : List Schema) → next ≡ after scope s → AddsEach (IsImageMessage next) xs old new → AddsEach (IsImageMessage scope) (map (through s) xs) old new
 adds_after scope next s xs old new is adds = record {
   more = adds.more;
   parts = adds.parts;
-  each = zip_map (IsImageItem (after scope s)) (IsImageItem scope) (through s) (image_after scope s) xs adds.more (subst (λ (p : Scope). AllZip (IsImageItem p) xs adds.more) is adds.each);
+  each = zip_map (IsImageMessage (after scope s)) (IsImageMessage scope) (through s) (image_after scope s) xs adds.more (subst (λ (p : Scope). AllZip (IsImageMessage p) xs adds.more) is adds.each);
 }
+
+-- images that are messages are items
+pub image_items : (scope : Scope) (xs : List (List Step × Schema)) (ms : List Schema) → AllZip (IsImageMessage scope) xs ms → AllZip (IsImageItem scope) xs (map Message ms)
+image_items scope [] [] all = tt
+image_items scope [] (m ∷ ms) all = absurd all
+image_items scope (x ∷ xs) [] all = absurd all
+image_items scope (x ∷ xs) (m ∷ ms) all = (all.0, image_items scope xs ms all.1)
+
+-- those that were added to nothing
+pub all_items : (scope : Scope) (xs : List (List Step × Schema)) (old new : List Schema) → old ≡ [] → AddsEach (IsImageMessage scope) xs old new → AllZip (IsImageItem scope) xs (map Message new)
+all_items scope xs old new none adds = image_items scope xs new (subst (AllZip (IsImageMessage scope) xs) (sym (adds.parts ∙ ap (λ (ms : List Schema). ms ++ adds.more) none)) adds.each)
 
 -- what follows from an answer, where it is no refusal
 pub on_ok : {P Q T E : Type 0} (r : Result T E) → (P → Q) → OnOk r P → OnOk r Q

@@ -5,6 +5,8 @@ use Rattle.std.specs.List.{AllZip, flat_map}
 use Rattle.std.proofs.lemmas.Bool.{cases_lt}
 use Rattle.list_base.specs.declared.memory.NoMemory.{NoMemory}
 use Rattle.bspl_parser.specs.declared.document.Declaration.{Declaration}
+use Rattle.protocol_names.specs.declared.flat_protocol.FlatProtocol.{FlatProtocol}
+use Rattle.protocol_names.specs.Plain.{as_declaration}
 use Rattle.protocol_paths.specs.Flat.{IsFlat, IsFlatTo, IsImageItem, privates_at}
 use Rattle.protocol_paths.specs.ReferencePath.{IsWithinDepth}
 use Rattle.protocol_paths.specs.Scope.{scope_at, start}
@@ -32,6 +34,6 @@ flat_within limit depth protocols top p is within flat = elim (cases_lt depth (l
 ]
 
 -- the same of an answer
-pub flat_answer : (limit depth : ℕ) (protocols : List Declaration) (top : Declaration) (result : Result Declaration NoMemory) → limit ≡ min depth (length protocols) → IsWithinDepth protocols top depth → IfOk result (IsFlatTo limit protocols top) → IfOk result (IsFlat protocols top)
-flat_answer limit depth protocols top (Ok p) is within flat = flat_within limit depth protocols top p is within flat
+pub flat_answer : (limit depth : ℕ) (protocols : List Declaration) (top : Declaration) (result : Result FlatProtocol NoMemory) → limit ≡ min depth (length protocols) → IsWithinDepth protocols top depth → IfOk result (λ p. IsFlatTo limit protocols top (as_declaration p)) → IfOk result (λ p. IsFlat protocols top (as_declaration p))
+flat_answer limit depth protocols top (Ok p) is within flat = flat_within limit depth protocols top (as_declaration p) is within flat
 flat_answer limit depth protocols top (Err e) is within flat = tt

@@ -11,10 +11,9 @@ use Rattle.bspl_parser.specs.declared.document.Reference.{Reference as SpecRefer
 use Rattle.bspl_parser.specs.declared.document.Schema.{Schema}
 use Rattle.protocol_names.specs.Names.{protocol_of}
 use Rattle.protocol_paths.specs.declared.skippable.Skippable.{Skippable}
-use Rattle.protocol_paths.specs.inner.AddsEach.{AddsEach}
+use Rattle.protocol_paths.specs.inner.AddsEach.{AddsEach, IsImageMessage}
 use Rattle.protocol_paths.specs.inner.Links.{IsLinkBy, step_of}
 use Rattle.protocol_paths.specs.declared.link.Link.{Link}
-use Rattle.protocol_paths.specs.Flat.{IsImageItem}
 use Rattle.protocol_paths.specs.Skippable.{AreSkippable, IsSkipped}
 use Rattle.protocol_paths.specs.Path.{Step, through, item_messages, message_paths, steps_at}
 use Rattle.protocol_paths.specs.Scope.{Scope, after}
@@ -63,12 +62,12 @@ messages_skipped (suc n) protocols skippable position r within allowed skipped =
     (λ q found. ap (map (through (step_by position r q))) (fewer_messages n (length protocols) protocols q (omega (arith, within)) (allowed.messages q (skipped q found))))
 
 -- what has been added from the next scope has been added through the reference
-pub added_after : {T E : Type 0} (protocols : List Declaration) (scope next : Scope) (n position : ℕ) (r : SpecReference) (q : Declaration) (i : Item) (old new : List Item) (result : Result T E) → i ≡ Reference r → 0 < n → protocol_of protocols r.protocol.text ≡ Some q → next ≡ after scope (step_by position r q) → OnOk result (AddsEach (IsImageItem next) (message_paths (n - 1) protocols next.protocol) old new) → OnOk result (AddsEach (IsImageItem scope) (item_messages n protocols (position, i)) old new)
+pub added_after : {T E : Type 0} (protocols : List Declaration) (scope next : Scope) (n position : ℕ) (r : SpecReference) (q : Declaration) (i : Item) (old new : List Schema) (result : Result T E) → i ≡ Reference r → 0 < n → protocol_of protocols r.protocol.text ≡ Some q → next ≡ after scope (step_by position r q) → OnOk result (AddsEach (IsImageMessage next) (message_paths (n - 1) protocols next.protocol) old new) → OnOk result (AddsEach (IsImageMessage scope) (item_messages n protocols (position, i)) old new)
 added_after protocols scope next n position r q i old new result is some found leads added = on_ok result to added
   where
-    to : AddsEach (IsImageItem next) (message_paths (n - 1) protocols next.protocol) old new → AddsEach (IsImageItem scope) (item_messages n protocols (position, i)) old new
+    to : AddsEach (IsImageMessage next) (message_paths (n - 1) protocols next.protocol) old new → AddsEach (IsImageMessage scope) (item_messages n protocols (position, i)) old new
     to adds =
         let there : next.protocol ≡ q = ap (λ (p : Scope). p.protocol) leads in
         let same : item_messages n protocols (position, i) ≡ map (through (step_by position r q)) (message_paths (n - 1) protocols next.protocol) =
         ap (λ (j : Item). item_messages n protocols (position, j)) is ∙ messages_after n protocols position r q some found ∙ ap (λ (p : Declaration). map (through (step_by position r q)) (message_paths (n - 1) protocols p)) (sym there) in
-        subst (λ (xs : List (List Step × Schema)). AddsEach (IsImageItem scope) xs old new) (sym same) (adds_after scope next (step_by position r q) (message_paths (n - 1) protocols next.protocol) old new leads adds)
+        subst (λ (xs : List (List Step × Schema)). AddsEach (IsImageMessage scope) xs old new) (sym same) (adds_after scope next (step_by position r q) (message_paths (n - 1) protocols next.protocol) old new leads adds)

@@ -65,6 +65,13 @@ role_given top links outer l name k found w at lends is =
     ∙ ap (λ (o : Option ℕ). option_map_or (λ k. get_or (after (scope_along top outer) (step_of l)).roles k name) o name) at.declared
     ∙ ap (λ (s : Scope). role_at s name) (sym (link_last top links outer l at.parts))
 
+-- and stays as it is where the reference gives none
+pub role_missing : (top : Declaration) (links outer : List Link) (l : Link) (name : List ℕ) (k : ℕ) (found : Option (Bor Word)) → RoleAt top links outer l name (Some k) → IsItemAt l.reference.now.roles k found → found ≡ None → name ≡ role_at (scope_along top links) name
+role_missing top links outer l name k found at lacks is =
+    sym (mapped_past (λ (v : Word). role_at (scope_along top outer) v.text) l.reference.now.roles k name (lent_none l.reference.now.roles k found lacks is))
+    ∙ ap (λ (o : Option ℕ). option_map_or (λ k. get_or (after (scope_along top outer) (step_of l)).roles k name) o name) at.declared
+    ∙ ap (λ (s : Scope). role_at s name) (sym (link_last top links outer l at.parts))
+
 -- the same of a declared parameter
 pub record ParamAt (top : Declaration) (links outer : List Link) (l : Link) (name : List ℕ) (index : Option ℕ) : Type 0 where
   pub parts : links ≡ outer ++ l ∷ []

@@ -12,24 +12,24 @@ use std::alloc::Global;
 
 /// What is the same for all paths.
 #[derive(Drop)]
-pub(crate) struct Context<'a> {
+pub(crate) struct Context<'d, 's, 'a> {
     /// Where memory comes from.
     pub alloc: Global,
     /// The protocols, by name.
-    pub table: &'a ProtocolTable<'a>,
+    pub table: &'s ProtocolTable<'d>,
     /// The names that each protocol declares, or nothing where no reference is followed.
-    pub names: &'a [NameTables],
+    pub names: &'a [NameTables<'d>],
     /// The protocols that need not be followed.
-    pub skippable: &'a Skippable<'a>,
+    pub skippable: &'s Skippable<'s>,
 }
 
 /// The link of the reference at the position, unless the protocol that it leads to is skipped.
-pub(crate) fn kept_link<'a>(
-    context: &Context<'a>,
+pub(crate) fn kept_link<'d, 'a>(
+    context: &Context<'d, '_, 'a>,
     flags: &[bool],
     position: usize,
-    reference: &'a Reference,
-) -> Option<Link<'a>>
+    reference: &'d Reference<'d>,
+) -> Option<Link<'d, 'a>>
     requires counted { 0 < position }
     requires tables { HasTables context.now }
     ensures { MatchOption result

@@ -1,49 +1,57 @@
 ghost use Rattle.std.specs.Prelude.{◌≡◌, IfOk};
 
-use bspl_parser::{Formal, FormalList, Word, WordList};
+use bspl_parser::{Formal, FormalList, Text, Word, WordList, equal_words};
 use bspl_types::{NoMemory, Seq};
 use std::alloc::Global;
 
-/// A copy of the word.
-pub(crate) fn copied_word(alloc: Global, word: &Word) -> Result<Word, NoMemory>
-    ensures { IfOk result (λ w. w ≡ word.now) }
+/// A copy of the word, to which the word lends its text.
+pub(crate) fn copied_word<'d>(word: &'d Word<'d>) -> Word<'d>
+    ensures { result ≡ word.now }
 {
-    Ok(Word {
-        text: Seq::from_slice(alloc, word.text.as_slice())?,
+    // law: words of one text and one offset are equal
+    equal_words();
+    Word {
+        text: Text::lent(word.text.as_slice()),
         offset: word.offset,
-    })
+    }
 }
 
 /// Copies of the words.
-pub(crate) fn copied_words(alloc: Global, words: &[Word]) -> Result<WordList, NoMemory>
+pub(crate) fn copied_words<'d>(
+    alloc: Global,
+    words: &'d [Word<'d>],
+) -> Result<WordList<'d>, NoMemory>
     ensures { IfOk result (λ ws. ws ≡ words.now) }
 {
     let mut copies = Seq::new(alloc);
     for word in words {
-        copies.push(copied_word(alloc, word)?)?;
+        copies.push(copied_word(word))?;
     }
     Ok(copies)
 }
 
 /// A copy of the parameter.
-fn copied_formal(alloc: Global, formal: &Formal) -> Result<Formal, NoMemory>
-    ensures { IfOk result (λ f. f ≡ formal.now) }
+fn copied_formal<'d>(formal: &'d Formal<'d>) -> Formal<'d>
+    ensures { result ≡ formal.now }
 {
-    Ok(Formal {
+    Formal {
         adorn: formal.adorn,
         offset: formal.offset,
-        name: copied_word(alloc, &formal.name)?,
+        name: copied_word(&formal.name),
         key: formal.key,
-    })
+    }
 }
 
 /// Copies of the parameters.
-pub(crate) fn copied_formals(alloc: Global, formals: &[Formal]) -> Result<FormalList, NoMemory>
+pub(crate) fn copied_formals<'d>(
+    alloc: Global,
+    formals: &'d [Formal<'d>],
+) -> Result<FormalList<'d>, NoMemory>
     ensures { IfOk result (λ fs. fs ≡ formals.now) }
 {
     let mut copies = Seq::new(alloc);
     for formal in formals {
-        copies.push(copied_formal(alloc, formal)?)?;
+        copies.push(copied_formal(formal))?;
     }
     Ok(copies)
 }

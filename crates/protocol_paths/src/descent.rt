@@ -10,7 +10,7 @@ use bspl_types::{NoMemory, Seq};
 use std::alloc::Global;
 
 /// The scope of the top protocol, in which each name stays as it is.
-pub(crate) fn top_scope(alloc: Global, top: &Declaration) -> Scope
+pub(crate) fn top_scope<'d, 'a>(alloc: Global, top: &'d Declaration<'d>) -> Scope<'d, 'a>
     ensures { scope_of result ≡ start top.now }
 {
     Scope {
@@ -21,11 +21,11 @@ pub(crate) fn top_scope(alloc: Global, top: &Declaration) -> Scope
 }
 
 /// The scope after one more reference.
-pub(crate) fn next_scope<'a>(
+pub(crate) fn next_scope<'d, 'a>(
     alloc: Global,
-    scope: &Scope<'a>,
-    link: &Link<'a>,
-) -> Result<Scope<'a>, NoMemory>
+    scope: &Scope<'d, 'a>,
+    link: &Link<'d, 'a>,
+) -> Result<Scope<'d, 'a>, NoMemory>
     ensures { IfOk result (λ r. scope_of r ≡ after (scope_of scope.now) (step_of link.now)) }
 {
     let mut links = Seq::from_slice(alloc, scope.links.as_slice())?;

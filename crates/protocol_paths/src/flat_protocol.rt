@@ -1,5 +1,6 @@
 ghost use Rattle.std.specs.Prelude.{◌<◌, ◌≤◌, length, IfOk};
 ghost use Rattle.std.specs.List.{AllZip};
+ghost use Rattle.protocol_names.specs.Plain.{as_declaration};
 ghost use Rattle.protocol_paths.specs.Flat.{IsFlat, IsFlatTo};
 ghost use Rattle.protocol_paths.specs.ReferencePath.{IsWithinDepth};
 ghost use Rattle.protocol_paths.specs.Skippable.{AreSkippable};
@@ -15,21 +16,21 @@ use super::privates::add_privates;
 use super::skippable::Skippable;
 use bspl_parser::Declaration;
 use bspl_types::{NoMemory, Seq};
-use protocol_names::ProtocolTable;
+use protocol_names::{FlatProtocol, ProtocolTable};
 use std::alloc::Global;
 
 /// The top protocol with each reference replaced by what it leads to. No path from it has more
 /// than `depth` references, so the recursion is no deeper.
-pub fn flatten(
+pub fn flatten<'d, 's>(
     alloc: Global,
-    table: &ProtocolTable,
-    top: &Declaration,
+    table: &'s ProtocolTable<'d>,
+    top: &'d Declaration<'d>,
     depth: usize,
-    skippable: &Skippable,
-) -> Result<Declaration, NoMemory>
+    skippable: &'s Skippable<'s>,
+) -> Result<FlatProtocol<'d>, NoMemory>
     requires skippable { AreSkippable table.now.protocols.now skippable.now }
     requires within_depth { IsWithinDepth table.now.protocols.now top.now depth }
-    ensures { IfOk result (IsFlat table.now.protocols.now top.now) }
+    ensures { IfOk result (λ p. IsFlat table.now.protocols.now top.now (as_declaration p)) }
 {
     let limit = depth.min(table.protocols.len());
     let names = tables_for(alloc, limit, table.protocols)?;
@@ -43,11 +44,11 @@ pub fn flatten(
 }
 
 /// The tables of the protocols, or none if no reference is followed.
-fn tables_for(
+fn tables_for<'d>(
     alloc: Global,
     limit: usize,
-    protocols: &[Declaration],
-) -> Result<Seq<NameTables>, NoMemory>
+    protocols: &'d [Declaration<'d>],
+) -> Result<Seq<NameTables<'d>>, NoMemory>
     ensures { IfOk result (λ tables. 0 < limit → AllZip AreTablesOf protocols.now tables) }
 {
     if limit == 0 {
@@ -57,26 +58,27 @@ fn tables_for(
 }
 
 /// The top protocol with what is at the ends of the paths of at most `limit` references.
-fn flat_to<'a>(
-    context: &Context<'a>,
+fn flat_to<'d, 'a>(
+    context: &Context<'d, '_, 'a>,
     limit: usize,
-    top: &'a Declaration,
-) -> Result<Declaration, NoMemory>
+    top: &'d Declaration<'d>,
+) -> Result<FlatProtocol<'d>, NoMemory>
     requires within { limit ≤ length (protocols_of context.now) }
     requires skippable { AreSkippable (protocols_of context.now) context.now.skippable.now }
     requires tables { 0 < limit → HasTables context.now }
-    ensures { IfOk result (IsFlatTo limit (protocols_of context.now) top.now) }
+    ensures { IfOk result (λ p.
+        IsFlatTo limit (protocols_of context.now) top.now (as_declaration p)) }
 {
     let scope = top_scope(context.alloc, top);
     let mut private = Seq::new(context.alloc);
     add_privates(context, limit, &scope, &mut private)?;
-    let mut body = Seq::new(context.alloc);
-    add_messages(context, limit, &scope, &mut body)?;
-    Ok(Declaration {
-        name: copied_word(context.alloc, &top.name)?,
+    let mut messages = Seq::new(context.alloc);
+    add_messages(context, limit, &scope, &mut messages)?;
+    Ok(FlatProtocol {
+        name: copied_word(&top.name),
         roles: copied_words(context.alloc, top.roles.as_slice())?,
         public: copied_formals(context.alloc, top.public.as_slice())?,
         private,
-        body,
+        messages,
     })
 }

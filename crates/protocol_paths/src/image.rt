@@ -11,20 +11,28 @@ use bspl_types::{NoMemory, Seq};
 use std::alloc::Global;
 
 /// The image of the message in the flat protocol.
-pub(crate) fn image_of(alloc: Global, scope: &Scope, schema: &Schema) -> Result<Schema, NoMemory>
+pub(crate) fn image_of<'d>(
+    alloc: Global,
+    scope: &Scope<'d, '_>,
+    schema: &'d Schema<'d>,
+) -> Result<Schema<'d>, NoMemory>
     ensures { IfOk result (IsImage (scope_of scope.now) schema.now) }
 {
     let prefix = prefix_of(alloc, scope)?;
     Ok(Schema {
-        sender: role_word(alloc, scope, &schema.sender)?,
-        receiver: role_word(alloc, scope, &schema.receiver)?,
-        name: prefix.into_word(&schema.name)?,
+        sender: role_word(scope, &schema.sender),
+        receiver: role_word(scope, &schema.receiver),
+        name: prefix.into_word(alloc, &schema.name)?,
         params: image_formals(alloc, scope, schema.params.as_slice())?,
     })
 }
 
 /// The images of a message's parameters.
-fn image_formals(alloc: Global, scope: &Scope, formals: &[Formal]) -> Result<FormalList, NoMemory>
+fn image_formals<'d>(
+    alloc: Global,
+    scope: &Scope<'d, '_>,
+    formals: &'d [Formal<'d>],
+) -> Result<FormalList<'d>, NoMemory>
     ensures { IfOk result (AllZip (IsImageFormal (scope_of scope.now)) formals.now) }
 {
     let mut images = Seq::new(alloc);
@@ -35,7 +43,11 @@ fn image_formals(alloc: Global, scope: &Scope, formals: &[Formal]) -> Result<For
 }
 
 /// The image of one parameter.
-fn image_formal(alloc: Global, scope: &Scope, formal: &Formal) -> Result<Formal, NoMemory>
+fn image_formal<'d>(
+    alloc: Global,
+    scope: &Scope<'d, '_>,
+    formal: &'d Formal<'d>,
+) -> Result<Formal<'d>, NoMemory>
     ensures { IfOk result (IsImageFormal (scope_of scope.now) formal.now) }
 {
     Ok(Formal {

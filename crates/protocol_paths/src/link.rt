@@ -6,15 +6,15 @@ use bspl_parser::{Declaration, Reference};
 
 /// One reference of a path.
 #[derive(Clone, Copy)]
-pub(crate) struct Link<'a> {
+pub(crate) struct Link<'d, 'a> {
     /// Its position in the body, counted from 1.
     pub position: usize,
     /// What it gives.
-    pub reference: &'a Reference,
+    pub reference: &'d Reference<'d>,
     /// The protocol that it leads to.
-    pub target: &'a Declaration,
+    pub target: &'d Declaration<'d>,
     /// The names that this protocol declares.
-    pub names: &'a NameTables,
+    pub names: &'a NameTables<'d>,
     pub ghost counted: { 0 < position },
     pub ghost declared: { AreTablesOf target.now names.now },
 }

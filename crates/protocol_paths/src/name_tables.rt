@@ -10,18 +10,18 @@ use std::alloc::Global;
 
 /// The names that one protocol declares, each found by an ordered map.
 #[derive(Drop)]
-pub(crate) struct NameTables {
+pub(crate) struct NameTables<'d> {
     /// The roles.
-    pub roles: NameTable,
+    pub roles: NameTable<'d>,
     /// The public parameters, and the private ones after them.
-    pub params: NameTable,
+    pub params: NameTable<'d>,
 }
 
 /// The tables of the protocols, in their order.
-pub(crate) fn tables_of(
+pub(crate) fn tables_of<'d>(
     alloc: Global,
-    protocols: &[Declaration],
-) -> Result<Seq<NameTables>, NoMemory>
+    protocols: &'d [Declaration<'d>],
+) -> Result<Seq<NameTables<'d>>, NoMemory>
     ensures { IfOk result (AllZip AreTablesOf protocols.now) }
 {
     let mut tables = Seq::new(alloc);
@@ -32,7 +32,7 @@ pub(crate) fn tables_of(
 }
 
 /// The tables of one protocol.
-fn name_tables(alloc: Global, p: &Declaration) -> Result<NameTables, NoMemory>
+fn name_tables<'d>(alloc: Global, p: &'d Declaration<'d>) -> Result<NameTables<'d>, NoMemory>
     ensures { IfOk result (AreTablesOf p.now) }
 {
     Ok(NameTables {
@@ -42,7 +42,7 @@ fn name_tables(alloc: Global, p: &Declaration) -> Result<NameTables, NoMemory>
 }
 
 /// A table of the roles' names, in order.
-fn role_table(alloc: Global, roles: &[Word]) -> Result<NameTable, NoMemory>
+fn role_table<'d>(alloc: Global, roles: &'d [Word<'d>]) -> Result<NameTable<'d>, NoMemory>
     ensures { IfOk result (λ names. names ≡ texts roles.now) }
 {
     let mut names = NameTable::new(alloc);
@@ -53,7 +53,11 @@ fn role_table(alloc: Global, roles: &[Word]) -> Result<NameTable, NoMemory>
 }
 
 /// A table of the parameters' names, the public ones first.
-fn param_table(alloc: Global, public: &[Formal], private: &[Word]) -> Result<NameTable, NoMemory>
+fn param_table<'d>(
+    alloc: Global,
+    public: &'d [Formal<'d>],
+    private: &'d [Word<'d>],
+) -> Result<NameTable<'d>, NoMemory>
     ensures { IfOk result (λ names. names ≡ texts (map (λ f. f.name) public.now ++ private.now)) }
 {
     let mut names = NameTable::new(alloc);

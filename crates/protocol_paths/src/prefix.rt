@@ -5,9 +5,10 @@ ghost use Rattle.protocol_paths.specs.Substituted.{IsSubstituted};
 ghost use Rattle.protocol_paths.specs.inner.Links.{scope_along};
 ghost use Rattle.protocol_paths.specs.inner.ScopeOf.{scope_of};
 
+use super::copies::copied_word;
 use super::link::Link;
 use super::scope::Scope;
-use bspl_parser::Word;
+use bspl_parser::{Text, Word};
 use bspl_types::{Bytes, NoMemory, Seq};
 use std::alloc::Global;
 
@@ -45,20 +46,23 @@ impl Prefix {
     }
 
     /// The word with the prefix.
-    pub fn word(&self, alloc: Global, word: &Word) -> Result<Word, NoMemory>
+    pub fn word<'d>(&self, alloc: Global, word: &'d Word<'d>) -> Result<Word<'d>, NoMemory>
         ensures { IfOk result (IsSubstituted (self.now.text ++ word.now.text) word.now) }
     {
-        self.copied(alloc)?.into_word(word)
+        self.copied(alloc)?.into_word(alloc, word)
     }
 
-    /// The word with the prefix, in the prefix's memory.
-    pub fn into_word(self, word: &Word) -> Result<Word, NoMemory>
+    /// The word with the prefix, in the prefix's memory if it has some.
+    pub fn into_word<'d>(self, alloc: Global, word: &'d Word<'d>) -> Result<Word<'d>, NoMemory>
         ensures { IfOk result (IsSubstituted (self.text ++ word.now.text) word.now) }
     {
+        if self.text.is_empty() {
+            return Ok(copied_word(word));
+        }
         let mut text = self.text;
         text.append(word.text.as_slice())?;
         Ok(Word {
-            text,
+            text: Text::own(alloc, text)?,
             offset: word.offset,
         })
     }

@@ -14,11 +14,11 @@ use std::alloc::Global;
 
 /// Adds the private parameters at the ends of the paths of at most `limit` references.
 #[cycle(privates)]
-pub(crate) fn add_privates<'a>(
-    context: &Context<'a>,
+pub(crate) fn add_privates<'d, 'a>(
+    context: &Context<'d, '_, 'a>,
     limit: usize,
-    scope: &Scope<'a>,
-    private: &mut WordList,
+    scope: &Scope<'d, 'a>,
+    private: &mut WordList<'d>,
 ) -> Result<(), NoMemory>
     requires within { limit ≤ length (protocols_of context.now) }
     requires skippable { AreSkippable (protocols_of context.now) context.now.skippable.now }
@@ -45,13 +45,13 @@ pub(crate) fn add_privates<'a>(
 
 /// Adds the private parameters to which a reference leads, by at most `limit` further references.
 #[cycle(privates)]
-fn add_after<'a>(
-    context: &Context<'a>,
+fn add_after<'d, 'a>(
+    context: &Context<'d, '_, 'a>,
     limit: usize,
-    scope: &Scope<'a>,
+    scope: &Scope<'d, 'a>,
     position: usize,
-    item: &'a Item,
-    private: &mut WordList,
+    item: &'d Item<'d>,
+    private: &mut WordList<'d>,
 ) -> Result<(), NoMemory>
     requires counted { 0 < position }
     requires within { limit ≤ length (protocols_of context.now) }
@@ -73,11 +73,11 @@ fn add_after<'a>(
 }
 
 /// Adds the private parameters of one protocol.
-fn add_own(
+fn add_own<'d>(
     alloc: Global,
     prefix: &Prefix,
-    own: &[Word],
-    private: &mut WordList,
+    own: &'d [Word<'d>],
+    private: &mut WordList<'d>,
 ) -> Result<(), NoMemory>
     ensures { OnOk result (map entry private.new ≡ map entry private.old
         ++ map (λ w. (prefix.now.text ++ w.text, w.offset)) own.now) }

@@ -9,12 +9,12 @@ use bspl_types::Seq;
 /// The protocol at the end of a path, and the references of the path. What becomes of its names is
 /// found along these when it is asked for.
 #[derive(Drop)]
-pub(crate) struct Scope<'a> {
+pub(crate) struct Scope<'d, 'a> {
     /// The protocol where the path begins.
-    pub top: &'a Declaration,
+    pub top: &'d Declaration<'d>,
     /// The references, from the first on.
-    pub links: Seq<Link<'a>>,
+    pub links: Seq<Link<'d, 'a>>,
     /// The protocol at the end of the path.
-    pub protocol: &'a Declaration,
+    pub protocol: &'d Declaration<'d>,
     pub ghost at_end: { protocol.now ≡ end_of top.now (map step_of links) },
 }

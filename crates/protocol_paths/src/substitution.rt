@@ -9,23 +9,23 @@ use super::copies::copied_word;
 use super::link::Link;
 use super::prefix::prefix_along;
 use super::scope::Scope;
-use bspl_parser::Word;
-use bspl_types::{NoMemory, Seq};
+use bspl_parser::{Text, Word};
+use bspl_types::NoMemory;
 use std::alloc::Global;
 
 /// The role's word, under the name that is substituted for it in the scope.
-pub(crate) fn role_word(alloc: Global, scope: &Scope, role: &Word) -> Result<Word, NoMemory>
-    ensures { IfOk result (IsSubstituted (role_at (scope_of scope.now) role.now.text) role.now) }
+pub(crate) fn role_word<'d>(scope: &Scope<'d, '_>, role: &'d Word<'d>) -> Word<'d>
+    ensures { IsSubstituted (role_at (scope_of scope.now) role.now.text) role.now result }
 {
     let given = given_role(scope.links.as_slice(), role);
-    Ok(Word {
-        text: Seq::from_slice(alloc, given.text.as_slice())?,
+    Word {
+        text: Text::lent(given.text.as_slice()),
         offset: role.offset,
-    })
+    }
 }
 
 /// The word that the references of a path give for a role.
-fn given_role<'w>(links: &'w [Link<'w>], role: &'w Word) -> &'w Word
+fn given_role<'d>(links: &[Link<'d, '_>], role: &'d Word<'d>) -> &'d Word<'d>
     ensures { (top : SpecDeclaration) →
         result.now.text ≡ role_at (scope_along top links.now) role.now.text }
 {
@@ -42,7 +42,11 @@ fn given_role<'w>(links: &'w [Link<'w>], role: &'w Word) -> &'w Word
 }
 
 /// The parameter's word, under the name that is substituted for it in the scope.
-pub(crate) fn param_word(alloc: Global, scope: &Scope, param: &Word) -> Result<Word, NoMemory>
+pub(crate) fn param_word<'d>(
+    alloc: Global,
+    scope: &Scope<'d, '_>,
+    param: &'d Word<'d>,
+) -> Result<Word<'d>, NoMemory>
     ensures { IfOk result (IsSubstituted (param_at (scope_of scope.now) param.now.text) param.now) }
 {
     let given = given_param(alloc, scope.links.as_slice(), param)?;
@@ -54,22 +58,26 @@ pub(crate) fn param_word(alloc: Global, scope: &Scope, param: &Word) -> Result<W
 
 /// The word that the references of a path give for a parameter. A private one has the prefix of
 /// the protocol that declares it.
-fn given_param(alloc: Global, links: &[Link], param: &Word) -> Result<Word, NoMemory>
+fn given_param<'d>(
+    alloc: Global,
+    links: &[Link<'d, '_>],
+    param: &'d Word<'d>,
+) -> Result<Word<'d>, NoMemory>
     ensures { (top : SpecDeclaration) → IfOk result (λ w.
         w.text ≡ param_at (scope_along top links.now) param.now.text) }
 {
     let Some((link, outer)) = links.split_last() else {
-        return copied_word(alloc, param);
+        return Ok(copied_word(param));
     };
     let Some(index) = link.names.params.index(param.text.as_slice()) else {
-        return copied_word(alloc, param);
+        return Ok(copied_word(param));
     };
     let given = link.reference.params.as_slice();
     if let Some(formal) = given.get(index) {
         return given_param(alloc, outer, &formal.name);
     }
     match link.target.private.as_slice().get(index - given.len()) {
-        Some(own) => prefix_along(alloc, links)?.into_word(own),
-        None => copied_word(alloc, param),
+        Some(own) => prefix_along(alloc, links)?.into_word(alloc, own),
+        None => Ok(copied_word(param)),
     }
 }

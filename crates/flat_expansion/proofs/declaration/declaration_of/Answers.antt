@@ -7,7 +7,7 @@ pub returns : goal.returns
 returns c =
     let x = c.args.x.now in
     let d : Declaration = record {
-      name = c.in_ok-word_of.field-0;
+      name = c.word_of.result;
       roles = c.in_ok-role_words.field-0;
       public = c.in_ok-public_formals.field-0;
       private = c.in_ok-private_words.field-0;
@@ -15,5 +15,5 @@ returns c =
     } in
     let made : IsMade x d =
     made_of x d _ _ _ _ _ _ c.as_slice-params.ensures c.split_at.ensures.front c.split_at.ensures.back c.as_slice.ensures c.as_slice-2.ensures c.as_slice-3.ensures
-    c.in_ok-word_of.ensures c.in_ok-role_words.ensures c.in_ok-public_formals.ensures c.in_ok-private_words.ensures c.in_ok-items_of.ensures in
+    c.word_of.ensures c.in_ok-role_words.ensures c.in_ok-public_formals.ensures c.in_ok-private_words.ensures c.in_ok-items_of.ensures in
     record { flat = flat_made x d made; formed = formed_made x d made; bare = bare_made x d made }

@@ -8,4 +8,4 @@ use Rattle.flat_expansion.proofs.declaration.private_words.Goals as goal
 pub loop-p-preserved : goal.loop-p-preserved
 loop-p-preserved c =
     subst (AllZip IsPrivateOf (take (c.loop-p.p-index + 1) c.args.params.now)) (sym c.in_ok-push.ensures.ok)
-    (paired_push IsPrivateOf c.args.params.now c.loop-p.words c.loop-p.p-index c.p-item.result c.in_ok-private_word.field-0 c.loop-p-test.true c.p-item.is c.loop-p.invariant c.in_ok-private_word.ensures)
+    (paired_push IsPrivateOf c.args.params.now c.loop-p.words c.loop-p.p-index c.p-item.result c.private_word.result c.loop-p-test.true c.p-item.is c.loop-p.invariant c.private_word.ensures)

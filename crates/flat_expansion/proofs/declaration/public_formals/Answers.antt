@@ -8,4 +8,4 @@ use Rattle.flat_expansion.proofs.declaration.public_formals.Goals as goal
 pub loop-p-preserved : goal.loop-p-preserved
 loop-p-preserved c =
     subst (AllZip IsPublicOf (take (c.loop-p.p-index + 1) c.args.params.now)) (sym c.in_ok-push.ensures.ok)
-    (paired_push IsPublicOf c.args.params.now c.loop-p.formals c.loop-p.p-index c.p-item.result c.in_ok-public_formal.field-0 c.loop-p-test.true c.p-item.is c.loop-p.invariant c.in_ok-public_formal.ensures)
+    (paired_push IsPublicOf c.args.params.now c.loop-p.formals c.loop-p.p-index c.p-item.result c.public_formal.result c.loop-p-test.true c.p-item.is c.loop-p.invariant c.public_formal.ensures)

@@ -8,4 +8,4 @@ use Rattle.flat_expansion.proofs.declaration.role_words.Goals as goal
 pub loop-name-preserved : goal.loop-name-preserved
 loop-name-preserved c =
     subst (AllZip IsWordOf (take (c.loop-name.name-index + 1) c.args.names.now)) (sym c.in_ok-push.ensures.ok)
-    (paired_push IsWordOf c.args.names.now c.loop-name.words c.loop-name.name-index c.name-item.result c.in_ok-word_of.field-0 c.loop-name-test.true c.name-item.is c.loop-name.invariant c.in_ok-word_of.ensures)
+    (paired_push IsWordOf c.args.names.now c.loop-name.words c.loop-name.name-index c.name-item.result c.word_of.result c.loop-name-test.true c.name-item.is c.loop-name.invariant c.word_of.ensures)

@@ -7,6 +7,6 @@ use Rattle.flat_expansion.proofs.schemas.formal_of.Goals as goal
 
 pub returns : goal.returns
 returns c =
-    formal_made c.args.params.now c.args.c c.index-params-c.result c.adorn_of.result c.in_ok-word_of.field-0
+    formal_made c.args.params.now c.args.c c.index-params-c.result c.adorn_of.result c.word_of.result
     c.requires.params c.requires.placed c.index-params-c.is c.adorn_of.ensures
-    (subst (λ (p : ParamInfo). IsWordOf p.name c.in_ok-word_of.field-0) (sym c.index-params-c.is) c.in_ok-word_of.ensures)
+    (subst (λ (p : ParamInfo). IsWordOf p.name c.word_of.result) (sym c.index-params-c.is) c.word_of.ensures)

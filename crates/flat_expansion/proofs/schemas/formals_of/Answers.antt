@@ -13,5 +13,5 @@ loop-c-preserved c =
     let first : Carried = record { param = 0; adornment = In } in
     let here : Carried = get_or c.args.carried.now c.loop-c.c-index first in
     subst (AllZip (IsFormalOf c.args.params.now) (take (c.loop-c.c-index + 1) c.args.carried.now)) (sym c.in_ok-push.ensures.ok)
-    (paired_push (IsFormalOf c.args.params.now) c.args.carried.now c.loop-c.formals c.loop-c.c-index here c.in_ok-formal_of.field-0 c.loop-c-test.true
-    (get_or_default c.args.carried.now c.loop-c.c-index first here c.loop-c-test.true) c.loop-c.invariant c.in_ok-formal_of.ensures)
+    (paired_push (IsFormalOf c.args.params.now) c.args.carried.now c.loop-c.formals c.loop-c.c-index here c.formal_of.result c.loop-c-test.true
+    (get_or_default c.args.carried.now c.loop-c.c-index first here c.loop-c-test.true) c.loop-c.invariant c.formal_of.ensures)

@@ -8,7 +8,7 @@ use Rattle.flat_expansion.proofs.schemas.schema_of.Goals as goal
 pub returns : goal.returns
 returns c =
     schema_made c.args.roles.now c.args.params.now c.args.m.now c.index-roles-m.result c.index-roles-m-2.result
-    c.in_ok-word_of.field-0 c.in_ok-word_of-2.field-0 c.in_ok-word_of-3.field-0 c.in_ok-formals_of.field-0
+    c.word_of.result c.word_of-2.result c.word_of-3.result c.in_ok-formals_of.field-0
     c.requires.roles c.requires.placed.known_sender c.requires.placed.known_receiver c.index-roles-m.is c.index-roles-m-2.is
-    c.in_ok-word_of.ensures c.in_ok-word_of-2.ensures c.in_ok-word_of-3.ensures
+    c.word_of.ensures c.word_of-2.ensures c.word_of-3.ensures
     (subst (λ cs. AllZip (IsFormalOf c.args.params.now) cs c.in_ok-formals_of.field-0) c.as_slice.ensures c.in_ok-formals_of.ensures)

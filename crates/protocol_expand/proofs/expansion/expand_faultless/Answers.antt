@@ -1,6 +1,7 @@
 -- What the table and the survey find of the protocol of the name.
 use Rattle.std.proofs.Common.{List, get_or, length, sym, ◌∙◌, ap, subst, arith, ◌<◌}
 use Rattle.bspl_parser.specs.declared.document.Declaration.{Declaration}
+use Rattle.protocol_names.specs.Plain.{as_declaration}
 use Rattle.protocol_expand.proofs.RequestLemmas.{cycle_within, deep_enough, expands_for, flat_for, has_cycle, has_too_many, number_found, refuses_for, surveyed}
 use Rattle.protocol_expand.proofs.FlatReady.{flat_is_ready}
 use Rattle.protocol_expand.proofs.expansion.expand_faultless.Goals as goal
@@ -21,8 +22,8 @@ pub returns-in-Cycle-clause-refused : goal.returns-in-Cycle-clause-refused
 returns-in-Cycle-clause-refused c =
     let is_survey = surveyed c.numbers_are_of_protocols.ensures c.args.document.now c.args.name.now _ _ _ _ _ _ c.requires.faultless (c.in_ok-table.ensures ∙ c.as_slice-protocols.ensures) c.in_ok-table.table.in_order c.index.ensures c.in-Some.is c.in-Cycle.is c.in_ok-node.ensures in
     let same = c.as_slice-protocols.ensures in
-    has_cycle c.numbers_are_of_protocols.ensures c.references_are_a_graph.ensures c.args.document.now c.args.name.now c.in_ok-try_clone-in-Cycle.field-0 c.in-Some.number c.in-Cycle.node c.index-protocols-node.result (omega (arith, c.if-protocols.false, ap (λ (ps : List Declaration). length ps) same)) is_survey
-    (c.in_ok-try_clone-in-Cycle.ensures ∙ ap (λ (ps : List Declaration). (get_or ps c.in-Cycle.node c.index-protocols-node.result).name.text) same)
+    has_cycle c.numbers_are_of_protocols.ensures c.references_are_a_graph.ensures c.args.document.now c.args.name.now c.in_ok-from_slice-in-Cycle.field-0 c.in-Some.number c.in-Cycle.node c.index-protocols-node.result (omega (arith, c.if-protocols.false, ap (λ (ps : List Declaration). length ps) same)) is_survey
+    (c.in_ok-from_slice-in-Cycle.ensures ∙ c.as_slice.ensures ∙ ap (λ (ps : List Declaration). (get_or ps c.in-Cycle.node c.index-protocols-node.result).name.text) same)
 
 pub returns-in-Over-clause-refused : goal.returns-in-Over-clause-refused
 returns-in-Over-clause-refused c =
@@ -33,19 +34,19 @@ pub expand_flat-requires : goal.expand_flat-requires
 expand_flat-requires c =
     let is_survey = surveyed c.numbers_are_of_protocols.ensures c.args.document.now c.args.name.now _ _ _ _ _ _ c.requires.faultless (c.in_ok-table.ensures ∙ c.as_slice-protocols.ensures) c.in_ok-table.table.in_order c.index.ensures c.in-Some.is c.in-Within.is c.in_ok-node.ensures in
     let stands = flat_for c.numbers_are_of_protocols.ensures c.args.document.now c.args.name.now _ _ _ _ _ _ _ _ is_survey c.in_ok-table.ensures c.as_slice-protocols.ensures c.index-protocols-number.is c.in_ok-flat-in-Within.ensures in
-    flat_is_ready c.messages_are_counted.ensures c.privates_are_counted.ensures c.paths_by_items.ensures c.args.document.now c.args.name.now c.in_ok-flat-in-Within.flat c.requires.formed stands
+    flat_is_ready c.messages_are_counted.ensures c.privates_are_counted.ensures c.paths_by_items.ensures c.args.document.now c.args.name.now (as_declaration c.in_ok-flat-in-Within.flat) c.requires.formed stands
 
 pub returns-clause-ok : goal.returns-clause-ok
 returns-clause-ok c =
     let is_survey = surveyed c.numbers_are_of_protocols.ensures c.args.document.now c.args.name.now _ _ _ _ _ _ c.requires.faultless (c.in_ok-table.ensures ∙ c.as_slice-protocols.ensures) c.in_ok-table.table.in_order c.index.ensures c.in-Some.is c.in-Within.is c.in_ok-node.ensures in
     let stands = flat_for c.numbers_are_of_protocols.ensures c.args.document.now c.args.name.now _ _ _ _ _ _ _ _ is_survey c.in_ok-table.ensures c.as_slice-protocols.ensures c.index-protocols-number.is c.in_ok-flat-in-Within.ensures in
-    expands_for c.args.document.now c.args.name.now c.in_ok-flat-in-Within.flat c.expand_flat.result stands c.expand_flat.ensures.ok
+    expands_for c.args.document.now c.args.name.now (as_declaration c.in_ok-flat-in-Within.flat) c.expand_flat.result stands c.expand_flat.ensures.ok
 
 pub returns-clause-refused : goal.returns-clause-refused
 returns-clause-refused c =
     let is_survey = surveyed c.numbers_are_of_protocols.ensures c.args.document.now c.args.name.now _ _ _ _ _ _ c.requires.faultless (c.in_ok-table.ensures ∙ c.as_slice-protocols.ensures) c.in_ok-table.table.in_order c.index.ensures c.in-Some.is c.in-Within.is c.in_ok-node.ensures in
     let stands = flat_for c.numbers_are_of_protocols.ensures c.args.document.now c.args.name.now _ _ _ _ _ _ _ _ is_survey c.in_ok-table.ensures c.as_slice-protocols.ensures c.index-protocols-number.is c.in_ok-flat-in-Within.ensures in
-    refuses_for c.args.document.now c.args.name.now c.in_ok-flat-in-Within.flat c.expand_flat.result stands c.expand_flat.ensures.refused
+    refuses_for c.args.document.now c.args.name.now (as_declaration c.in_ok-flat-in-Within.flat) c.expand_flat.result stands c.expand_flat.ensures.refused
 
 pub flatten-requires-clause-within_depth : goal.flatten-requires-clause-within_depth
 flatten-requires-clause-within_depth c =

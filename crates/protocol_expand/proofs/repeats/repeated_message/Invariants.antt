@@ -1,10 +1,8 @@
 -- What has been noted of the messages.
-use Rattle.std.proofs.Common.{take}
-use Rattle.std.specs.List.{flat_map}
-use Rattle.protocol_names.specs.Names.{declared_word}
+use Rattle.std.proofs.Common.{map, take}
 use Rattle.protocol_expand.specs.inner.Flat.{AreNoted}
 use Rattle.protocol_expand.proofs.repeats.repeated_message.Given as goal
 
 -- the names so far are apart
-abbrev pub invariant-loop-item : goal.invariant-loop-item
-invariant-loop-item l = AreNoted (flat_map declared_word (take l.item-index l.body)) l.names
+abbrev pub invariant-loop-schema : goal.invariant-loop-schema
+invariant-loop-schema l = AreNoted (map (λ s. s.name) (take l.schema-index l.messages)) l.names

@@ -1,8 +1,7 @@
 -- How far the context may go, and what has been added.
 use Rattle.std.proofs.Common.{◌+◌, ◌*◌, take}
 use Rattle.std.specs.List.{flat_map}
-use Rattle.protocol_paths.specs.inner.AddsEach.{AddsEach}
-use Rattle.protocol_paths.specs.Flat.{IsImageItem}
+use Rattle.protocol_paths.specs.inner.AddsEach.{AddsEach, IsImageMessage}
 use Rattle.protocol_paths.specs.Path.{item_messages, numbered}
 use Rattle.protocol_paths.specs.inner.ScopeOf.{protocols_of, scope_of}
 use Rattle.protocol_paths.proofs.messages.+messages.Given as goal
@@ -15,4 +14,4 @@ decreases-add_item l = 2 * l.limit
 
 -- the messages of the items so far
 abbrev pub invariant-add_messages-loop-index : goal.invariant-add_messages-loop-index
-invariant-add_messages-loop-index l = AddsEach (IsImageItem (scope_of l.scope)) (flat_map (item_messages l.limit (protocols_of l.context)) (take l.index (numbered l.scope.protocol.now))) l.fn.body l.body
+invariant-add_messages-loop-index l = AddsEach (IsImageMessage (scope_of l.scope)) (flat_map (item_messages l.limit (protocols_of l.context)) (take l.index (numbered l.scope.protocol.now))) l.fn.messages l.messages

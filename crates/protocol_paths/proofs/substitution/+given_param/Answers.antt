@@ -10,9 +10,7 @@ use Rattle.protocol_paths.proofs.substitution.+given_param.Goals as goal
 
 pub returns-in_default : goal.returns-in_default
 returns-in_default t c = λ top.
-    let name = c.args.param.now.text in
-    if_ok (λ w. w ≡ c.args.param.now) (λ w. w.text ≡ param_at (scope_along top c.args.links.now) name) c.copied_word.result
-    (λ w same. ap (λ (v : Word). v.text) same ∙ param_alone top c.args.links.now name c.in_default.ensures.cases) c.copied_word.ensures
+    ap (λ (v : Word). v.text) c.copied_word.ensures ∙ param_alone top c.args.links.now c.args.param.now.text c.in_default.ensures.cases
 
 pub returns-in_default-index : goal.returns-in_default-index
 returns-in_default-index t c = λ top.
@@ -22,8 +20,7 @@ returns-in_default-index t c = λ top.
       parts = cc (c.in-Some.ensures.cases.0, c.in-Some.link-is, c.in-Some.outer-is);
       declared = rw (c.as_slice.ensures, l.declared.params) at (sym c.in_default-index.is ∙ c.index.ensures);
     } in
-    if_ok (λ w. w ≡ c.args.param.now) (λ w. w.text ≡ param_at (scope_along top c.args.links.now) name) c.copied_word-in_default-index.result
-    (λ w same. ap (λ (v : Word). v.text) same ∙ param_stays top c.args.links.now c.in-Some.outer.now l name at) c.copied_word-in_default-index.ensures
+    ap (λ (v : Word). v.text) c.copied_word-in_default-index.ensures ∙ param_stays top c.args.links.now c.in-Some.outer.now l name at
 
 pub returns-in-Some-get : goal.returns-in-Some-get
 returns-in-Some-get t c = λ top.
@@ -64,5 +61,4 @@ returns-in-None t c = λ top.
     } in
     let lacks : IsItemAt l.reference.now.params k c.get.result = rw c.as_slice-given.ensures at c.get.ensures.lookup in
     let lends : IsItemAt l.target.now.private (k - length l.reference.now.params) c.get-2.result = rw (c.as_slice-2.ensures, c.as_slice-given.ensures) at c.get-2.ensures.lookup in
-    if_ok (λ w. w ≡ c.args.param.now) (λ w. w.text ≡ param_at (scope_along top c.args.links.now) name) c.copied_word-in-None.result
-    (λ w same. ap (λ (v : Word). v.text) same ∙ param_missing top c.args.links.now c.in-Some.outer.now l name k c.get.result c.get-2.result at lacks c.in_default-get.is lends c.in-None.is) c.copied_word-in-None.ensures
+    ap (λ (v : Word). v.text) c.copied_word-in-None.ensures ∙ param_missing top c.args.links.now c.in-Some.outer.now l name k c.get.result c.get-2.result at lacks c.in_default-get.is lends c.in-None.is

@@ -10,6 +10,6 @@ returns c =
     let scope = c.args.scope.now in
     let name = c.args.role.now.text in
     record {
-      text = c.in_ok-from_slice.ensures ∙ c.as_slice-2.ensures ∙ c.given_role-given.ensures scope.top.now ∙ ap (λ ls. role_at (scope_along scope.top.now ls) name) c.as_slice.ensures ∙ ap (λ s. role_at s name) (whole scope.top.now scope.protocol.now scope.links scope.at_end);
+      text = c.lent.ensures ∙ c.as_slice-2.ensures ∙ c.given_role-given.ensures scope.top.now ∙ ap (λ ls. role_at (scope_along scope.top.now ls) name) c.as_slice.ensures ∙ ap (λ s. role_at s name) (whole scope.top.now scope.protocol.now scope.links scope.at_end);
       offset = refl;
     }
