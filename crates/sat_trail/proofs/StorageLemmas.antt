@@ -1,16 +1,21 @@
 -- What the cells keep when an entry is set or taken out.
-use Rattle.std.proofs.Common.{option_map, ◌≡◌, ◌≢◌, ℕ, zero, suc, ◌+◌, ◌-◌, ◌<◌, ◌≤◌, Bool, true, false, Option, Some, None, List, [], ◌∷◌, ◌++◌, inl, inr, length, take, get_or, set, sym, ap, refl, ◌∙◌, subst, append_assoc, arith, is_some, AllPairs, Contains, cond, length-set, get_or-set_same, get_or-set_other}
+use Rattle.std.proofs.Common.{option_map, ◌≡◌, ◌≢◌, ℕ, zero, suc, ◌+◌, ◌-◌, ◌<◌, ◌≤◌, Bool, true, false, not, Option, Some, None, List, [], ◌∷◌, ◌++◌, inl, inr, length, take, get_or, set, sym, ap, refl, ◌∙◌, subst, append_assoc, arith, is_some, AllPairs, Contains, cond, length-set, get_or-set_same, get_or-set_other}
+use Rattle.std.specs.Prelude.{◌↔◌}
 use Rattle.std.specs.List.{count_by}
 use Rattle.std.proofs.lemmas.Bool.{cases_eq}
 use Rattle.std.proofs.lemmas.List.{get_or_append_left, get_or_push, length_push, length-take-le, take_more, take_more_set, take_all, get_or_default}
 use Rattle.std.proofs.lemmas.List.Elements.{All-push, All-cons, All-contains, Contains-push}
 use Rattle.std.proofs.lemmas.List.Quantifiers.{all_pairs_push}
 use Rattle.std.proofs.lemmas.List.Sums.{sum_by-cons, sum_by-set, count_by-le-length}
+use Rattle.clause_core.specs.declared.literal.Lit.{Lit}
+use Rattle.clause_core.specs.Literal.{rank, negated}
 use Rattle.sat_trail.specs.declared.entry.Entry.{Entry}
 use Rattle.sat_trail.specs.Entry.{entry_of, values_of, last_level}
 use Rattle.sat_trail.specs.declared.value.Value.{Value}
-use Rattle.sat_trail.specs.declared.value.Value.TheVariants.{Unset}
-use Rattle.sat_trail.specs.inner.Storage.{Agrees, Assigned, HasRoom, HasValues, IsStored, StartsWith, seen}
+use Rattle.sat_trail.specs.declared.value.Value.TheVariants.{Unset, False, True}
+use Rattle.sat_trail.specs.inner.Storage.{Agrees, Assigned, HasRoom, HasValues, IsStored, StartsWith, value_of}
+use Rattle.sat_trail.proofs.CellLemmas.{rank-only, rank-within}
+use Rattle.sat_trail.proofs.LiteralLemmas.{cases_bool, not-differs, same_literal}
 use Rattle.sat_trail.proofs.EntryLemmas.{values_of-none, entry_of-distinct, entry_of-absent, entry_of-push_same, entry_of-push_other}
 
 -- 1 for a test that passes
@@ -107,36 +112,98 @@ Agrees-pop es cells e agrees from_one exists = record {
     full : weight (is_some (get_or cells (e.lit.var - 1) None)) ≡ 1
     full = ap (λ (o : Option Entry). weight (is_some o)) (agrees.found (e.lit.var - 1) (omega arith) ∙ ap (entry_of (es ++ e ∷ [])) (let same : e.lit.var - 1 + 1 ≡ e.lit.var = omega arith in same) ∙ entry_of-push_same es e missing)
 
--- a value and a cell that are written agree
-HasValues-set : (cells : List (Option Entry)) (values : List Value) (n : ℕ) (o : Option Entry) (value : Value) → HasValues cells values → 0 < n → n ≤ length cells → seen value ≡ option_map (λ (e : Entry). e.lit.positive) o → HasValues (set cells (n - 1) o) (set values n value)
-HasValues-set cells values n o value valued from_one exists is_seen = record {
-  many = omega (arith, length-set values n value, valued.many, length-set cells (n - 1) o);
-  none = get_or-set_other values n 0 value Unset (λ same. omega (arith, same, from_one)) ∙ valued.none;
-  same = λ v v_within. elim (cases_eq (v + 1) n) [
-    | inl is ↦ ap (λ k. seen (get_or (set values n value) k Unset)) is ∙ ap seen (get_or-set_same values n value Unset (omega (arith, exists, valued.many))) ∙ is_seen
-        ∙ sym (ap (λ k. option_map (λ (e : Entry). e.lit.positive) (get_or (set cells (n - 1) o) k None)) (let back : v ≡ n - 1 = omega (arith, is) in back)
-        ∙ ap (option_map (λ (e : Entry). e.lit.positive)) (get_or-set_same cells (n - 1) o None (omega (arith, from_one, exists))))
-    | inr differs ↦ ap seen (get_or-set_other values n (v + 1) value Unset differs) ∙ valued.same v (omega (arith, v_within, length-set cells (n - 1) o))
-        ∙ sym (ap (option_map (λ (e : Entry). e.lit.positive)) (get_or-set_other cells (n - 1) v o None (λ same. differs (omega (arith, same, from_one)))))
+-- the value of a literal by an entry that sets its variable
+abbrev pub value_by : Option Entry → Bool → Value
+value_by o positive = value_of (option_map (λ (e : Entry). e.lit.positive) o) positive
+
+-- a literal is true or false by the sign of its variable's value
+pub value_of-true : (o : Option Bool) (b : Bool) → (value_of o b ≡ True) ↔ (o ≡ Some b)
+value_of-true None b = (λ same. cc, λ same. cc)
+value_of-true (Some true) true = (λ same. refl, λ same. refl)
+value_of-true (Some true) false = (λ same. cc, λ same. cc)
+value_of-true (Some false) true = (λ same. cc, λ same. cc)
+value_of-true (Some false) false = (λ same. refl, λ same. refl)
+
+pub value_of-false : (o : Option Bool) (b : Bool) → (value_of o b ≡ False) ↔ (o ≡ Some (not b))
+value_of-false None b = (λ same. cc, λ same. cc)
+value_of-false (Some true) true = (λ same. cc, λ same. cc)
+value_of-false (Some true) false = (λ same. refl, λ same. refl)
+value_of-false (Some false) true = (λ same. refl, λ same. refl)
+value_of-false (Some false) false = (λ same. cc, λ same. cc)
+
+-- the values of both literals of a variable
+pub value_of-own : (b : Bool) → value_of (Some b) b ≡ True
+value_of-own true = refl
+value_of-own false = refl
+
+pub value_of-opposite : (b : Bool) → value_of (Some b) (not b) ≡ False
+value_of-opposite true = refl
+value_of-opposite false = refl
+
+-- another literal has another rank
+rank-differs : (l m : Lit) → l ≢ m → rank m ≢ rank l
+rank-differs l m differs same = differs (sym (rank-only m l same))
+
+-- a literal is not its negation
+negated-differs : (l : Lit) → l ≢ negated l
+negated-differs l same = not-differs l.positive (ap (λ (k : Lit). k.positive) same)
+
+-- what is read after the values of a literal and its negation are written
+read-own : (values : List Value) (l : Lit) (a b : Value) → rank l < length values → get_or (set (set values (rank l) a) (rank (negated l)) b) (rank l) Unset ≡ a
+read-own values l a b within =
+    get_or-set_other (set values (rank l) a) (rank (negated l)) (rank l) b Unset (λ same. negated-differs l (rank-only l (negated l) same))
+    ∙ get_or-set_same values (rank l) a Unset within
+
+read-opposite : (values : List Value) (l : Lit) (a b : Value) → rank (negated l) < length values → get_or (set (set values (rank l) a) (rank (negated l)) b) (rank (negated l)) Unset ≡ b
+read-opposite values l a b within =
+    get_or-set_same (set values (rank l) a) (rank (negated l)) b Unset (omega (arith, within, length-set values (rank l) a))
+
+read-other : (values : List Value) (l m : Lit) (a b : Value) → m.var ≢ l.var → get_or (set (set values (rank l) a) (rank (negated l)) b) (rank m) Unset ≡ get_or values (rank m) Unset
+read-other values l m a b differs =
+    get_or-set_other (set values (rank l) a) (rank (negated l)) (rank m) b Unset (λ same. differs (ap (λ (k : Lit). k.var) (rank-only m (negated l) same)))
+    ∙ get_or-set_other values (rank l) (rank m) a Unset (λ same. differs (ap (λ (k : Lit). k.var) (rank-only m l same)))
+
+-- the values of both literals and the cell that are written agree
+HasValues-set : (cells : List (Option Entry)) (values : List Value) (l : Lit) (o : Option Entry) (a b : Value) → HasValues cells values → 0 < l.var → l.var ≤ length cells → a ≡ value_by o l.positive → b ≡ value_by o (not l.positive) → HasValues (set cells (l.var - 1) o) (set (set values (rank l) a) (rank (negated l)) b)
+HasValues-set cells values l o a b valued from_one exists own opposite = record {
+  many = omega (arith, length-set (set values (rank l) a) (rank (negated l)) b, length-set values (rank l) a, valued.many, length-set cells (l.var - 1) o);
+  none = λ m is. read-other values l m a b (λ same. omega (arith, same, is, from_one)) ∙ valued.none m is;
+  same = λ m m_from_one m_within. elim (cases_eq m.var l.var) [
+    | inl is ↦
+        let cell : get_or (set cells (l.var - 1) o) (m.var - 1) None ≡ o = ap (λ k. get_or (set cells (l.var - 1) o) (k - 1) None) is ∙ get_or-set_same cells (l.var - 1) o None (omega (arith, from_one, exists)) in
+        let written : get_or (set (set values (rank l) a) (rank (negated l)) b) (rank m) Unset ≡ value_by o m.positive = elim (cases_bool m.positive l.positive) [
+          | inl signs ↦ rw (same_literal m l is signs) (read-own values l a b within ∙ own)
+          | inr signs ↦ rw (same_literal m (negated l) is signs) (read-opposite values l a b also ∙ opposite)
+        ] in
+        written ∙ ap (λ c. value_by c m.positive) (sym cell)
+    | inr differs ↦ read-other values l m a b differs ∙ valued.same m m_from_one (omega (arith, m_within, length-set cells (l.var - 1) o))
+        ∙ ap (λ c. value_by c m.positive) (sym (get_or-set_other cells (l.var - 1) (m.var - 1) o None (λ same. differs (omega (arith, same, from_one, m_from_one)))))
   ];
 }
+  where
+    within : rank l < length values
+    within = rw valued.many (rank-within (length cells) l exists)
 
--- the stored value of a variable, and of variable 0, which has none
-pub value-stored : (slots : List Entry) (len : ℕ) (cells : List (Option Entry)) (values : List Value) (v : ℕ) → IsStored slots len cells values → v ≤ length cells → seen (get_or values v Unset) ≡ values_of (take len slots) v
-value-stored slots len cells values v stored exists = elim (cases_eq v 0) [
-  | inl is ↦ rw is (ap seen stored.valued.none
-      ∙ sym (ap (option_map (λ (e : Entry). e.lit.positive)) (entry_of-absent (take len slots) 0 (λ k d within same. omega (arith, same, (stored.agrees.exist k d within).0)))))
+    also : rank (negated l) < length values
+    also = rw valued.many (rank-within (length cells) (negated l) exists)
+
+-- the stored value of a literal, also of variable 0, which has none
+pub value-stored : (slots : List Entry) (len : ℕ) (cells : List (Option Entry)) (values : List Value) (l : Lit) → IsStored slots len cells values → l.var ≤ length cells → get_or values (rank l) Unset ≡ value_of (values_of (take len slots) l.var) l.positive
+value-stored slots len cells values l stored exists = elim (cases_eq l.var 0) [
+  | inl is ↦ stored.valued.none l is
+      ∙ sym (ap (λ (o : Option Entry). value_by o l.positive) (entry_of-absent (take len slots) l.var (λ k d within same. omega (arith, same, is, (stored.agrees.exist k d within).0))))
   | inr some ↦
-      let back : v - 1 + 1 ≡ v = omega (arith, some) in
-      let within : v - 1 < length cells = omega (arith, some, exists) in
-      subst (λ k. seen (get_or values k Unset) ≡ values_of (take len slots) k) back
-      (stored.valued.same (v - 1) within ∙ ap (option_map (λ (e : Entry). e.lit.positive)) (stored.agrees.found (v - 1) within))
+      let back : l.var - 1 + 1 ≡ l.var = omega (arith, some) in
+      let within : l.var - 1 < length cells = omega (arith, some, exists) in
+      stored.valued.same l (omega (arith, some)) exists
+      ∙ ap (λ (o : Option Entry). value_by o l.positive) (stored.agrees.found (l.var - 1) within ∙ ap (entry_of (take len slots)) back)
 ]
 
 -- what was read of the values
-pub value-read : (slots : List Entry) (len : ℕ) (cells : List (Option Entry)) (values : List Value) (v : ℕ) (w : Value) → IsStored slots len cells values → v ≤ length cells → w ≡ get_or values v w → seen w ≡ values_of (take len slots) v
-value-read slots len cells values v w stored exists read =
-    ap seen (read ∙ get_or_default values v w Unset (omega (arith, exists, stored.valued.many))) ∙ value-stored slots len cells values v stored exists
+pub value-read : (slots : List Entry) (len : ℕ) (cells : List (Option Entry)) (values : List Value) (l : Lit) (r : ℕ) (w : Value) → IsStored slots len cells values → l.var ≤ length cells → r ≡ rank l → w ≡ get_or values r w → w ≡ value_of (values_of (take len slots) l.var) l.positive
+value-read slots len cells values l r w stored exists ranks read =
+    read ∙ ap (λ k. get_or values k w) ranks
+    ∙ get_or_default values (rank l) w Unset (rw stored.valued.many (rank-within (length cells) l exists)) ∙ value-stored slots len cells values l stored exists
 
 -- what is stored leaves room while a variable has no value
 pub HasRoom-stored : (slots : List Entry) (len : ℕ) (cells : List (Option Entry)) (values : List Value) → IsStored slots len cells values → HasRoom (record { vars = length cells; entries = take len slots })
@@ -151,13 +218,13 @@ slot_within slots len cells values v stored from_one exists none =
     omega (arith, room (take len slots) cells v stored.agrees from_one exists none, length-take-le len slots stored.filled, stored.room)
 
 -- one more entry is stored after the others
-pub IsStored-push : (slots : List Entry) (len : ℕ) (cells : List (Option Entry)) (values : List Value) (e : Entry) (value : Value) → IsStored slots len cells values → 0 < e.lit.var → e.lit.var ≤ length cells → values_of (take len slots) e.lit.var ≡ None → seen value ≡ Some e.lit.positive → IsStored (set slots len e) (len + 1) (set cells (e.lit.var - 1) (Some e)) (set values e.lit.var value)
-IsStored-push slots len cells values e value stored from_one exists none is_seen = record {
+pub IsStored-push : (slots : List Entry) (len : ℕ) (cells : List (Option Entry)) (values : List Value) (e : Entry) → IsStored slots len cells values → 0 < e.lit.var → e.lit.var ≤ length cells → values_of (take len slots) e.lit.var ≡ None → IsStored (set slots len e) (len + 1) (set cells (e.lit.var - 1) (Some e)) (set (set values (rank e.lit) True) (rank (negated e.lit)) False)
+IsStored-push slots len cells values e stored from_one exists none = record {
   room = length-set slots len e ∙ stored.room ∙ sym (length-set cells (e.lit.var - 1) (Some e));
   few = rw (length-set cells (e.lit.var - 1) (Some e)) stored.few;
   filled = omega (arith, within, length-set slots len e);
   agrees = rw (take_more_set slots len e within) (Agrees-push (take len slots) cells e stored.agrees from_one exists none);
-  valued = HasValues-set cells values e.lit.var (Some e) value stored.valued from_one exists is_seen;
+  valued = HasValues-set cells values e.lit (Some e) True False stored.valued from_one exists (sym (value_of-own e.lit.positive)) (sym (value_of-opposite e.lit.positive));
 }
   where
     within : len < length slots
@@ -174,13 +241,13 @@ take_last slots len e some filled at_end =
     ∙ take_more slots (len - 1) e (omega arith) ∙ ap (λ x. take (len - 1) slots ++ x ∷ []) (sym at_end)
 
 -- one entry less is stored
-pub IsStored-pop : (slots : List Entry) (len : ℕ) (cells : List (Option Entry)) (values : List Value) (e : Entry) → IsStored slots len cells values → 0 < len → e ≡ get_or slots (len - 1) e → IsStored slots (len - 1) (set cells (e.lit.var - 1) None) (set values e.lit.var Unset)
+pub IsStored-pop : (slots : List Entry) (len : ℕ) (cells : List (Option Entry)) (values : List Value) (e : Entry) → IsStored slots len cells values → 0 < len → e ≡ get_or slots (len - 1) e → IsStored slots (len - 1) (set cells (e.lit.var - 1) None) (set (set values (rank e.lit) Unset) (rank (negated e.lit)) Unset)
 IsStored-pop slots len cells values e stored some at_end = record {
   room = stored.room ∙ sym (length-set cells (e.lit.var - 1) None);
   few = rw (length-set cells (e.lit.var - 1) None) stored.few;
   filled = omega (arith, stored.filled);
   agrees = Agrees-pop (take (len - 1) slots) cells e (subst (λ es. Agrees es cells) (take_last slots len e some stored.filled at_end) stored.agrees) exists.0 exists.1;
-  valued = HasValues-set cells values e.lit.var None Unset stored.valued exists.0 exists.1 refl;
+  valued = HasValues-set cells values e.lit None Unset Unset stored.valued exists.0 exists.1 refl refl;
 }
   where
     exists : (0 < e.lit.var) × (e.lit.var ≤ length cells)

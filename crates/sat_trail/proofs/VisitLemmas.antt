@@ -13,7 +13,7 @@ use Rattle.sat_trail.specs.inner.Propagation.{CanPropagate}
 use Rattle.sat_trail.specs.inner.Storage.{Assigned}
 use Rattle.sat_trail.specs.inner.Visit.{IsLastLeft, CanVisit, IsVisit}
 use Rattle.sat_trail.specs.inner.Walk.{IsNewWatch}
-use Rattle.sat_trail.specs.inner.Watches.{cell_of, IsTurn, Watches, WatchesApart, KeepsLits, IsWithin}
+use Rattle.sat_trail.specs.inner.Watches.{cell_of, IsTurn, HasLink, Watches, WatchesApart, KeepsLits, IsWithin}
 use Rattle.sat_trail.proofs.CellLemmas.{HasLink-watches, link-turn}
 use Rattle.sat_trail.proofs.ChainLemmas.{walk-member}
 use Rattle.sat_trail.proofs.GrowthLemmas.{CanPropagate-exists, CanPropagate-once, CanPropagate-top, watched-number, watched-two}
@@ -132,11 +132,12 @@ visited-left clauses cells heads set level at turn c lits v has same others = re
 }
 
 -- if the other watched literal is true, the clause stays
-pub visited-stays : (clauses : List (Option (List Lit))) (cells : List Cell) (heads : List ℕ) (set : Assigned) (level : ℕ) (at : Cursor) (turn : Cell) → IsVisited clauses cells heads set level at turn → values_of set.entries turn.other.lit.var ≡ Some turn.other.lit.positive → IsVisit cells cells heads heads set.entries level at Stays
+pub visited-stays : (clauses : List (Option (List Lit))) (cells : List Cell) (heads : List ℕ) (set : Assigned) (level : ℕ) (at : Cursor) (turn : Cell) → IsVisited clauses cells heads set level at turn → values_of set.entries turn.other.lit.var ≡ Some turn.other.lit.positive → IsVisit cells cells heads heads set.entries level at (Stays turn.one.link)
 visited-stays clauses cells heads set level at turn v holds = record {
-  stays = λ same. (
+  stays = λ next same. (
     refl,
     refl,
+    subst (HasLink (cell_of cells at.number) at.lit) (let link : turn.one.link ≡ next = cc in link) (link-turn (cell_of cells at.number) turn at.lit v.turns v.here),
     λ other turns is.
         subst (λ (k : Lit). IsTrueBy set.entries level k) (sym (visited-same clauses cells heads set level at turn other v turns is))
         (true-by set.entries level turn.other.lit (CanPropagate-top clauses set level v.can.fits) holds),

@@ -182,20 +182,13 @@ false-extends clauses old now level position l extends at = record {
 pub vars-extends : (clauses : List (Option (List Lit))) (old now : Assigned) (level : ℕ) → Extends clauses level old now → now.vars ≡ old.vars
 vars-extends clauses old now level extends = ap (λ (s : Assigned). s.vars) extends.grows
 
--- the clause that was visited is still in the list
-pub stayed-member : (clauses : List (Option (List Lit))) (old now new : Assigned) (cells new_cells : List Cell) (heads new_heads : List ℕ) (level position : ℕ) (l : Lit) (before number count : ℕ) → IsWalking clauses old now cells heads level position l before number count → number ≢ 0 → IsVisit cells new_cells heads new_heads new.entries level (record { position = position; lit = l; before = before; number = number }) Stays → (number < length new_cells) × Watches (cell_of new_cells number) l
-stayed-member clauses old now new cells new_cells heads new_heads level position l before number count w some visit =
-    let walks = walking-walks clauses old now cells heads level position l before number count w some in
-    subst (λ (cs : List Cell). (number < length cs) × Watches (cell_of cs number) l) (sym (visit.stays refl).0)
-    (let member = walk-member cells heads l walks.passed walks.rest before number walks.walk in (member.1, member.2))
-
 -- the walk after a clause that stays
-pub walking-stayed : (clauses : List (Option (List Lit))) (old now new : Assigned) (cells new_cells : List Cell) (heads new_heads : List ℕ) (level position : ℕ) (l : Lit) (before number count next : ℕ) → IsWalking clauses old now cells heads level position l before number count → number ≢ 0 → Extends clauses level now new → HasWatches clauses new_cells new level position (length clauses) → IsVisit cells new_cells heads new_heads new.entries level (record { position = position; lit = l; before = before; number = number }) Stays → HasLink (cell_of new_cells number) l next → IsWalking clauses old new new_cells new_heads level position l number next (count + 1)
-walking-stayed clauses old now new cells new_cells heads new_heads level position l before number count next w some extends watched visit link =
-    let s = visit.stays refl in
+pub walking-stayed : (clauses : List (Option (List Lit))) (old now new : Assigned) (cells new_cells : List Cell) (heads new_heads : List ℕ) (level position : ℕ) (l : Lit) (before number count next : ℕ) → IsWalking clauses old now cells heads level position l before number count → number ≢ 0 → Extends clauses level now new → HasWatches clauses new_cells new level position (length clauses) → IsVisit cells new_cells heads new_heads new.entries level (record { position = position; lit = l; before = before; number = number }) (Stays next) → IsWalking clauses old new new_cells new_heads level position l number next (count + 1)
+walking-stayed clauses old now new cells new_cells heads new_heads level position l before number count next w some extends watched visit =
+    let s = visit.stays next refl in
     subst (λ (hs : List ℕ). IsWalking clauses old new new_cells hs level position l number next (count + 1)) (sym s.1)
-    (subst (λ (cs : List Cell). HasWatches clauses cs new level position (length clauses) → HasLink (cell_of cs number) l next → IsWalking clauses old new cs heads level position l number next (count + 1)) (sym s.0)
-    (λ old_watched old_link. walking-stays clauses old now new cells heads level position l before number count next w some extends old_watched s.2 old_link) watched link)
+    (subst (λ (cs : List Cell). HasWatches clauses cs new level position (length clauses) → IsWalking clauses old new cs heads level position l number next (count + 1)) (sym s.0)
+    (λ old_watched. walking-stays clauses old now new cells heads level position l before number count next w some extends old_watched s.3 s.2) watched)
 
 -- the lists after a clause that is false
 pub walking-failed : (clauses : List (Option (List Lit))) (old now new : Assigned) (cells new_cells : List Cell) (heads new_heads : List ℕ) (level position : ℕ) (l : Lit) (before number count : ℕ) → IsWalking clauses old now cells heads level position l before number count → IsVisit cells new_cells heads new_heads new.entries level (record { position = position; lit = l; before = before; number = number }) Fails → AreLinked old.vars new_cells new_heads

@@ -48,7 +48,6 @@ impl<'f> ClauseStore<'f> {
 
     /// The last number that was given to a clause.
     pub fn len(&self) -> usize
-        requires { length self.now < 2 ^ 32 }
         ensures { result ≡ length self.now }
     {
         self.flat.len()

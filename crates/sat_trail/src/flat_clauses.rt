@@ -1,5 +1,6 @@
 ghost use Rattle.std.specs.Prelude.{◌≡◌, ◌-◌, ◌<◌, ◌≤◌, ◌↔◌, ◌++◌, [], ◌∷◌, Some, None, IsSome, IsTrue};
-ghost use Rattle.std.specs.Prelude.{length, map, All, IfOk, OnOk, OnErr, slice_set, take};
+ghost use Rattle.std.specs.Prelude.{◌^◌, length, map, min, All, IfOk, OnOk, OnErr, slice_set, take};
+ghost use Rattle.std.specs.List.{sum_by};
 ghost use Rattle.clause_core.specs.Numbering.{HasNumber, live};
 ghost use Rattle.sat_trail.specs.inner.Flat.{IsPackable};
 
@@ -9,6 +10,10 @@ use clause_core::{Clause, Lit};
 use list_base::NoMemory;
 use std::alloc::Global;
 use std::marker::Model;
+
+/// Spans have positions of four bytes. More literals, with the clauses that they are copied from,
+/// would take over 50 GB, so they are answered as out of memory.
+const MOST_LITS: usize = 4_294_967_295;
 
 /// The literals of numbered clauses, in four bytes each, one clause after the other. A walk over a
 /// clause reads its span and then one piece of memory.
@@ -54,7 +59,8 @@ impl FlatClauses {
         requires given { number ≤ length self.now }
         ensures { IsTrue result ↔ IsSome (live self.now number) }
     {
-        self.spans[number as usize - 1].live
+        let span = self.spans[number as usize - 1];
+        span.start <= span.end
     }
 
     /// The literals of the clause of the number.
@@ -63,8 +69,7 @@ impl FlatClauses {
         ensures { HasNumber (live self.now) number result.now }
     {
         let span = self.spans[number as usize - 1];
-        let end = span.start + span.len as usize;
-        &self.lits.as_slice()[span.start..end]
+        &self.lits.as_slice()[span.start as usize..span.end as usize]
     }
 
     /// Gives the clause the next number.
@@ -75,11 +80,14 @@ impl FlatClauses {
     {
         let lits = c.lits();
         let start = self.lits.len();
+        let end = start.saturating_add(lits.len());
+        if end > MOST_LITS {
+            return Err(NoMemory);
+        }
         append(&mut self.lits, lits)?;
         let span = Span {
-            start,
-            len: lits.len() as u32,
-            live: true,
+            start: start as u32,
+            end: end as u32,
         };
         if let Err(e) = self.spans.push(span) {
             self.lits.truncate(start);
@@ -102,7 +110,7 @@ impl FlatClauses {
         requires given { number ≤ length self.old }
         ensures { self.new ≡ slice_set self.old (number - 1) None }
     {
-        self.spans[number as usize - 1].live = false;
+        self.spans[number as usize - 1] = Span { start: 1, end: 0 };
     }
 }
 
@@ -135,7 +143,9 @@ pub fn flattened(alloc: Global, clauses: &[Clause]) -> Result<FlatClauses, NoMem
 }
 
 /// How many literals the clauses have together, or the largest number if that is less.
-fn count(clauses: &[Clause]) -> usize {
+fn count(clauses: &[Clause]) -> usize
+    ensures { result ≡ min (sum_by length clauses.now) (2 ^ 64 - 1) }
+{
     let mut count = 0usize;
     for clause in clauses {
         count = count.saturating_add(clause.lits().len());

@@ -1,5 +1,4 @@
 ghost use Rattle.std.specs.Prelude.{◌≡◌, ◌≢◌, ◌-◌, ◌+◌, ◌*◌, ◌<◌, ◌≤◌, ◌∷◌, length, IfSome, IfNone, Some};
-ghost use Rattle.std.specs.Prelude.{ℕ};
 ghost use Rattle.std.specs.Bool.{OnTrue, OnFalse};
 ghost use Rattle.clause_core.specs.Propagation.{IsFalsified};
 ghost use Rattle.sat_trail.specs.Entry.{values_of};
@@ -54,8 +53,8 @@ impl Cursor {
 
 /// What becomes of a clause's place in the list of a literal that is false.
 enum Visit {
-    /// It stays.
-    Stays,
+    /// It stays. The clause of this number comes next.
+    Stays(u32),
     /// It moved to the list of another literal. The clause of this number came next.
     Moves(u32),
     /// The clause is false.
@@ -117,27 +116,25 @@ pub fn examine_new(
     None
 }
 
-/// Sets the only literal of the clause that is left, unless it is false too.
-fn force(store: &ClauseStore, set: &mut Entries, lit: PackedLit, number: u32, level: u32) -> Visit
+/// Sets the only literal of the clause that is left, unless it is false too. True if it is set.
+fn force(store: &ClauseStore, set: &mut Entries, lit: PackedLit, number: u32, level: u32) -> bool
     requires fits { CanPropagate store.now set.old level }
     requires left { IsLastLeft store.now set.old.entries number lit }
     requires untrue { values_of set.old.entries lit.var ≢ Some lit.positive }
     ensures extends { Extends store.now level set.old set.new }
-    ensures stays { result ≡ Visit.Stays → IsTrueBy set.new.entries level lit }
-    ensures moves { (next : ℕ) → result ≢ Visit.Moves next }
-    ensures fails { result ≡ Visit.Fails →
-        IsFalsified (live store.now) (values_of set.new.entries) number }
+    ensures sets { OnTrue result (IsTrueBy set.new.entries level lit) }
+    ensures fails { OnFalse result
+        (IsFalsified (live store.now) (values_of set.new.entries) number) }
 {
-    let last = lit.lit();
-    if set.is_false(last) {
-        return Visit::Fails;
+    if set.is_false(lit) {
+        return false;
     }
     set.push(Entry {
-        lit: last,
+        lit: lit.lit(),
         level,
         reason: Some(number),
     });
-    Visit::Stays
+    true
 }
 
 /// Visits the clause that the cursor has come to. The clause is not touched if its other watched
@@ -160,16 +157,23 @@ fn visit_clause(
     ensures falsified { result ≡ Visit.Fails →
         IsFalsified (live store.now) (values_of set.new.entries) at.number }
 {
-    let kept = lists.watches(at.number, at.lit).other.lit;
-    if set.is_true(kept.lit()) {
-        return Visit::Stays;
+    let cell = lists.watches(at.number, at.lit);
+    let (next, kept) = (cell.one.link, cell.other.lit);
+    if set.is_true(kept) {
+        return Visit::Stays(next);
     }
     if !store.is_live(at.number) {
         return Visit::Moves(lists.unlink(set.vars(), at.lit, at.before, at.number));
     }
     match not_false(set, store.lits(at.number), kept) {
         Some(to) => Visit::Moves(lists.move_watch(set.vars(), at.lit, at.before, at.number, to)),
-        None => force(store, set, kept, at.number, level),
+        None => {
+            if force(store, set, kept, at.number, level) {
+                Visit::Stays(next)
+            } else {
+                Visit::Fails
+            }
+        }
     }
 }
 
@@ -202,9 +206,9 @@ fn propagate_entry(
         }
         let at = Cursor::new(position, lit, before, number);
         match visit_clause(store, lists, set, at, level) {
-            Visit::Stays => {
+            Visit::Stays(next) => {
                 before = number;
-                number = lists.watches(number, lit).one.link;
+                number = next;
             }
             Visit::Moves(next) => number = next,
             Visit::Fails => return Some(number),

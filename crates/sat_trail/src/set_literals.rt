@@ -2,17 +2,22 @@ ghost use Rattle.std.specs.Prelude.{◌≡◌, ◌-◌, ◌+◌, ◌^◌, ◌<�
 ghost use Rattle.std.specs.Prelude.{take, IfOk, slice_get, IsTrue, IfSome, ◌↔◌};
 ghost use Rattle.clause_core.specs.Propagation.{MakesFalse};
 ghost use Rattle.sat_trail.specs.Entry.{entry_of, values_of, last_level};
-ghost use Rattle.sat_trail.specs.inner.Storage.{StartsWith, HasRoom, seen};
+ghost use Rattle.sat_trail.specs.inner.Storage.{StartsWith, HasRoom};
 
 use super::entry::Entry;
+use super::packed_lit::PackedLit;
 use super::value::Value;
 use clause_core::Lit;
 use list_base::NoMemory;
 use std::alloc::Global;
 use std::marker::Model;
 
+/// Literals have numbers of four bytes. The tables of more variables would take over 100 GB, so
+/// they are answered as out of memory.
+const MOST_VARS: u32 = 2_147_483_647;
+
 /// Set literals in the order of setting. Each variable has a cell with its entry, and all memory
-/// is taken at the start. A variable's value also stands in one byte, at the variable's number.
+/// is taken at the start. The value of each literal also stands in one byte, at the literal's rank.
 #[derive(Drop)]
 pub struct Entries {
     slots: Vec<Entry>,
@@ -38,9 +43,12 @@ impl Model for Entries {
 impl Entries {
     /// No literal is set.
     pub fn new(alloc: Global, vars: u32) -> Result<Entries, NoMemory>
-        requires { vars < 2 ^ 31 }
-        ensures { IfOk result (λ e. e ≡ record { vars = vars; entries = [] }) }
+        ensures none { IfOk result (λ e. e ≡ record { vars = vars; entries = [] }) }
+        ensures few { IfOk result (λ _. vars < 2 ^ 31) }
     {
+        if vars > MOST_VARS {
+            return Err(NoMemory);
+        }
         let blank = Entry {
             lit: Lit {
                 var: 0,
@@ -53,7 +61,7 @@ impl Entries {
             slots: vec![in alloc; blank; vars as usize]?,
             len: 0,
             cells: vec![in alloc; None; vars as usize]?,
-            values: vec![in alloc; Value::Unset; vars as usize + 1]?,
+            values: vec![in alloc; Value::Unset; 2 * vars as usize + 2]?,
         })
     }
 
@@ -104,20 +112,19 @@ impl Entries {
     }
 
     /// Whether the literal is true. A literal of variable 0 is not.
-    pub fn is_true(&self, lit: Lit) -> bool
+    pub fn is_true(&self, lit: PackedLit) -> bool
         requires { lit.var ≤ self.now.vars }
         ensures { IsTrue result ↔ (values_of self.now.entries lit.var ≡ Some lit.positive) }
     {
-        holds(self.values[lit.var as usize], lit.positive)
+        self.values[lit.rank()] == Value::True
     }
 
     /// Whether the literal is false.
-    pub fn is_false(&self, lit: Lit) -> bool
-        requires from_one { 0 < lit.var }
-        requires exists { lit.var ≤ self.now.vars }
+    pub fn is_false(&self, lit: PackedLit) -> bool
+        requires { lit.var ≤ self.now.vars }
         ensures { IsTrue result ↔ MakesFalse (values_of self.now.entries) lit }
     {
-        holds(self.values[lit.var as usize], !lit.positive)
+        self.values[lit.rank()] == Value::False
     }
 
     /// Whether the variable has no value, or was set at the level.
@@ -143,7 +150,8 @@ impl Entries {
         self.slots[self.len] = entry;
         self.len += 1;
         self.cells[entry.lit.var as usize - 1] = Some(entry);
-        self.values[entry.lit.var as usize] = value_of(entry.lit.positive);
+        self.values[PackedLit::of(entry.lit).rank()] = Value::True;
+        self.values[PackedLit::of(entry.lit.negation()).rank()] = Value::False;
     }
 
     /// Takes the last entry out.
@@ -155,7 +163,8 @@ impl Entries {
         self.len -= 1;
         let last = self.slots[self.len];
         self.cells[last.lit.var as usize - 1] = None;
-        self.values[last.lit.var as usize] = Value::Unset;
+        self.values[PackedLit::of(last.lit).rank()] = Value::Unset;
+        self.values[PackedLit::of(last.lit.negation()).rank()] = Value::Unset;
     }
 
     /// Takes the entries above the level out, which are the last.
@@ -177,18 +186,4 @@ impl Entries {
         }
         self.slots[self.len - 1].level
     }
-}
-
-/// The value of a variable with a true literal of this sign.
-fn value_of(positive: bool) -> Value
-    ensures { seen result ≡ Some positive }
-{
-    if positive { Value::True } else { Value::False }
-}
-
-/// Whether a literal of this sign is true if its variable has the value.
-fn holds(value: Value, positive: bool) -> bool
-    ensures { IsTrue result ↔ (seen value ≡ Some positive) }
-{
-    value == value_of(positive)
 }

@@ -1,10 +1,9 @@
-/// Where the literals of a clause lie in the list of all literals, and whether the clause is live.
+/// Where the literals of a clause lie in the list of all literals, in eight bytes. The span of a
+/// clause that was removed ends before it starts.
 #[derive(Clone, Copy, Debug)]
 pub struct Span {
     /// The position of the first literal.
-    pub start: usize,
-    /// How many literals the clause has.
-    pub len: u32,
-    /// Whether the clause was not removed.
-    pub live: bool,
+    pub start: u32,
+    /// The position after the last literal.
+    pub end: u32,
 }

@@ -18,10 +18,6 @@ use list_base::{NoMemory, TryClone};
 use std::alloc::Global;
 use std::marker::Model;
 
-/// Literals have numbers of four bytes. The tables of more variables would take over 100 GB, so
-/// there is no trail over more.
-const MOST_VARS: u32 = 2_147_483_647;
-
 /// Set literals over numbered clauses, of which each watches two literals (Moskewicz et al. 2001).
 /// The list of the set literals is also the queue of unit propagation: its first `head` entries are
 /// propagated, and the first `examined` clauses were examined since they were added. A clause that
@@ -57,12 +53,9 @@ impl<'f> Trail<'f> {
         ensures start { IfOk result (IsStart f.now) }
         ensures sound { IfOk result IsTrail }
     {
-        if f.vars > MOST_VARS {
-            return Err(NoMemory);
-        }
+        let set = Entries::new(alloc, f.vars)?;
         let given = f.clauses.as_slice();
         let store = ClauseStore::new(alloc, given)?;
-        let set = Entries::new(alloc, f.vars)?;
         let mut lists = WatchLists::new(alloc, f.vars, given.len())?;
         watch_all(&mut lists, &set, given);
         Ok(Trail {

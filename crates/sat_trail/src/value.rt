@@ -1,4 +1,4 @@
-/// The value of a variable, in one byte.
+/// The value of a literal, in one byte.
 #[derive(Clone, Copy, Debug, PartialEq, Eq)]
 pub enum Value {
     /// It has none.

@@ -20,7 +20,7 @@ fn may_take(set: &Entries, lit: Lit, kept: Lit) -> bool
     ensures yes { OnTrue result ((lit ≢ kept) × (¬ MakesFalse (values_of set.now.entries) lit)) }
     ensures no { OnFalse result (lit ≢ kept → MakesFalse (values_of set.now.entries) lit) }
 {
-    lit != kept && !set.is_false(lit)
+    lit != kept && set.value(lit.var) != Some(!lit.positive)
 }
 
 /// Whether the literal is another one and not false.
@@ -30,7 +30,7 @@ fn may_move(set: &Entries, lit: PackedLit, kept: PackedLit) -> bool
     ensures yes { OnTrue result ((lit ≢ kept) × (¬ MakesFalse (values_of set.now.entries) lit)) }
     ensures no { OnFalse result (lit ≢ kept → MakesFalse (values_of set.now.entries) lit) }
 {
-    !lit.is(kept) && !set.is_false(lit.lit())
+    !lit.is(kept) && !set.is_false(lit)
 }
 
 /// A literal of the clause that is not false, other than this one. If there is none, the others

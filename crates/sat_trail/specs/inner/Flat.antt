@@ -1,12 +1,14 @@
 -- How the literals of all clauses lie in one list.
-use Rattle.std.specs.Prelude.{◌≡◌, ℕ, ◌+◌, ◌^◌, ◌<◌, ◌≤◌, Option, Some, None, List, map, All, IfSome}
-use Rattle.std.specs.Prelude.{take, drop, if◌then◌else◌}
+use Rattle.std.specs.Prelude.{◌≡◌, ℕ, ◌-◌, ◌^◌, ◌<◌, ◌≤◌, Option, Some, None, List, map, All, IfSome}
+use Rattle.std.specs.Prelude.{take, drop, nat_le, if◌then◌else◌}
 use Rattle.clause_core.specs.declared.literal.Lit.{Lit}
 use Rattle.sat_trail.specs.declared.span.Span.{Span}
 
--- the literals of the span, unless its clause was removed
+-- the literals of the span, unless it ends before it starts, as that of a removed clause
 abbrev pub clause_at : List Lit → Span → Option (List Lit)
-clause_at lits span = if span.live then Some (take span.len (drop span.start lits)) else None
+clause_at lits span =
+    if nat_le span.start span.end then Some (take (span.end - span.start) (drop span.start lits))
+    else None
 
 -- the clause of each span
 abbrev pub clauses_at : List Lit → List Span → List (Option (List Lit))
@@ -14,7 +16,7 @@ clauses_at lits spans = map (clause_at lits) spans
 
 -- the span ends within a list of this length
 abbrev pub IsInside : ℕ → Span → Type 0
-IsInside count span = span.start + span.len ≤ count
+IsInside count span = span.end ≤ count
 
 -- each literal is of a variable from 1 on that is below 2 ^ 31
 abbrev pub IsPackable : List Lit → Type 0

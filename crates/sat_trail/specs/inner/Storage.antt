@@ -1,9 +1,10 @@
 -- How the clauses and the entries are stored, so that a number or a variable finds them.
-use Rattle.std.specs.Prelude.{◌≡◌, ◌≢◌, ℕ, ◌+◌, ◌^◌, ◌<◌, ◌≤◌, Bool, true, false, Option, Some, None}
+use Rattle.std.specs.Prelude.{◌≡◌, ◌≢◌, ℕ, ◌+◌, ◌-◌, ◌*◌, ◌^◌, ◌<◌, ◌≤◌, Bool, true, false, Option, Some, None}
 use Rattle.std.specs.Prelude.{List, [], ◌∷◌, ◌++◌, length, All, AllPairs, is_some, count_by, take}
 use Rattle.std.specs.Prelude.{slice_index_or, if◌then◌else◌}
 use Rattle.std.specs.Option.{option_map}
 use Rattle.clause_core.specs.declared.literal.Lit.{Lit}
+use Rattle.clause_core.specs.Literal.{rank}
 use Rattle.sat_trail.specs.declared.entry.Entry.{Entry}
 use Rattle.sat_trail.specs.declared.value.Value.{Value}
 use Rattle.sat_trail.specs.declared.value.Value.TheVariants.{Unset, False, True}
@@ -27,19 +28,20 @@ pub record Agrees (entries : List Entry) (cells : List (Option Entry)) : Type 0 
   pub exist : All (λ e. (0 < e.lit.var) × (e.lit.var ≤ length cells)) entries
   pub counted : count_by is_some cells ≡ length entries
 
--- what the value says of the variable
-abbrev pub seen : Value → Option Bool
-seen Unset = None
-seen False = Some false
-seen True = Some true
+-- the value of a variable's literal of this sign, if the variable has the value
+abbrev pub value_of : Option Bool → Bool → Value
+value_of None positive = Unset
+value_of (Some true) positive = if positive then True else False
+value_of (Some false) positive = if positive then False else True
 
--- the value of each variable is that of its cell; the first value, which is no variable's, stays
--- unset
+-- the value of each literal is that by its variable's cell; those of variable 0 stay unset
 pub record HasValues (cells : List (Option Entry)) (values : List Value) : Type 0 where
-  pub many : length values ≡ length cells + 1
-  pub none : slice_index_or values 0 Unset ≡ Unset
-  pub same : (v : ℕ) → v < length cells → seen (slice_index_or values (v + 1) Unset)
-      ≡ option_map (λ e. e.lit.positive) (slice_index_or cells v None)
+  pub many : length values ≡ 2 * length cells + 2
+  pub none : (l : Lit) → l.var ≡ 0 → slice_index_or values (rank l) Unset ≡ Unset
+  pub same : (l : Lit) → 0 < l.var → l.var ≤ length cells →
+      let cell = slice_index_or cells (l.var - 1) None in
+      slice_index_or values (rank l) Unset
+      ≡ value_of (option_map (λ e. e.lit.positive) cell) l.positive
 
 -- the first `len` slots are the entries; there is a slot and a cell for each variable
 pub record IsStored

@@ -15,7 +15,7 @@ use Rattle.sat_trail.specs.inner.Excuse.{IsTrueBy}
 use Rattle.sat_trail.specs.inner.Propagation.{CanPropagate, HasWatches}
 use Rattle.sat_trail.specs.inner.Storage.{Assigned}
 use Rattle.sat_trail.specs.inner.Walk.{IsWalk, Walks, AreOthersListed}
-use Rattle.sat_trail.specs.inner.Watches.{cell_of, IsTurn, KeepsLits, AreLinked}
+use Rattle.sat_trail.specs.inner.Watches.{cell_of, IsTurn, HasLink, KeepsLits, AreLinked}
 
 -- the literal is the only one of the clause that may not be false
 pub record IsLastLeft
@@ -54,11 +54,13 @@ pub record CanVisit
   pub walk : Walks cells heads at.lit at.before at.number
   pub others : AreOthersListed set.vars cells heads at.lit
 
--- a clause that stays has its other watched literal true; one that moves is no longer in the list
+-- a clause that stays has its other watched literal true, and the next number is that of its link;
+-- one that moves is no longer in the list
 pub record IsVisit
     (cells new_cells : List Cell) (heads new_heads : List ℕ) (entries : List Entry)
     (level : ℕ) (at : Cursor) (visit : Visit) : Type 0 where
-  pub stays : visit ≡ Stays → (new_cells ≡ cells) × (new_heads ≡ heads)
+  pub stays : (next : ℕ) → visit ≡ Stays next → (new_cells ≡ cells) × (new_heads ≡ heads)
+      × HasLink (cell_of cells at.number) at.lit next
       × ((turn : Cell) → IsTurn (cell_of cells at.number) turn → turn.one.lit ≡ at.lit →
       IsTrueBy entries level turn.other.lit)
   pub moves : (next : ℕ) → visit ≡ Moves next →

@@ -1,9 +1,8 @@
 -- The walk goes over the clauses that watch the literal, one after the other.
 use Rattle.std.proofs.Common.{◌≤◌, ◌<◌, sym, subst, arith, ◌∙◌, rules}
 use Rattle.clause_core.specs.declared.literal.Lit.{Lit}
-use Rattle.sat_trail.proofs.CellLemmas.{link-turn}
 use Rattle.sat_trail.proofs.GrowthLemmas.{Extends-more}
-use Rattle.sat_trail.proofs.WalkLemmas.{walking-start, walking-visits, walking-linked, walking-ended, walking-passed, false-extends, stayed-member, walking-stayed, walking-failed, walking-moved}
+use Rattle.sat_trail.proofs.WalkLemmas.{walking-start, walking-visits, walking-linked, walking-ended, walking-passed, false-extends, walking-stayed, walking-failed, walking-moved}
 use Rattle.sat_trail.proofs.propagation.propagate_entry.Goals as goal
 use Rattle.sat_trail.proofs.propagation.propagate_entry.Goals.{in-Stays, in-Moves}
 
@@ -31,12 +30,6 @@ visit_clause-requires c = rw c.new-at.ensures
     (record { entry = c.at.result; there = c.at.ensures.entry; fails = sym (c.of-lit.ensures ∙ c.negation.ensures.exact) }))
     (subst (λ (k : Lit). (0 < k.var) × (k.var ≤ c.args.set.now.vars)) (sym (c.of-lit.ensures ∙ c.negation.ensures.exact)) (c.at.ensures.from_one, c.at.ensures.exists)))
 
-pub watches-number-requires-clause-within : goal.watches-number-requires-clause-within
-watches-number-requires-clause-within c = (stayed-member _ _ _ c.visit_clause.new.set _ _ _ _ _ _ _ _ _ _ c.loop-passed.invariant.walking c.if-number-eq0.false (rw c.new-at.ensures at c.in-Stays.ensures.visit)).0
-
-pub watches-number-requires-clause-there : goal.watches-number-requires-clause-there
-watches-number-requires-clause-there c = (stayed-member _ _ _ c.visit_clause.new.set _ _ _ _ _ _ _ _ _ _ c.loop-passed.invariant.walking c.if-number-eq0.false (rw c.new-at.ensures at c.in-Stays.ensures.visit)).1
-
 pub returns-in-Fails-clause-extends : goal.returns-in-Fails-clause-extends
 returns-in-Fails-clause-extends c = Extends-more _ _ _ c.loop-passed.set _ c.loop-passed.invariant.walking.runs.extends c.visit_clause.ensures.extends
 
@@ -46,8 +39,7 @@ returns-in-Fails-clause-linked c = walking-failed _ _ _ c.visit_clause.new.set _
 pub loop-passed-preserved : goal.loop-passed-preserved
 loop-passed-preserved c = record {
   walking = elim c.match-visit_clause.branch [
-    | in-Stays w ↦ rw (w.before-is, w.number-is) (walking-stayed _ _ _ c.visit_clause.new.set _ _ _ _ _ _ _ _ _ _ _ c.loop-passed.invariant.walking c.if-number-eq0.false c.visit_clause.ensures.extends (rw c.new-at.ensures at c.visit_clause.ensures.watched) (rw c.new-at.ensures at w.in-Stays.ensures.visit)
-        (link-turn _ w.watches-number.result _ w.watches-number.ensures.turns w.watches-number.ensures.here))
+    | in-Stays w ↦ rw (w.before-is, w.number-is) (walking-stayed _ _ _ c.visit_clause.new.set _ _ _ _ _ _ _ _ _ _ _ c.loop-passed.invariant.walking c.if-number-eq0.false c.visit_clause.ensures.extends (rw c.new-at.ensures at c.visit_clause.ensures.watched) (rw c.new-at.ensures at w.in-Stays.ensures.visit))
     | in-Moves w ↦ rw (w.before-is, w.number-is) (walking-moved _ _ _ c.visit_clause.new.set _ _ _ _ _ _ _ _ _ _ _ c.loop-passed.invariant.walking c.if-number-eq0.false c.visit_clause.ensures.extends (rw c.new-at.ensures at c.visit_clause.ensures.watched) (rw c.new-at.ensures at c.visit_clause.ensures.linked) (rw c.new-at.ensures at w.in-Moves.ensures.visit))
   ];
   cells = c.visit_clause.ensures.linked.cells_as_many ∙ c.loop-passed.invariant.cells;

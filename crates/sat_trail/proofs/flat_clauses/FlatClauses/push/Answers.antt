@@ -1,11 +1,8 @@
 -- The last span is that of the new clause.
 use Rattle.std.proofs.Common.{length, ap, ◌∙◌, arith}
-use Rattle.sat_trail.proofs.FlatLemmas.{clauses_at-push, length-packable}
+use Rattle.sat_trail.proofs.FlatLemmas.{clauses_at-push}
 use Rattle.sat_trail.proofs.flat_clauses.FlatClauses.push.Goals as goal
-
-pub overflow_cast-span : goal.overflow_cast-span
-overflow_cast-span c = omega (arith, ap length c.lits-lits.ensures.same, length-packable c.args.c.now c.lits-lits.ensures.ascending c.requires)
 
 pub returns-clause-ok : goal.returns-clause-ok
 returns-clause-ok c = rw (← c.self.view_is)
-    (clauses_at-push c.self.inside.lits.items _ c.lits-lits.result.now c.args.c.now c.self.inside.spans.items _ c.len-start.result (c.len-start.ensures ∙ c.self.inside.lits.ok.0) c.lits-lits.ensures.same c.in_ok-append.ensures.ok c.in_default.ensures.items c.self.invariant)
+    (clauses_at-push c.self.inside.lits.items _ c.lits-lits.result.now c.args.c.now c.self.inside.spans.items _ c.len-start.result c.saturating_add-end.result (c.len-start.ensures ∙ c.self.inside.lits.ok.0) (omega (arith, c.saturating_add-end.ensures)) c.lits-lits.ensures.same c.in_ok-append.ensures.ok c.in_default.ensures.items c.self.invariant)

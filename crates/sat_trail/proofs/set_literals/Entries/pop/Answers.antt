@@ -7,4 +7,5 @@ use Rattle.sat_trail.proofs.set_literals.Entries.pop.Goals as goal
 pub invariant_of-self : goal.invariant_of-self
 invariant_of-self c =
     let some = rw (← c.self.view_is) at c.requires in
-    IsStored-pop _ _ _ _ _ c.self.invariant (omega (arith, length-take-le c.self.inside.len c.self.inside.slots.items c.self.invariant.filled, some)) c.index-last.ensures
+    rw (c.rank.ensures, c.rank-2.ensures, c.of.ensures, c.of-2.ensures, c.negation.ensures.exact)
+    (IsStored-pop _ _ _ _ _ c.self.invariant (omega (arith, length-take-le c.self.inside.len c.self.inside.slots.items c.self.invariant.filled, some)) c.index-last.ensures)

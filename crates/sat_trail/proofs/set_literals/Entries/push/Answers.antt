@@ -12,7 +12,8 @@ index_mut-requires c =
 
 pub invariant_of-self : goal.invariant_of-self
 invariant_of-self c =
-    IsStored-push _ _ _ _ _ _ c.self.invariant c.requires.from_one (rw (← c.self.view_is) at c.requires.exists) (rw (← c.self.view_is) at c.requires.no_value) c.value_of.ensures
+    rw (c.rank.ensures, c.rank-2.ensures, c.of.ensures, c.of-2.ensures, c.negation.ensures.exact)
+    (IsStored-push _ _ _ _ _ c.self.invariant c.requires.from_one (rw (← c.self.view_is) at c.requires.exists) (rw (← c.self.view_is) at c.requires.no_value))
 
 pub returns : goal.returns
 returns c = rw (← c.self.view_is)
