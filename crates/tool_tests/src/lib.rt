@@ -2,11 +2,9 @@
 #![tactic(auto)]
 
 #[cfg(test)]
-mod argument_tests;
-#[cfg(test)]
 mod call_tests;
 #[cfg(test)]
-mod option_tests;
+mod command_line_tests;
 #[cfg(test)]
 mod program_args_tests;
 #[cfg(test)]
