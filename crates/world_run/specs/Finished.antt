@@ -12,8 +12,8 @@ use Rattle.stamped_history.specs.Laws.{IsRunOf}
 use Rattle.stamped_history.specs.Merged.{IsMerged}
 use Rattle.world_run.specs.World.{AreKept, histories_of}
 
--- the run is a legal one of the desks' histories, the agents play it by the job's rules, and nothing
--- is left to do in it
+-- the run is a legal one of the desks' histories, the agents play it by the job's rules, and
+-- nothing is left to do in it
 pub record IsPlayedOut (job : Job) (desks : List DeskState) (run : List Event) : Type 0 where
   pub run_is : IsRunOf job.protocol (histories_of desks) run
   pub played : Played job.protocol (rules_of job) run

@@ -12,8 +12,8 @@ use Rattle.stamped_history.specs.Laws.{IsRunOf}
 use Rattle.stamped_history.specs.Merged.{IsMerged}
 use Rattle.world_run.specs.World.{AreKept, histories_of}
 
--- the histories are local and merge into a legal run that the agents play by the job's rules; it has
--- as many events as the histories have entries
+-- the histories are local and merge into a legal run that the agents play by the job's rules; it
+-- has as many events as the histories have entries
 pub record MergePlayed (job : Job) (desks : List DeskState) : Type 0 where
   pub local : AreLocal job.protocol (histories_of desks)
   pub run : List Event

@@ -1,4 +1,5 @@
--- A world has a desk for each role: its histories, the run and the table of them, and when it is settled.
+-- A world has a desk for each role: its histories, the run and the table of them, and when it is
+-- settled.
 pub mod World
 pub mod Finished
 pub mod Laws

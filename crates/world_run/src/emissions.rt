@@ -10,8 +10,8 @@ use agent_scripts::Job;
 use bspl_types::{Envelope, Event, Stamped};
 use reorder_net::copies;
 
-/// The envelope that is owed for the role's event at the index: it is an emission that the plan does
-/// not lose and that its receiver has not received.
+/// The envelope that is owed for the role's event at the index: it is an emission that the plan
+/// does not lose and that its receiver has not received.
 pub fn owed_envelope(desks: &DeskList, job: &Job, role: usize, index: u32) -> Option<Envelope>
     requires sound { AreSound job.now desks.now }
     requires role { role < length desks.now }

@@ -14,7 +14,8 @@ use list_base::NoMemory;
 use reorder_net::Inbox;
 use std::alloc::Global;
 
-/// Makes each inbox anew: it holds an envelope for each emission that is not lost and has no receipt.
+/// Makes each inbox anew: it holds an envelope for each emission that is not lost and has no
+/// receipt.
 pub fn renew_inboxes(alloc: Global, job: &Job, desks: &mut DeskList) -> Result<(), NoMemory>
     requires kept { AreKept job.now desks.old }
     requires explained { AreExplained job.now.protocol (histories_of desks.old) }

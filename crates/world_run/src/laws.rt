@@ -5,8 +5,8 @@ use agent_scripts::{Job, scripts_fit};
 use played_runs::{histories_play, histories_settle};
 use stamped_history::{histories_merge, local_stamps_rise};
 
-/// A law: kept desks whose receipts are all explained have local histories, which merge into a legal
-/// run that the agents play.
+/// A law: kept desks whose receipts are all explained have local histories, which merge into a
+/// legal run that the agents play.
 pub fn kept_desks_merge()
     ensures { KeptDesksMerge }
 {

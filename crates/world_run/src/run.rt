@@ -27,8 +27,9 @@ pub fn run_one(alloc: Global, job: &Job) -> Result<World, NoMemory>
     Ok(world)
 }
 
-/// Delivers what is owed and lets the agents act until nothing is left. The inboxes are made anew, in
-/// their old room, so what they held before does not matter. Out of memory leaves longer histories.
+/// Delivers what is owed and lets the agents act until nothing is left. The inboxes are made anew,
+/// in their old room, so what they held before does not matter. Out of memory leaves longer
+/// histories.
 pub fn settle(alloc: Global, job: &Job, world: &mut World) -> Result<(), NoMemory>
     requires safe { SafeProtocol job.now.protocol }
     requires kept { AreKept job.now world.old.desks }

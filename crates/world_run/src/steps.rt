@@ -13,8 +13,8 @@ use list_base::NoMemory;
 use rand_pcg::Pcg32;
 use stamped_history::extended_stay_explained;
 
-/// The role's agent takes one envelope, which the generator picks, and then emits one message at the
-/// workload number. Answers whether it did anything.
+/// The role's agent takes one envelope, which the generator picks, and then emits one message at
+/// the workload number. Answers whether it did anything.
 pub fn turn(
     desks: &mut DeskList,
     job: &Job,

@@ -8,8 +8,8 @@ ghost use Rattle.world_run.specs.World.{AreDesksOf, HasHistories, histories_of};
 use super::world::World;
 use bspl_types::{Key, Value, equal_values_are_one};
 
-/// The value of the parameter that some store of the world has under the key, the lowest role's first.
-/// In a finished world of a safe protocol it is the one value that any store has.
+/// The value of the parameter that some store of the world has under the key, the lowest role's
+/// first. In a finished world of a safe protocol it is the one value that any store has.
 pub fn table(world: &World, key: &Key, param: u32) -> Option<Value>
     ensures { (x : Expanded) (run : List Event) → AreDesksOf x world.now.desks →
         AreLocal x (histories_of world.now.desks) → HasHistories x world.now.desks run →

@@ -5,8 +5,8 @@ use Rattle.agent_scripts.specs.Job.{Job}
 use Rattle.world_run.specs.inner.Underway.{AreWhole}
 use Rattle.world_run.specs.inner.Work.{work_left}
 
--- all that was emitted still arrives; if an agent acted, less is left to do, and if none did, nothing
--- changed
+-- all that was emitted still arrives; if an agent acted, less is left to do, and if none did,
+-- nothing changed
 pub record IsProgress (job : Job) (old : List DeskState) (acted : Bool) (new : List DeskState)
     : Type 0 where
   pub whole : AreWhole job new
