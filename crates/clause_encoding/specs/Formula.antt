@@ -1,5 +1,5 @@
--- The formulas of a protocol: in some enactment two rivals are both sent; some enactment has come to
--- rest and leaves a public parameter unbound.
+-- The formulas of a protocol: in some enactment two rivals are both sent; some enactment has come
+-- to rest and leaves a public parameter unbound.
 use Rattle.std.specs.Prelude.{◌≡◌, ◌+◌, ◌≤◌, List, [], ◌∷◌, ◌++◌, length}
 use Rattle.bspl_types.specs.declared.expanded.Expanded.{Expanded}
 use Rattle.clause_core.specs.declared.formula.Formula.{Formula}

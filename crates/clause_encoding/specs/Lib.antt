@@ -1,5 +1,5 @@
--- The variables come first, then what the clauses speak of, a definition for each family of clauses,
--- and the formula.
+-- The variables come first, then what the clauses speak of, a definition for each family of
+-- clauses, and the formula.
 pub mod Variables
 pub mod Carriers
 pub mod Families

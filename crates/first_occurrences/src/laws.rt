@@ -95,8 +95,8 @@ pub fn unsatisfiable_is_safe()
     no_conflict_agrees();
 }
 
-/// In a legal run a parameter is bound exactly if some message that adorns it `in` or `out` is sent:
-/// what is received was sent.
+/// In a legal run a parameter is bound exactly if some message that adorns it `in` or `out` is
+/// sent: what is received was sent.
 pub fn bound_exactly_if_sent()
     ensures { BoundExactlyIfSent }
 {

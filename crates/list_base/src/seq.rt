@@ -35,6 +35,15 @@ impl<T> Seq<T> {
         }
     }
 
+    /// A list without items, which takes memory for the first `room` of them.
+    pub fn with_room(alloc: Global, room: usize) -> Result<Seq<T>, NoMemory>
+        ensures { IfOk result (λ list. list ≡ []) }
+    {
+        Ok(Seq {
+            items: Vec::with_capacity(alloc, room)?,
+        })
+    }
+
     /// How many items there are.
     pub fn len(&self) -> usize
         ensures { result ≡ length self.now }

@@ -9,8 +9,8 @@ use std::rt::Env;
 /// The program's arguments without its name, or one empty argument if any is not UTF-8.
 ///
 /// No contract says which arguments these are: std's `Env` promises only that `arg` fills no more
-/// than the buffer that it is given, and `env::args` promises nothing. What is made of the list that
-/// `env::args` gives is the contract of `args_after_name`.
+/// than the buffer that it is given, and `env::args` promises nothing. What is made of the list
+/// that `env::args` gives is the contract of `args_after_name`.
 pub fn args_given<R: Env + AllocGlobal>(rt: &R) -> io::Result<Vec<String>> {
     args_after_name(rt.alloc(), all_args(rt))
 }
@@ -20,8 +20,8 @@ fn all_args<R: Env + AllocGlobal>(rt: &R) -> io::Result<Vec<String>> {
     env::args(rt)?.collect(rt.alloc()).map_err(io::Error::from)
 }
 
-/// Drops the program's name. If an argument is not UTF-8, one empty argument takes the place of all,
-/// which no program accepts. Any other error is passed on.
+/// Drops the program's name. If an argument is not UTF-8, one empty argument takes the place of
+/// all, which no program accepts. Any other error is passed on.
 pub fn args_after_name(alloc: Global, all: io::Result<Vec<String>>) -> io::Result<Vec<String>>
     ensures text { IfOk all
         (λ named. IsOkAnd result (λ args. args.items ≡ drop 1 named.items)) }

@@ -16,8 +16,8 @@ pub fn safety_fails_once()
     fails_once();
 }
 
-/// A law: for the liveness formula of a protocol a log is accepted or has one first failure, and not
-/// both.
+/// A law: for the liveness formula of a protocol a log is accepted or has one first failure, and
+/// not both.
 pub fn liveness_fails_once()
     ensures failure { LivenessFailsOnce }
     ensures accepted { AcceptedLivenessDoesNotFail }

@@ -11,8 +11,8 @@ use log_checker::{Reject, check_log};
 use refutation_log::Log;
 use std::alloc::Global;
 
-/// Checks a log, which anybody may have made, against the liveness formula of the protocol. If it is
-/// accepted, then at each key at which a legal run is quiet, what is public is bound.
+/// Checks a log, which anybody may have made, against the liveness formula of the protocol. If it
+/// is accepted, then at each key at which a legal run is quiet, what is public is bound.
 pub fn check_liveness(alloc: Global, a: &Admitted, log: &Log) -> Result<(), Reject>
     requires { length (liveness_clauses a.now) + length log.now.steps < 2 ^ 32 }
     ensures live { OnOk result (LiveProtocol a.now) }

@@ -9,8 +9,8 @@ use std::alloc::Global;
 use std::marker::Model;
 
 /// The envelopes that a role can take, in the order in which they came. Contracts see their list,
-/// and beside it a number of puts for which there is room. Each envelope stays in its slot, and what
-/// moves when one leaves is the order of the slots alone.
+/// and beside it a number of puts for which there is room. Each envelope stays in its slot, and
+/// what moves when one leaves is the order of the slots alone.
 #[derive(Drop)]
 pub struct Inbox {
     slots: Vec<Envelope>,

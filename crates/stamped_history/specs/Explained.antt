@@ -18,8 +18,8 @@ pub record AreLocal (x : Expanded) (histories : List (List Entry)) : Type 0 wher
   pub count : length histories ≡ length x.roles
   pub each : (role : ℕ) → role < length histories → IsLocal x role (history_at histories role)
 
--- the receipt's number is that of an emission of the instance in its sender's history, and its stamp
--- is one more than the greater of that emission's and the one before the receipt
+-- the receipt's number is that of an emission of the instance in its sender's history, and its
+-- stamp is one more than the greater of that emission's and the one before the receipt
 pub record IsExplained (x : Expanded) (histories : List (List Entry)) (before : List Entry)
     (i : Instance) (receipt : Entry) : Type 0 where
   pub emission : Entry

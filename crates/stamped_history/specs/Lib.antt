@@ -1,4 +1,5 @@
--- A role's stamped history, what explains its receipts, the run of all histories, and what holds of it.
+-- A role's stamped history, what explains its receipts, the run of all histories, and what holds of
+-- it.
 pub mod Entries
 pub mod Local
 pub mod Explained

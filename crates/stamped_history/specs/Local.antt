@@ -38,7 +38,8 @@ abbrev pub KnowsOneValue : Expanded → List Event → Type 0
 KnowsOneValue x events = (key : List Value) (p : ℕ) (v w : Value) →
     Knows x events key p v → Knows x events key p w → v ≡ w
 
--- a history of the role: its own events, each of which may follow, without two values of a parameter
+-- a history of the role: its own events, each of which may follow, without two values of a
+-- parameter
 pub record IsLocal (x : Expanded) (role : ℕ) (entries : List Entry) : Type 0 where
   pub fits : IsRun x (events_of entries)
   pub own : All (λ e. role_of x e ≡ role) (events_of entries)

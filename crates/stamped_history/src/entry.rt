@@ -7,7 +7,8 @@ pub struct Entry {
     pub event: Event,
     /// The role's logical clock after the event (Lamport 1978).
     pub stamp: u64,
-    /// Of an emission its own index in the history, of a receipt the index of its emission in the sender's.
+    /// Of an emission its own index in the history, of a receipt the index of its emission in the
+    /// sender's.
     pub number: u32,
 }
 

@@ -2,8 +2,9 @@ ghost use Rattle.stamped_history.specs.Extended.{EmissionKeepsExplained, Receipt
 ghost use Rattle.stamped_history.specs.Laws.{HistoriesMerge, LocalStampsRise};
 ghost use Rattle.stamped_history.specs.Laws.{MergedRunsAreOne, StoresAgree};
 
-/// Local histories whose receipts are all explained merge into a legal run, in which each role has its own
-/// history (Lamport 1978: an order by logical clocks extends the order of cause and effect).
+/// Local histories whose receipts are all explained merge into a legal run, in which each role has
+/// its own history (Lamport 1978: an order by logical clocks extends the order of cause and
+/// effect).
 pub fn histories_merge()
     ensures { HistoriesMerge }
 {}

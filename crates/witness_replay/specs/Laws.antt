@@ -1,5 +1,5 @@
--- A model of the safety formula refutes safety, and each legal run with a conflict gives a model; and
--- so for liveness, and the runs that have come to rest with a public parameter unbound.
+-- A model of the safety formula refutes safety, and each legal run with a conflict gives a model;
+-- and so for liveness, and the runs that have come to rest with a public parameter unbound.
 use Rattle.std.specs.Prelude.{ℕ, Bool, List}
 use Rattle.bspl_types.specs.declared.event.Event.{Event}
 use Rattle.bspl_types.specs.declared.expanded.Expanded.{Expanded}
@@ -61,8 +61,8 @@ ModelIsNotLive =
     (x : Expanded) (v : ℕ → Bool) → IsAdmitted x → SatisfiesAll v (liveness_clauses x) →
     ¬ LiveProtocol x
 
--- each legal run that is quiet at a key and leaves a public parameter unbound there gives a model of
--- the liveness clauses
+-- each legal run that is quiet at a key and leaves a public parameter unbound there gives a model
+-- of the liveness clauses
 abbrev pub UnboundHasModel : Type 0
 UnboundHasModel =
     (x : Expanded) (run : List Event) (key : List Value) (p : ℕ) → IsLegalRun x run →

@@ -29,7 +29,8 @@ pub fn conflict_has_model()
 }
 
 /// An assignment that satisfies the liveness clauses of an admitted protocol gives a legal run that
-/// has come to rest with a public parameter unbound, so the protocol is not live (after Singh 2012).
+/// has come to rest with a public parameter unbound, so the protocol is not live (after Singh
+/// 2012).
 pub fn model_is_not_live()
     ensures rests { ModelRests }
     ensures not_live { ModelIsNotLive }
