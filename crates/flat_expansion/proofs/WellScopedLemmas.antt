@@ -89,7 +89,3 @@ few_roles d roles ready is = omega (arith, ap length is, length-map d.roles (λ 
 -- its parameters are few
 pub few_params : (d : Declaration) (params : List ParamInfo) → IsWellScoped d → params ≡ params_of d → length params < 2 ^ 32
 few_params d params ready is = omega (arith, ap length is, length-map (params_of d) (λ (p : ParamInfo). p.name), ap length (param_texts d.public d.private), length-map (param_words d) (λ (w : Word). w.text), ready.within.few_params)
-
--- so are the public ones
-pub few_public : (d : Declaration) → IsWellScoped d → length d.public < 2 ^ 32
-few_public d ready = omega (arith, length-map d.public (λ (f : Formal). f.name), length-append (map (λ (f : Formal). f.name) d.public) d.private, ready.within.few_params)

@@ -1,6 +1,5 @@
 -- The definitions that the contracts cite, in reading order: the protocol of a name, its expansion,
--- why there is none, its text,
--- and the laws.
+-- why there is none, its text, and the laws.
 pub mod Request
 pub mod Expansion
 pub mod Repeats

@@ -44,8 +44,7 @@ fn refusal_of(fault: DocumentFault) -> Refusal
 }
 
 /// Why a document without fault expands or does not. Documents of more than 2^32 protocols are out
-/// of
-/// memory: their protocols have no numbers.
+/// of memory: their protocols have no numbers.
 fn expand_faultless(alloc: Global, document: &Document, name: &[u8]) -> Result<Expanded, Refusal>
     requires formed { IsDocument document.now }
     requires faultless { HasNoFault document.now }

@@ -16,8 +16,7 @@ use reference_graph::{WalkResult, orders_have_no_cycle, walk, weights_add_up};
 use std::alloc::Global;
 
 /// Whether the protocol of that number may be expanded: the first cycle of its references, the
-/// first
-/// count over its limit, or what an expansion may go by.
+/// first count over its limit, or what an expansion may go by.
 pub fn survey(alloc: Global, directory: &ProtocolTable, top: u32) -> Result<Survey, NoMemory>
     requires declared { top < length directory.now.protocols.now }
     requires few { length directory.now.protocols.now < 2 ^ 32 }
