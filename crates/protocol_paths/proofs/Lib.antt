@@ -5,6 +5,7 @@ pub mod EmptyBelow
 pub mod EntryLemmas
 pub mod FlatLemmas
 pub mod Numbered
+pub mod OwnWordLemmas
 pub mod Pieces
 pub mod PlainLemmas
 pub mod PositionLemmas

@@ -2,4 +2,5 @@
 pub mod AddsEach
 pub mod Tables
 pub mod Links
+pub mod OwnWords
 pub mod ScopeOf

@@ -16,6 +16,18 @@ pub(crate) fn copied_word<'d>(word: &'d Word<'d>) -> Word<'d>
     }
 }
 
+/// A copy of the word, which shares its text.
+pub(crate) fn shared_word<'d>(word: &Word<'d>) -> Result<Word<'d>, NoMemory>
+    ensures { IfOk result (λ w. w ≡ word.now) }
+{
+    // law: words of one text and one offset are equal
+    equal_words();
+    Ok(Word {
+        text: word.text.share()?,
+        offset: word.offset,
+    })
+}
+
 /// Copies of the words.
 pub(crate) fn copied_words<'d>(
     alloc: Global,

@@ -13,7 +13,7 @@ use std::alloc::Global;
 /// The image of the message in the flat protocol.
 pub(crate) fn image_of<'d>(
     alloc: Global,
-    scope: &Scope<'d, '_>,
+    scope: &Scope<'d, '_, '_>,
     schema: &'d Schema<'d>,
 ) -> Result<Schema<'d>, NoMemory>
     ensures { IfOk result (IsImage (scope_of scope.now) schema.now) }
@@ -30,22 +30,21 @@ pub(crate) fn image_of<'d>(
 /// The images of a message's parameters.
 fn image_formals<'d>(
     alloc: Global,
-    scope: &Scope<'d, '_>,
+    scope: &Scope<'d, '_, '_>,
     formals: &'d [Formal<'d>],
 ) -> Result<FormalList<'d>, NoMemory>
     ensures { IfOk result (AllZip (IsImageFormal (scope_of scope.now)) formals.now) }
 {
     let mut images = Seq::new(alloc);
     for formal in formals {
-        images.push(image_formal(alloc, scope, formal)?)?;
+        images.push(image_formal(scope, formal)?)?;
     }
     Ok(images)
 }
 
 /// The image of one parameter.
 fn image_formal<'d>(
-    alloc: Global,
-    scope: &Scope<'d, '_>,
+    scope: &Scope<'d, '_, '_>,
     formal: &'d Formal<'d>,
 ) -> Result<Formal<'d>, NoMemory>
     ensures { IfOk result (IsImageFormal (scope_of scope.now) formal.now) }
@@ -53,7 +52,7 @@ fn image_formal<'d>(
     Ok(Formal {
         adorn: formal.adorn,
         offset: formal.offset,
-        name: param_word(alloc, scope, &formal.name)?,
+        name: param_word(scope, &formal.name)?,
         key: None,
     })
 }

@@ -10,6 +10,7 @@ mod laws;
 mod link;
 mod messages;
 mod name_tables;
+mod own_words;
 mod prefix;
 mod privates;
 mod scope;

@@ -2,9 +2,9 @@ ghost use Rattle.std.specs.Prelude.{◌<◌};
 ghost use Rattle.protocol_paths.specs.inner.Tables.{AreTablesOf};
 
 use super::name_tables::NameTables;
-use bspl_parser::{Declaration, Reference};
+use bspl_parser::{Declaration, Reference, Word};
 
-/// One reference of a path.
+/// A reference of a body, and where it leads.
 #[derive(Clone, Copy)]
 pub(crate) struct Link<'d, 'a> {
     /// Its position in the body, counted from 1.
@@ -17,4 +17,14 @@ pub(crate) struct Link<'d, 'a> {
     pub names: &'a NameTables<'d>,
     pub ghost counted: { 0 < position },
     pub ghost declared: { AreTablesOf target.now names.now },
+}
+
+/// One reference of a path.
+#[derive(Clone, Copy)]
+pub(crate) struct PathLink<'d, 'a, 'o> {
+    /// The reference, and where it leads.
+    pub link: Link<'d, 'a>,
+    /// The private parameters of the protocol there, under the prefix of the path up to it. They
+    /// are made once for the link, and what uses them shares their texts.
+    pub own: &'o [Word<'d>],
 }

@@ -7,6 +7,7 @@ ghost use Rattle.protocol_paths.specs.inner.ScopeOf.{HasTables, protocols_of, sc
 use super::context::{Context, kept_link};
 use super::descent::next_scope;
 use super::image::image_of;
+use super::own_words::link_words;
 use super::scope::Scope;
 use bspl_parser::Item;
 use bspl_types::NoMemory;
@@ -17,7 +18,7 @@ use protocol_names::SchemaList;
 pub(crate) fn add_messages<'d, 'a>(
     context: &Context<'d, '_, 'a>,
     limit: usize,
-    scope: &Scope<'d, 'a>,
+    scope: &Scope<'d, 'a, '_>,
     messages: &mut SchemaList<'d>,
 ) -> Result<(), NoMemory>
     requires within { limit ≤ length (protocols_of context.now) }
@@ -39,7 +40,7 @@ pub(crate) fn add_messages<'d, 'a>(
 fn add_item<'d, 'a>(
     context: &Context<'d, '_, 'a>,
     limit: usize,
-    scope: &Scope<'d, 'a>,
+    scope: &Scope<'d, 'a, '_>,
     position: usize,
     item: &'d Item<'d>,
     messages: &mut SchemaList<'d>,
@@ -62,7 +63,9 @@ fn add_item<'d, 'a>(
             let Some(link) = kept_link(context, flags, position, reference) else {
                 return Ok(());
             };
-            let next = next_scope(context.alloc, scope, &link)?;
+            let own = link_words(context.alloc, scope, &link)?;
+            // the scope is lent again, for as long as the words live
+            let next = next_scope(context.alloc, &*scope, &link, own.as_slice())?;
             add_messages(context, limit - 1, &next, messages)
         }
     }

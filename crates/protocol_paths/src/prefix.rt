@@ -1,12 +1,13 @@
 ghost use Rattle.std.specs.Prelude.{◌≡◌, ◌<◌, ◌++◌, [], IfOk};
 ghost use Rattle.bspl_parser.specs.declared.document.Declaration.{Declaration as SpecDeclaration};
 ghost use Rattle.protocol_paths.specs.Prefix.{IsPrefix, numbered_name};
+ghost use Rattle.protocol_paths.specs.Scope.{prefix_after};
 ghost use Rattle.protocol_paths.specs.Substituted.{IsSubstituted};
-ghost use Rattle.protocol_paths.specs.inner.Links.{scope_along};
+ghost use Rattle.protocol_paths.specs.inner.Links.{scope_along, step_of};
 ghost use Rattle.protocol_paths.specs.inner.ScopeOf.{scope_of};
 
 use super::copies::copied_word;
-use super::link::Link;
+use super::link::{Link, PathLink};
 use super::scope::Scope;
 use bspl_parser::{Text, Word};
 use bspl_types::{Bytes, NoMemory, Seq};
@@ -49,7 +50,8 @@ impl Prefix {
     pub fn word<'d>(&self, alloc: Global, word: &'d Word<'d>) -> Result<Word<'d>, NoMemory>
         ensures { IfOk result (IsSubstituted (self.now.text ++ word.now.text) word.now) }
     {
-        self.copied(alloc)?.into_word(alloc, word)
+        let prefix = self.copied(alloc, word.text.as_slice().len())?;
+        prefix.into_word(alloc, word)
     }
 
     /// The word with the prefix, in the prefix's memory if it has some.
@@ -67,13 +69,14 @@ impl Prefix {
         })
     }
 
-    /// A prefix of the same bytes.
-    fn copied(&self, alloc: Global) -> Result<Prefix, NoMemory>
+    /// A prefix of the same bytes, which has memory for a name of the length after it.
+    fn copied(&self, alloc: Global, length: usize) -> Result<Prefix, NoMemory>
         ensures { IfOk result (λ p. p.text ≡ self.now.text) }
     {
-        Ok(Prefix {
-            text: Seq::from_slice(alloc, self.text.as_slice())?,
-        })
+        let room = self.text.len().saturating_add(length);
+        let mut text = Seq::with_room(alloc, room)?;
+        text.append(self.text.as_slice())?;
+        Ok(Prefix { text })
     }
 }
 
@@ -84,14 +87,23 @@ pub(crate) fn prefix_of(alloc: Global, scope: &Scope) -> Result<Prefix, NoMemory
     prefix_along(alloc, scope.links.as_slice())
 }
 
+/// The prefix of the scope after the link.
+pub(crate) fn next_prefix(alloc: Global, scope: &Scope, link: &Link) -> Result<Prefix, NoMemory>
+    ensures { IfOk result (λ p.
+        p.text ≡ prefix_after (scope_of scope.now) (step_of link.now)) }
+{
+    let prefix = prefix_of(alloc, scope)?;
+    prefix.longer(alloc, &link.target.name, link.position)
+}
+
 /// The prefix at the end of the links.
-pub(crate) fn prefix_along(alloc: Global, links: &[Link]) -> Result<Prefix, NoMemory>
+fn prefix_along(alloc: Global, links: &[PathLink]) -> Result<Prefix, NoMemory>
     ensures { (top : SpecDeclaration) →
         IfOk result (λ p. p.text ≡ (scope_along top links.now).prefix) }
 {
     let mut prefix = Prefix::none(alloc);
-    for link in links {
-        prefix = prefix.longer(alloc, &link.target.name, link.position)?;
+    for step in links {
+        prefix = prefix.longer(alloc, &step.link.target.name, step.link.position)?;
     }
     Ok(prefix)
 }

@@ -1,23 +1,23 @@
 ghost use Rattle.std.specs.Prelude.{◌≡◌, ◌<◌, ◌≤◌, ◌++◌, length, map, OnOk};
-ghost use Rattle.protocol_paths.specs.Flat.{entry, private_entries};
+ghost use Rattle.protocol_paths.specs.Flat.{entry, private_entries, privates_at};
 ghost use Rattle.protocol_paths.specs.Skippable.{AreSkippable};
 ghost use Rattle.protocol_paths.specs.inner.AddsEach.{entries_after};
 ghost use Rattle.protocol_paths.specs.inner.ScopeOf.{HasTables, protocols_of, scope_of};
 
 use super::context::{Context, kept_link};
+use super::copies::shared_word;
 use super::descent::next_scope;
-use super::prefix::{Prefix, prefix_of};
+use super::own_words::{link_words, scope_words};
 use super::scope::Scope;
-use bspl_parser::{Item, Word, WordList};
+use bspl_parser::{Item, WordList};
 use bspl_types::NoMemory;
-use std::alloc::Global;
 
 /// Adds the private parameters at the ends of the paths of at most `limit` references.
 #[cycle(privates)]
 pub(crate) fn add_privates<'d, 'a>(
     context: &Context<'d, '_, 'a>,
     limit: usize,
-    scope: &Scope<'d, 'a>,
+    scope: &Scope<'d, 'a, '_>,
     private: &mut WordList<'d>,
 ) -> Result<(), NoMemory>
     requires within { limit ≤ length (protocols_of context.now) }
@@ -26,13 +26,7 @@ pub(crate) fn add_privates<'d, 'a>(
     ensures { OnOk result (map entry private.new ≡ map entry private.old
         ++ private_entries limit (protocols_of context.now) (scope_of scope.now)) }
 {
-    let prefix = prefix_of(context.alloc, scope)?;
-    add_own(
-        context.alloc,
-        &prefix,
-        scope.protocol.private.as_slice(),
-        private,
-    )?;
+    add_own(scope, private)?;
     if limit == 0 {
         return Ok(());
     }
@@ -48,7 +42,7 @@ pub(crate) fn add_privates<'d, 'a>(
 fn add_after<'d, 'a>(
     context: &Context<'d, '_, 'a>,
     limit: usize,
-    scope: &Scope<'d, 'a>,
+    scope: &Scope<'d, 'a, '_>,
     position: usize,
     item: &'d Item<'d>,
     private: &mut WordList<'d>,
@@ -68,22 +62,20 @@ fn add_after<'d, 'a>(
     let Some(link) = kept_link(context, flags, position, reference) else {
         return Ok(());
     };
-    let next = next_scope(context.alloc, scope, &link)?;
+    let own = link_words(context.alloc, scope, &link)?;
+    // the scope is lent again, for as long as the words live
+    let next = next_scope(context.alloc, &*scope, &link, own.as_slice())?;
     add_privates(context, limit, &next, private)
 }
 
-/// Adds the private parameters of one protocol.
-fn add_own<'d>(
-    alloc: Global,
-    prefix: &Prefix,
-    own: &'d [Word<'d>],
-    private: &mut WordList<'d>,
-) -> Result<(), NoMemory>
+/// Adds the private parameters of the scope's protocol.
+fn add_own<'d>(scope: &Scope<'d, '_, '_>, private: &mut WordList<'d>) -> Result<(), NoMemory>
     ensures { OnOk result (map entry private.new ≡ map entry private.old
-        ++ map (λ w. (prefix.now.text ++ w.text, w.offset)) own.now) }
+        ++ privates_at (scope_of scope.now)) }
 {
+    let own = scope_words(scope);
     for word in own {
-        private.push(prefix.word(alloc, word)?)?;
+        private.push(shared_word(word)?)?;
     }
     Ok(())
 }

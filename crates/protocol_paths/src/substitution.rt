@@ -3,18 +3,16 @@ ghost use Rattle.bspl_parser.specs.declared.document.Declaration.{Declaration as
 ghost use Rattle.protocol_paths.specs.Scope.{param_at, role_at};
 ghost use Rattle.protocol_paths.specs.Substituted.{IsSubstituted};
 ghost use Rattle.protocol_paths.specs.inner.Links.{scope_along};
+ghost use Rattle.protocol_paths.specs.inner.OwnWords.{HaveOwnWords};
 ghost use Rattle.protocol_paths.specs.inner.ScopeOf.{scope_of};
 
-use super::copies::copied_word;
-use super::link::Link;
-use super::prefix::prefix_along;
+use super::link::PathLink;
 use super::scope::Scope;
 use bspl_parser::{Text, Word};
 use bspl_types::NoMemory;
-use std::alloc::Global;
 
 /// The role's word, under the name that is substituted for it in the scope.
-pub(crate) fn role_word<'d>(scope: &Scope<'d, '_>, role: &'d Word<'d>) -> Word<'d>
+pub(crate) fn role_word<'d>(scope: &Scope<'d, '_, '_>, role: &'d Word<'d>) -> Word<'d>
     ensures { IsSubstituted (role_at (scope_of scope.now) role.now.text) role.now result }
 {
     let given = given_role(scope.links.as_slice(), role);
@@ -25,59 +23,55 @@ pub(crate) fn role_word<'d>(scope: &Scope<'d, '_>, role: &'d Word<'d>) -> Word<'
 }
 
 /// The word that the references of a path give for a role.
-fn given_role<'d>(links: &[Link<'d, '_>], role: &'d Word<'d>) -> &'d Word<'d>
+fn given_role<'d>(links: &[PathLink<'d, '_, '_>], role: &'d Word<'d>) -> &'d Word<'d>
     ensures { (top : SpecDeclaration) →
         result.now.text ≡ role_at (scope_along top links.now) role.now.text }
 {
-    let Some((link, outer)) = links.split_last() else {
+    let Some((last, outer)) = links.split_last() else {
         return role;
     };
-    let Some(index) = link.names.roles.index(role.text.as_slice()) else {
+    let Some(index) = last.link.names.roles.index(role.text.as_slice()) else {
         return role;
     };
-    match link.reference.roles.as_slice().get(index) {
+    match last.link.reference.roles.as_slice().get(index) {
         Some(given) => given_role(outer, given),
         None => role,
     }
 }
 
-/// The parameter's word, under the name that is substituted for it in the scope.
+/// The parameter's word, under the name that is substituted for it in the scope. It shares the text
+/// of that name.
 pub(crate) fn param_word<'d>(
-    alloc: Global,
-    scope: &Scope<'d, '_>,
+    scope: &Scope<'d, '_, '_>,
     param: &'d Word<'d>,
 ) -> Result<Word<'d>, NoMemory>
     ensures { IfOk result (IsSubstituted (param_at (scope_of scope.now) param.now.text) param.now) }
 {
-    let given = given_param(alloc, scope.links.as_slice(), param)?;
+    let given = given_param(scope.links.as_slice(), param);
     Ok(Word {
-        text: given.text,
+        text: given.text.share()?,
         offset: param.offset,
     })
 }
 
-/// The word that the references of a path give for a parameter. A private one has the prefix of
-/// the protocol that declares it.
-fn given_param<'d>(
-    alloc: Global,
-    links: &[Link<'d, '_>],
-    param: &'d Word<'d>,
-) -> Result<Word<'d>, NoMemory>
-    ensures { (top : SpecDeclaration) → IfOk result (λ w.
-        w.text ≡ param_at (scope_along top links.now) param.now.text) }
+/// The word that the references of a path give for a parameter. A private one is that of the link
+/// to the protocol that declares it, with its prefix.
+fn given_param<'d, 'o>(links: &[PathLink<'d, '_, 'o>], param: &'o Word<'d>) -> &'o Word<'d>
+    ensures { (top : SpecDeclaration) → HaveOwnWords top links.now →
+        result.now.text ≡ param_at (scope_along top links.now) param.now.text }
 {
-    let Some((link, outer)) = links.split_last() else {
-        return Ok(copied_word(param));
+    let Some((last, outer)) = links.split_last() else {
+        return param;
     };
-    let Some(index) = link.names.params.index(param.text.as_slice()) else {
-        return Ok(copied_word(param));
+    let Some(index) = last.link.names.params.index(param.text.as_slice()) else {
+        return param;
     };
-    let given = link.reference.params.as_slice();
+    let given = last.link.reference.params.as_slice();
     if let Some(formal) = given.get(index) {
-        return given_param(alloc, outer, &formal.name);
+        return given_param(outer, &formal.name);
     }
-    match link.target.private.as_slice().get(index - given.len()) {
-        Some(own) => prefix_along(alloc, links)?.into_word(alloc, own),
-        None => Ok(copied_word(param)),
-    }
+    let Some(own) = last.own.get(index - given.len()) else {
+        return param;
+    };
+    own
 }

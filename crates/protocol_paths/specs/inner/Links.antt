@@ -4,6 +4,7 @@ use Rattle.bspl_parser.specs.declared.document.Declaration.{Declaration}
 use Rattle.bspl_parser.specs.declared.document.Reference.{Reference as SpecReference}
 use Rattle.protocol_names.specs.Names.{protocol_of}
 use Rattle.protocol_paths.specs.declared.link.Link.{Link}
+use Rattle.protocol_paths.specs.declared.link.PathLink.{PathLink}
 use Rattle.protocol_paths.specs.Path.{Step}
 use Rattle.protocol_paths.specs.Scope.{Scope, scope_at, start}
 
@@ -15,9 +16,13 @@ step_of l = record {
   target = l.target.now;
 }
 
+-- the steps of the links
+abbrev pub path_of : List PathLink → List Step
+path_of links = map (λ l. step_of l.link) links
+
 -- the scope at the end of the links from a top protocol
-abbrev pub scope_along : Declaration → List Link → Scope
-scope_along top links = scope_at (start top) (map step_of links)
+abbrev pub scope_along : Declaration → List PathLink → Scope
+scope_along top links = scope_at (start top) (path_of links)
 
 -- the link is that of the reference at the position, and leads to the first protocol of its name
 pub record IsLinkBy (protocols : List Declaration) (position : ℕ) (r : SpecReference) (l : Link)

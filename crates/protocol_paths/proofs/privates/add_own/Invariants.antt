@@ -5,4 +5,4 @@ use Rattle.protocol_paths.proofs.privates.add_own.Given as goal
 
 -- the private parameters so far
 abbrev pub invariant-loop-word : goal.invariant-loop-word
-invariant-loop-word l = map entry l.private ≡ map entry l.fn.private ++ map (λ w. (l.prefix.text ++ w.text, w.offset)) (take l.word-index l.own)
+invariant-loop-word l = map entry l.private ≡ map entry l.fn.private ++ map entry (take l.word-index l.own)
