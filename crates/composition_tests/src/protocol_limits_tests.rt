@@ -5,90 +5,127 @@ use protocol_names::ProtocolTable;
 use std::alloc::Global;
 use std::test::Fail;
 
-/// Adds P and the number.
-fn add_name(alloc: Global, out: &mut Bytes, number: usize) -> Result<(), NoMemory> {
-    let digits = number.to_string(alloc)?;
-    out.append(b"P")?;
-    out.append(digits.as_bytes())
+/// Where a text comes from.
+#[derive(Clone, Copy)]
+enum Source {
+    /// Nine protocols, each with as many references to the next, and the last with the body.
+    Chain(usize, &'static [u8]),
+    /// A protocol with a private parameter and as many messages.
+    Many(u32),
+    /// The text as it is.
+    Text(&'static [u8]),
 }
 
-/// A protocol with `times` references to the one of the next number, and then the body.
-fn add_protocol(
+/// A protocol P, and another that leads to it.
+const OUTSIDE: Source = Source::Text(
+    b"T { role A parameter out ID key private p, q P(A, in ID) P(A, in ID) None(A, in ID) }
+P { role A parameters in ID key, out v private x, y }",
+);
+
+/// A protocol P that leads to one with messages.
+const MIDDLE: Source = Source::Text(
+    b"T { roles A, B parameters out ID key P(A, B, in ID) A -> B: l[in a] }
+P { roles A, B parameters in ID key Q(A, B, in ID) }
+Q { roles A, B parameters in ID key A -> B: s[in ID] A -> B: m[in y] }",
+);
+
+/// A text, the number of a protocol, and its survey, which is within the limits: the depth, and a
+/// mark for each protocol, first for messages and then for private parameters.
+const ROWS: &[(Source, u32, usize, &[u8], &[u8])] = &[
+    (
+        Source::Chain(1, b"A -> B: m[in ID] "),
+        0,
+        8,
+        b"111111111",
+        b"000000000",
+    ),
+    (Source::Chain(300, b""), 0, 8, b"000000000", b"000000000"),
+    (Source::Many(64), 0, 0, b"1", b"1"),
+    (OUTSIDE, 1, 0, b"10", b"11"),
+    (MIDDLE, 1, 1, b"111", b"100"),
+];
+
+/// Adds the number.
+fn add_number(alloc: Global, out: &mut Bytes, number: u32) -> Result<(), NoMemory> {
+    out.append(number.to_string(alloc)?.as_bytes())
+}
+
+/// Adds the head of the protocol of that number.
+fn add_head(alloc: Global, out: &mut Bytes, number: u32) -> Result<(), NoMemory> {
+    out.append(b" P")?;
+    add_number(alloc, out, number)?;
+    out.append(b" { roles A, B parameters out ID key ")
+}
+
+/// Adds `times` references to the protocol of that number.
+fn add_references(
     alloc: Global,
     out: &mut Bytes,
-    number: usize,
+    number: u32,
     times: usize,
-    body: &[u8],
 ) -> Result<(), NoMemory> {
-    add_name(alloc, out, number)?;
-    out.append(b" { roles A, B parameters out ID key ")?;
     for _time in 0..times {
-        add_name(alloc, out, number.saturating_add(1))?;
+        out.append(b"P")?;
+        add_number(alloc, out, number)?;
         out.append(b"(A, B, in ID) ")?;
-    }
-    out.append(body)?;
-    out.append(b"} ")
-}
-
-/// Protocols P1, P2 and so on, each with `times` references to the next, and the last with the
-/// body.
-fn chain(alloc: Global, count: usize, times: usize, body: &[u8]) -> Result<Bytes, NoMemory> {
-    let mut out = Seq::new(alloc);
-    for number in 1..count {
-        add_protocol(alloc, &mut out, number, times, b"")?;
-    }
-    add_protocol(alloc, &mut out, count, 0, body)?;
-    Ok(out)
-}
-
-/// The text `count` times, each time with a number after its first part.
-fn repeated(alloc: Global, count: usize, before: &[u8], after: &[u8]) -> Result<Bytes, NoMemory> {
-    let mut out = Seq::new(alloc);
-    for number in 0..count {
-        out.append(before)?;
-        out.append(number.to_string(alloc)?.as_bytes())?;
-        out.append(after)?;
-    }
-    Ok(out)
-}
-
-/// Three texts one after the other.
-fn joined(alloc: Global, one: &[u8], two: &[u8], three: &[u8]) -> Result<Bytes, NoMemory> {
-    let mut out = Seq::new(alloc);
-    out.append(one)?;
-    out.append(two)?;
-    out.append(three)?;
-    Ok(out)
-}
-
-/// Shows a mark as 1 or 0.
-fn show_marks(out: &mut Bytes, marks: &[bool]) -> Result<(), NoMemory> {
-    out.append(b" ")?;
-    for mark in marks {
-        out.append(if *mark { b"1" } else { b"0" })?;
     }
     Ok(())
 }
 
-/// The survey as a line.
-fn shown(alloc: Global, survey: &Survey) -> Result<Bytes, Fail> {
+/// The text of nine protocols.
+fn chain(alloc: Global, times: usize, body: &[u8]) -> Result<Bytes, NoMemory> {
     let mut out = Seq::new(alloc);
-    match survey {
-        Survey::Cycle(node) => out.append(format!(in alloc; "cycle {node}")?.as_bytes())?,
-        Survey::Over { what, count } => {
-            out.append(format!(in alloc; "{what:?} {count}")?.as_bytes())?;
-        }
+    for number in 1..9 {
+        add_head(alloc, &mut out, number)?;
+        add_references(alloc, &mut out, number.saturating_add(1), times)?;
+        out.append(b"}")?;
+    }
+    add_head(alloc, &mut out, 9)?;
+    out.append(body)?;
+    out.append(b"}")?;
+    Ok(out)
+}
+
+/// The text of a protocol with as many messages.
+fn many(alloc: Global, count: u32) -> Result<Bytes, NoMemory> {
+    let mut out = Seq::new(alloc);
+    out.append(b"Many { roles A, B parameters out ID key private x")?;
+    for number in 0..count {
+        out.append(b" A -> B: m")?;
+        add_number(alloc, &mut out, number)?;
+        out.append(b"[in ID]")?;
+    }
+    out.append(b"}")?;
+    Ok(out)
+}
+
+/// The text.
+fn text_of(alloc: Global, source: Source) -> Result<Bytes, NoMemory> {
+    match source {
+        Source::Chain(times, body) => chain(alloc, times, body),
+        Source::Many(count) => many(alloc, count),
+        Source::Text(text) => Seq::from_slice(alloc, text),
+    }
+}
+
+/// Whether the marks are these, `1` for yes.
+fn are_marks(marks: &[bool], wanted: &[u8]) -> bool {
+    let mut pairs = marks.iter().zip(wanted);
+    marks.len() == wanted.len() && pairs.all(|(mark, byte)| *mark == (*byte == b'1'))
+}
+
+/// Whether the survey is within the limits, with that depth and those marks.
+fn is_within(found: &Survey, steps: usize, messages: &[u8], privates: &[u8]) -> bool {
+    match found {
         Survey::Within {
             depth,
-            messages,
-            privates,
-        } => {
-            out.append(format!(in alloc; "within {depth}")?.as_bytes())?;
-            show_marks(&mut out, messages.as_slice())?;
-            show_marks(&mut out, privates.as_slice())?;
-        }
+            messages: m,
+            privates: p,
+        } => *depth == steps
+            && are_marks(m.as_slice(), messages)
+            && are_marks(p.as_slice(), privates),
+        Survey::Cycle(_) | Survey::Over { .. } => false,
     }
-    Ok(out)
 }
 
 /// The survey of the protocol of that number, if there is one.
@@ -101,52 +138,18 @@ fn survey_at(alloc: Global, document: &Document, top: u32) -> Result<Option<Surv
     Ok(Some(survey(alloc, &table, top)?))
 }
 
-/// What a survey of the protocol of that number comes to.
-fn of_number(alloc: Global, text: &[u8], top: u32) -> Result<Bytes, Fail> {
+/// The survey of the protocol of that number of the text.
+fn survey_of(alloc: Global, text: &[u8], top: u32) -> Result<Survey, Fail> {
     let document = parse(alloc, text).ok().ok_or("this is a text")?;
-    let found = survey_at(alloc, &document, top)?.ok_or("there is a protocol")?;
-    shown(alloc, &found)
-}
-
-/// What a survey of the first protocol comes to.
-fn of_text(alloc: Global, text: &[u8]) -> Result<Bytes, Fail> {
-    of_number(alloc, text, 0)
+    Ok(survey_at(alloc, &document, top)?.ok_or("there is a protocol")?)
 }
 
 #[test]
 fn a_survey_within_the_limits_has_its_marks(rt: HostRuntime) -> Result<(), Fail> {
-    let alloc = rt.alloc();
-    let eight = chain(alloc, 9, 1, b"A -> B: m[in ID] ")?;
-    assert_eq!(rt;
-        of_text(alloc, eight.as_slice())?.as_slice(),
-        b"within 8 111111111 000000000".as_slice()
-    );
-    let none = chain(alloc, 9, 300, b"")?;
-    assert_eq!(rt;
-        of_text(alloc, none.as_slice())?.as_slice(),
-        b"within 8 000000000 000000000".as_slice()
-    );
-    let head = b"Many { roles A, B parameters out ID key private x ".as_slice();
-    let full = repeated(alloc, 64, b"A -> B: m", b"[in ID] ")?;
-    let text = joined(alloc, head, full.as_slice(), b"}")?;
-    assert_eq!(rt;
-        of_text(alloc, text.as_slice())?.as_slice(),
-        b"within 0 1 1".as_slice()
-    );
-    let uses = b"T { role A parameter out ID key private p, q P(A, in ID) P(A, in ID) \
-        None(A, in ID) } P { role A parameters in ID key, out v private x, y } "
-        .as_slice();
-    assert_eq!(rt;
-        of_number(alloc, uses, 1)?.as_slice(),
-        b"within 0 10 11".as_slice()
-    );
-    let head = b"T { roles A, B parameters out ID key P(A, B, in ID) A -> B: l[in a] } \
-        P { roles A, B parameters in ID key Q(A, B, in ID) } \
-        Q { roles A, B parameters in ID key A -> B: s[in ID] A -> B: m[in y] }"
-        .as_slice();
-    assert_eq!(rt;
-        of_number(alloc, head, 1)?.as_slice(),
-        b"within 1 111 100".as_slice()
-    );
+    for (source, top, depth, messages, privates) in ROWS {
+        let text = text_of(rt.alloc(), *source)?;
+        let found = survey_of(rt.alloc(), text.as_slice(), *top)?;
+        assert!(rt; is_within(&found, *depth, messages, privates));
+    }
     Ok(())
 }

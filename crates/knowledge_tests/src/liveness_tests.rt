@@ -24,30 +24,36 @@ fn answer(alloc: Global, protocol: &Admitted, text: &[u8]) -> Option<Result<(), 
     }
 }
 
-/// Clauses 5 to 7 of the formula of Ping say that it is sent, that a message that is sent binds the
-/// key, and that the key is unbound.
+/// Logs for the liveness formula of Ping, and the answers. Its clauses 5 to 7 say that the message is
+/// sent, that a message that is sent binds the key, and that the key is unbound.
+const ROWS: &[(&[u8], Result<(), Reject>)] = &[
+    (b"log 1 liveness\nstep 5 1 6 -3 7\nend\n", Ok(())),
+    (
+        b"log 1 liveness\nstep 5 1 6 3 7\nend\n",
+        Err(Reject::NoPivot { step: 1, link: 2 }),
+    ),
+    (
+        b"log 1 liveness\nstep 9\nend\n",
+        Err(Reject::NoClause { step: 1 }),
+    ),
+    (b"log 1 liveness\nend\n", Err(Reject::NotEmpty)),
+    (
+        b"log 2 liveness\ndrop 1 1\nend\n",
+        Err(Reject::NoDrop { after: 0, item: 2 }),
+    ),
+];
+
+/// The protocol Ping.
+fn ping(alloc: Global) -> Result<Admitted, Fail> {
+    let x = assemble(alloc, PING)?.ok_or("the protocol is not well formed")?;
+    Ok(admit(x).ok().ok_or("the protocol is not admitted")?)
+}
+
 #[test]
 fn logs_of_the_liveness_of_ping(rt: HostRuntime) -> Result<(), Fail> {
-    let alloc = rt.alloc();
-    let x = assemble(alloc, PING)?.ok_or("the protocol is not well formed")?;
-    let ping = admit(x).ok().ok_or("the protocol is not admitted")?;
-    for (text, wanted) in [
-        (b"log 1 liveness\nstep 5 1 6 -3 7\nend\n".as_slice(), Ok(())),
-        (
-            b"log 1 liveness\nstep 5 1 6 3 7\nend\n",
-            Err(Reject::NoPivot { step: 1, link: 2 }),
-        ),
-        (
-            b"log 1 liveness\nstep 9\nend\n",
-            Err(Reject::NoClause { step: 1 }),
-        ),
-        (b"log 1 liveness\nend\n", Err(Reject::NotEmpty)),
-        (
-            b"log 2 liveness\ndrop 1 1\nend\n",
-            Err(Reject::NoDrop { after: 0, item: 2 }),
-        ),
-    ] {
-        assert_eq!(rt; answer(alloc, &ping, text), Some(wanted));
+    let ping = ping(rt.alloc())?;
+    for (text, wanted) in ROWS {
+        assert!(rt; answer(rt.alloc(), &ping, text) == Some(*wanted));
     }
     Ok(())
 }

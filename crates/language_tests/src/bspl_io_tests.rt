@@ -2,75 +2,121 @@ use bspl_io::{
     MemSink, MemSource, PlainSink, PlainSource, ReadRefusal, StdSink, StdSource, WriteRefusal,
     read_all, write_all,
 };
-use list_base::{Bytes, NumberList};
+use list_base::{Bytes, NoMemory, NumberList};
+use std::alloc::Global;
 use std::test::Fail;
 
-const TEXT: &[u8; 30] = b"protocol Ping\nsafe yes\nlive no";
+const TEXT: &[u8] = b"protocol Ping\nsafe yes\nlive no";
+
+/// What is read, or why it is not.
+type Answer = Result<&'static [u8], ReadRefusal>;
+
+/// The length of a source's pieces, the numbers of its calls that fail, the limit, and the answers
+/// to a first and to a second call.
+const READS: &[(usize, &[u32], u64, Answer, Answer)] = &[
+    (1, &[99], 30, Ok(TEXT), Ok(b"")),
+    (4, &[99], 30, Ok(TEXT), Ok(b"")),
+    (7, &[99], 30, Ok(TEXT), Ok(b"")),
+    (30, &[], u64::MAX, Ok(TEXT), Ok(b"")),
+    (
+        16,
+        &[2],
+        100,
+        Err(ReadRefusal::ReadFault),
+        Ok(b"fe yes\nlive no"),
+    ),
+];
+
+/// The limit, and why a text of five bytes is not read.
+const LIMITS: &[(u64, Option<ReadRefusal>)] = &[(4, Some(ReadRefusal::TooLong)), (5, None)];
+
+/// The numbers of a sink's calls that fail, whether the text is written, and what is written when
+/// one byte more has followed. A sink's pieces have eight bytes.
+const WRITES: &[(&[u32], Result<(), WriteRefusal>, &[u8])] = &[
+    (&[], Ok(()), b"protocol Ping\nsafe yes\nlive no!"),
+    (&[3], Err(WriteRefusal::WriteFault), b"protocol Ping\nsa!"),
+];
+
+/// Whether that is the answer.
+fn is_answer(found: Result<Bytes, ReadRefusal>, wanted: Answer) -> bool {
+    match (found, wanted) {
+        (Ok(text), Ok(bytes)) => text.as_slice() == bytes,
+        (Err(one), Err(other)) => one == other,
+        (_, _) => false,
+    }
+}
+
+/// Whether a source of the row gives its answers; not if its pieces are empty.
+fn reads(
+    alloc: Global,
+    (piece, fails, limit, first, second): (usize, &[u32], u64, Answer, Answer),
+) -> Result<bool, NoMemory> {
+    if piece == 0 {
+        return Ok(false);
+    }
+    let fails = NumberList::from_slice(alloc, fails)?;
+    let mut source = MemSource::new(Bytes::from_slice(alloc, TEXT)?, piece, fails);
+    let is_first = is_answer(read_all(alloc, &mut source, limit), first);
+    Ok(is_first && is_answer(read_all(alloc, &mut source, limit), second))
+}
 
 #[test]
-fn reads_pieces_to_the_end(rt: HostRuntime) -> Result<(), Fail> {
-    for piece in 1..8 {
-        let fails = NumberList::from_slice(rt.alloc(), &[99])?;
-        let bytes = Bytes::from_slice(rt.alloc(), TEXT)?;
-        let mut source = MemSource::new(bytes, piece, fails);
-        let text = read_all(rt.alloc(), &mut source, 30)?;
-        assert_eq!(rt; text.as_slice(), TEXT.as_slice(), "by pieces of {piece}");
+fn reads_pieces_to_the_end_or_a_fault(rt: HostRuntime) -> Result<(), Fail> {
+    for row in READS {
+        assert!(rt; reads(rt.alloc(), *row)?);
     }
-    let mut source = PlainSource::new(Bytes::from_slice(rt.alloc(), TEXT)?);
-    let text = read_all(rt.alloc(), &mut source, u64::MAX)?;
-    assert_eq!(rt; text.as_slice(), TEXT.as_slice());
-    assert_eq!(rt; read_all(rt.alloc(), &mut source, 0)?.len(), 0);
     Ok(())
 }
 
 #[test]
-fn refuses_faults_and_long_texts(rt: HostRuntime) -> Result<(), Fail> {
-    let fails = NumberList::from_slice(rt.alloc(), &[2])?;
-    let bytes = Bytes::from_slice(rt.alloc(), TEXT)?;
-    let mut source = MemSource::new(bytes, 16, fails);
-    let answer = read_all(rt.alloc(), &mut source, 100).err();
-    assert_eq!(rt; answer, Some(ReadRefusal::ReadFault));
-    let rest = read_all(rt.alloc(), &mut source, 100)?;
-    assert_eq!(rt; rest.as_slice(), b"fe yes\nlive no".as_slice());
-
-    for (limit, want) in [(4, Some(ReadRefusal::TooLong)), (5, None)] {
+fn refuses_a_long_text(rt: HostRuntime) -> Result<(), Fail> {
+    for (limit, wanted) in LIMITS {
         let mut source = PlainSource::new(Bytes::from_slice(rt.alloc(), b"hello")?);
-        let answer = read_all(rt.alloc(), &mut source, limit).err();
-        assert_eq!(rt; answer, want, "with the limit {limit}");
+        assert!(rt; read_all(rt.alloc(), &mut source, *limit).err() == *wanted);
     }
     Ok(())
+}
+
+/// Whether a sink whose calls of these numbers fail gives the answer, and what it has then.
+fn writes(
+    alloc: Global,
+    fails: &[u32],
+    wanted: Result<(), WriteRefusal>,
+    written: &[u8],
+) -> Result<bool, NoMemory> {
+    let mut sink = MemSink::new(alloc, 8, NumberList::from_slice(alloc, fails)?);
+    let answer = write_all(&mut sink, TEXT);
+    let more = write_all(&mut sink, b"!");
+    Ok(answer == wanted && more.is_ok() && sink.written() == written)
 }
 
 #[test]
 fn writes_pieces_until_a_fault(rt: HostRuntime) -> Result<(), Fail> {
-    let fails = NumberList::from_slice(rt.alloc(), &[3])?;
-    let mut sink = MemSink::new(rt.alloc(), 8, fails);
-    let answer = write_all(&mut sink, TEXT).err();
-    assert_eq!(rt; answer, Some(WriteRefusal::WriteFault));
-    assert_eq!(rt; sink.written(), b"protocol Ping\nsa".as_slice());
-    write_all(&mut sink, b"!")?;
-    assert_eq!(rt; sink.written(), b"protocol Ping\nsa!".as_slice());
-
-    let mut sink = PlainSink::new(rt.alloc());
-    write_all(&mut sink, TEXT)?;
-    write_all(&mut sink, b"!")?;
-    assert_eq!(rt;
-        sink.written(),
-        b"protocol Ping\nsafe yes\nlive no!".as_slice()
-    );
+    for (fails, wanted, written) in WRITES {
+        assert!(rt; writes(rt.alloc(), fails, *wanted, written)?);
+    }
     Ok(())
 }
 
-#[test]
-fn passes_on_a_reader_and_a_writer(rt: HostRuntime) -> Result<(), Fail> {
-    let mut source = StdSource::new(TEXT.as_slice());
-    let text = read_all(rt.alloc(), &mut source, 30)?;
-    assert_eq!(rt; text.as_slice(), TEXT.as_slice());
+/// Whether a plain sink has what it is given.
+fn writes_plainly(alloc: Global) -> bool {
+    let mut sink = PlainSink::new(alloc);
+    let answer = write_all(&mut sink, TEXT);
+    answer.is_ok() && sink.written() == TEXT
+}
 
+/// Whether a buffer of sixteen bytes takes the first ones of the text, and then a fault is told.
+fn fills_a_buffer() -> bool {
     let mut kept = [0; 16];
     let mut sink = StdSink::new(kept.as_mut_slice());
-    let answer = write_all(&mut sink, TEXT).err();
-    assert_eq!(rt; answer, Some(WriteRefusal::WriteFault));
-    assert_eq!(rt; kept.as_slice(), b"protocol Ping\nsa".as_slice());
-    Ok(())
+    let answer = write_all(&mut sink, TEXT);
+    answer == Err(WriteRefusal::WriteFault) && kept.as_slice() == b"protocol Ping\nsa".as_slice()
+}
+
+#[test]
+fn passes_on_a_reader_and_a_writer(rt: HostRuntime) {
+    let mut source = StdSource::new(TEXT);
+    assert!(rt; is_answer(read_all(rt.alloc(), &mut source, 30), Ok(TEXT)));
+    assert!(rt; writes_plainly(rt.alloc()));
+    assert!(rt; fills_a_buffer());
 }

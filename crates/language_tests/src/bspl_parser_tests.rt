@@ -1,4 +1,4 @@
-use bspl_parser::{Document, parse, print};
+use bspl_parser::{Declaration, Document, Word, parse, print};
 use list_base::Bytes;
 use std::alloc::Global;
 use std::test::Fail;
@@ -26,25 +26,33 @@ const RACE: &[u8] = b"Race {
   S -> B: ship[in ID, nil stop, out outcome]
 }";
 
+/// Whether the words are these, each at its offset.
+fn are_words(words: &[Word], wanted: &[(&[u8], u64)]) -> bool {
+    let mut pairs = words.iter().zip(wanted);
+    words.len() == wanted.len()
+        && pairs.all(|(w, (text, offset))| w.text.as_slice() == *text && w.offset == *offset)
+}
+
+/// Whether the protocol is Ping, each part at its offset.
+fn is_ping(p: &Declaration) -> bool {
+    let public = p.public.as_slice();
+    p.name.offset == 0
+        && are_words(p.roles.as_slice(), &[(b"A", 13), (b"B", 16)])
+        && public.len() == 1
+        && public.iter().all(|f| f.offset == 29 && f.key == Some(36))
+}
+
 #[test]
 fn words_have_their_offsets(rt: HostRuntime) -> Result<(), Fail> {
     let document = parse(rt.alloc(), PING).ok().ok_or("Ping is a text")?;
-    assert_eq!(rt; document.protocols.len(), 1);
-    let p = document.protocols.at(0);
-    assert_eq!(rt; p.name.offset, 0);
-    assert_eq!(rt; p.roles.len(), 2);
-    assert_eq!(rt; p.roles.at(1).offset, 16);
-    assert_eq!(rt; p.roles.at(1).text.as_slice(), b"B".as_slice());
-    assert_eq!(rt; p.public.len(), 1);
-    let id = p.public.at(0);
-    assert_eq!(rt; id.offset, 29);
-    assert_eq!(rt; id.key, Some(36));
+    assert!(rt; document.protocols.len() == 1);
+    assert!(rt; document.protocols.as_slice().iter().all(|p| is_ping(p)));
     Ok(())
 }
 
 /// Texts, each with its number of roles, public and private parameters and items, summed over its
 /// protocols.
-const COUNTS: [([usize; 4], &[u8]); 20] = [
+const COUNTS: &[([usize; 4], &[u8])] = &[
     ([2, 1, 0, 1], PING),
     ([3, 4, 2, 6], PURCHASE),
     ([2, 2, 1, 3], RACE),
@@ -125,12 +133,16 @@ fn counts_of(document: &Document) -> [usize; 4] {
     counts
 }
 
+/// The numbers of the document that the text spells.
+fn counts_in(alloc: Global, text: &[u8]) -> Option<[usize; 4]> {
+    let document = parse(alloc, text).ok()?;
+    Some(counts_of(&document))
+}
+
 #[test]
 fn each_text_is_read(rt: HostRuntime) {
     for (counts, text) in COUNTS {
-        let answer = parse(rt.alloc(), text);
-        let found = answer.ok().map(|document| counts_of(&document));
-        assert_eq!(rt; found, Some(counts), "{:?}", text);
+        assert!(rt; counts_in(rt.alloc(), text) == Some(*counts));
     }
 }
 
@@ -176,21 +188,27 @@ const LOOSE_LAID_OUT: &[u8] = b"P {
 }
 ";
 
+/// Texts and their layouts.
+const LAYOUTS: &[(&[u8], &[u8])] = &[(TOP, TOP), (ALL, ALL_LAID_OUT), (LOOSE, LOOSE_LAID_OUT)];
+
 /// The layout of the document that the text spells.
 fn layout_of(alloc: Global, text: &[u8]) -> Option<Bytes> {
-    match parse(alloc, text) {
-        Ok(document) => print(alloc, &document).ok(),
-        Err(_) => None,
-    }
+    let document = parse(alloc, text).ok()?;
+    print(alloc, &document).ok()
+}
+
+/// Whether the text has the layout, and the layout itself too.
+fn has_layout(alloc: Global, text: &[u8], wanted: &[u8]) -> bool {
+    let Some(layout) = layout_of(alloc, text) else {
+        return false;
+    };
+    let again = layout_of(alloc, layout.as_slice());
+    layout.as_slice() == wanted && again.is_some_and(|l| l.as_slice() == wanted)
 }
 
 #[test]
-fn each_document_has_its_layout(rt: HostRuntime) -> Result<(), Fail> {
-    for (text, expected) in [(TOP, TOP), (ALL, ALL_LAID_OUT), (LOOSE, LOOSE_LAID_OUT)] {
-        let layout = layout_of(rt.alloc(), text).ok_or("a text")?;
-        assert_eq!(rt; layout.as_slice(), expected);
-        let again = layout_of(rt.alloc(), layout.as_slice()).ok_or("a layout")?;
-        assert_eq!(rt; again.as_slice(), expected);
+fn each_document_has_its_layout(rt: HostRuntime) {
+    for (text, wanted) in LAYOUTS {
+        assert!(rt; has_layout(rt.alloc(), text, wanted));
     }
-    Ok(())
 }

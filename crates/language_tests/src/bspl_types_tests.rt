@@ -1,4 +1,5 @@
 use bspl_types::{Key, Text32, Value, Values};
+use std::alloc::Global;
 use std::collections::HashMap;
 use std::test::Fail;
 
@@ -12,9 +13,12 @@ const LISTS: &[&[u64]] = &[
     &[1, 0, 0, u64::MAX],
 ];
 
-/// The numbers as values, if there are as many as a key has.
+/// The numbers of a key that no list is.
+const ABSENT: &[u64] = &[0, 0];
+
+/// The numbers as values, if there are at most four.
 fn cells(numbers: &[u64]) -> Option<[Value; 4]> {
-    if numbers.is_empty() || numbers.len() > 4 {
+    if numbers.len() > 4 {
         return None;
     }
     let mut cells = [Value::Number(0); 4];
@@ -25,7 +29,7 @@ fn cells(numbers: &[u64]) -> Option<[Value; 4]> {
 }
 
 /// The key of these numbers, if it has one to four.
-fn key(numbers: &[u64]) -> Option<Key> {
+pub(crate) fn key(numbers: &[u64]) -> Option<Key> {
     let cells = cells(numbers)?;
     if numbers.is_empty() || numbers.len() > 4 {
         return None;
@@ -33,8 +37,8 @@ fn key(numbers: &[u64]) -> Option<Key> {
     Some(Key::of(&cells[..numbers.len()]))
 }
 
-/// The values of these numbers, if there are one to four.
-fn values(numbers: &[u64]) -> Option<Values> {
+/// The values of these numbers, if there are at most four.
+pub(crate) fn values(numbers: &[u64]) -> Option<Values> {
     let cells = cells(numbers)?;
     if numbers.len() > 4 {
         return None;
@@ -42,52 +46,57 @@ fn values(numbers: &[u64]) -> Option<Values> {
     Some(Values::of(&cells[..numbers.len()]))
 }
 
+/// Whether the keys of the two lists, and their values, are the same exactly if that is wanted.
+fn are_told_apart(one: &[u64], other: &[u64], same: bool) -> Option<bool> {
+    let (k, l) = (key(one)?, key(other)?);
+    let (v, w) = (values(one)?, values(other)?);
+    let keys = k.same(&l) == same && (k == l) == same;
+    Some(keys && v.same(&w) == same && k.as_slice() == v.as_slice() && k.len() == one.len())
+}
+
 #[test]
-fn keys_and_values_are_distinct(rt: HostRuntime) -> Result<(), Fail> {
-    for (i, list) in LISTS.iter().enumerate() {
-        let one = key(list).ok_or("no key")?;
-        let own = values(list).ok_or("no values")?;
-        assert_eq!(rt; one.as_slice(), own.as_slice());
-        assert_eq!(rt; one.len(), list.len());
+fn keys_and_values_are_distinct(rt: HostRuntime) {
+    for (i, one) in LISTS.iter().enumerate() {
         for (j, other) in LISTS.iter().enumerate() {
-            let other_key = key(other).ok_or("no key")?;
-            let other_values = values(other).ok_or("no values")?;
-            assert_eq!(rt; one.same(&other_key), i == j, "key {i} and key {j}");
-            assert_eq!(rt; one == other_key, i == j, "key {i} and key {j}");
-            assert_eq!(rt; own.same(&other_values), i == j, "values {i} and {j}");
+            assert!(rt; are_told_apart(one, other, i == j) == Some(true));
         }
     }
     assert!(rt; Values::of(&[]).is_empty());
-    assert_eq!(rt; Values::of(&[Value::Number(1); 16]).len(), 16);
-    Ok(())
 }
 
 #[test]
 fn texts_are_held_in_place(rt: HostRuntime) {
     let text = Text32::of(b"a\"b");
-    assert_eq!(rt; text.as_slice(), b"a\"b".as_slice());
-    assert_eq!(rt; text.len(), 3);
-    assert_eq!(rt; text.at(1), b'"');
+    assert!(rt; text.as_slice() == b"a\"b".as_slice() && text.len() == 3 && text.at(1) == b'"');
     assert!(rt; text == Text32::of(b"a\"b") && text != Text32::of(b"a\"b\x00"));
     assert!(rt; !Value::Number(7).same(&Value::Text(Text32::of(b"7"))));
 }
 
-#[test]
-fn keys_are_found_by_their_hash(rt: HostRuntime) -> Result<(), Fail> {
-    let mut numbers = HashMap::new(rt.alloc());
+/// The lists' indices under their keys.
+fn numbered(alloc: Global) -> Result<HashMap<Key, usize>, Fail> {
+    let mut numbers = HashMap::new(alloc);
     for (number, list) in LISTS.iter().enumerate() {
         numbers.insert(key(list).ok_or("no key")?, number)?;
     }
-    for (number, list) in LISTS.iter().enumerate() {
-        let key = key(list).ok_or("no key")?;
-        assert_eq!(rt; numbers.get(&key), Some(&number), "the key {number}");
-    }
-    assert_eq!(rt; numbers.get(&key(&[0, 0]).ok_or("no key")?), None);
+    Ok(numbers)
+}
 
+/// The index that is found under the key of these numbers.
+fn found(numbers: &HashMap<Key, usize>, list: &[u64]) -> Option<usize> {
+    let key = key(list)?;
+    numbers.get(&key).copied()
+}
+
+#[test]
+fn keys_are_found_by_their_hash(rt: HostRuntime) -> Result<(), Fail> {
+    let mut numbers = numbered(rt.alloc())?;
+    for (number, list) in LISTS.iter().enumerate() {
+        assert!(rt; found(&numbers, list) == Some(number));
+    }
+    assert!(rt; found(&numbers, ABSENT).is_none());
     let text = Key::of(&[Value::Text(Text32::of(b"1"))]);
-    assert_eq!(rt; numbers.get(&text), None);
+    assert!(rt; numbers.get(&text).is_none());
     numbers.insert(text, 99)?;
-    assert_eq!(rt; numbers.get(&text), Some(&99));
-    assert_eq!(rt; numbers.get(&key(&[1]).ok_or("no key")?), Some(&1));
+    assert!(rt; numbers.get(&text) == Some(&99) && found(&numbers, &[1]) == Some(1));
     Ok(())
 }

@@ -1,20 +1,20 @@
+use super::bspl_types_tests::{key, values};
 use adornment_check::admit;
 use bspl_types::{
-    Admitted, Adornment, Carried, Event, Expanded, Instance, Key, Message, Name, NoMemory,
-    ParamInfo, Seq, TryClone, Value, Values, index_of,
+    Admitted, Adornment, Carried, Event, Expanded, Instance, Message, Name, NoMemory, ParamInfo,
+    Seq, TryClone, index_of,
 };
 use std::alloc::Global;
-use std::process::Abort;
 use std::test::Fail;
 
 /// A name, the adornment and whether it is a key.
-type Declared<'a> = (&'a [u8], Option<Adornment>, bool);
+pub(crate) type Declared<'a> = (&'a [u8], Option<Adornment>, bool);
 
 /// A name, the sender, the receiver and what it carries.
-type Schema<'a> = (&'a [u8], u32, u32, &'a [Carried]);
+pub(crate) type Schema<'a> = (&'a [u8], u32, u32, &'a [Carried]);
 
 /// Roles, parameters, how many of these are public, and messages.
-type Parts<'a> = (&'a [&'a [u8]], &'a [Declared<'a>], u32, &'a [Schema<'a>]);
+pub(crate) type Parts<'a> = (&'a [&'a [u8]], &'a [Declared<'a>], u32, &'a [Schema<'a>]);
 
 const OUT_ID: Carried = Carried {
     param: 0,
@@ -37,7 +37,7 @@ const ITEM: Declared = (b"item", Some(Adornment::In), false);
 
 const HIDDEN: Declared = (b"hidden", None, false);
 
-const AB: &[&[u8]] = &[b"A", b"B"];
+pub(crate) const AB: &[&[u8]] = &[b"A", b"B"];
 
 const EIGHT: &[&[u8]] = &[b"A", b"B", b"C", b"D", b"E", b"F", b"G", b"H"];
 
@@ -48,15 +48,24 @@ const SCHEMA: Schema = (b"ping", 0, 1, &[OUT_ID]);
 
 const PING: &[Schema] = &[SCHEMA];
 
+/// The protocol of ping alone.
+const PING_ALONE: Parts = (AB, &[ID], 1, PING);
+
+/// A protocol whose second parameter is its key.
+const KEY_IS_SECOND: Parts = (AB, &[ITEM, ID], 2, PING);
+
+/// The indices of its keys.
+const KEYS: &[u32] = &[1];
+
 /// Parts, and whether the protocol is admitted, or nothing if they are not well formed.
 const ROWS: &[(Parts, Option<bool>)] = &[
-    ((AB, &[ID], 1, PING), Some(true)),
+    (PING_ALONE, Some(true)),
     ((EIGHT, &[ID], 1, PING), Some(true)),
     ((AB, &[ID, ITEM], 2, PING), Some(true)),
     ((AB, &[ID, HIDDEN], 1, PING), Some(true)),
     ((AB, &[ID], 1, &[]), Some(true)),
     ((AB, &[ITEM], 1, PING), Some(false)),
-    ((AB, &[ITEM, ID], 2, PING), Some(false)),
+    (KEY_IS_SECOND, Some(false)),
     ((AB, &[ID], 1, &[(b"m", 1, 1, &[OUT_ID])]), Some(false)),
     (
         (AB, &[ID], 1, &[(b"m", 0, 1, &[OUT_ID, OUT_ID])]),
@@ -93,25 +102,37 @@ const MISFITS: &[(u32, &[u64], &[u64])] = &[
     (0, &[7], &[]),
 ];
 
+/// The name with these bytes.
 fn name(alloc: Global, text: &[u8]) -> Result<Name, NoMemory> {
     Seq::from_slice(alloc, text)
 }
 
-fn assemble(alloc: Global, parts: Parts) -> Result<Option<Expanded>, NoMemory> {
-    let mut roles = Seq::new(alloc);
-    for role in parts.0 {
-        roles.push(name(alloc, role)?)?;
+/// The names, in order.
+fn names(alloc: Global, texts: &[&[u8]]) -> Result<Seq<Name>, NoMemory> {
+    let mut names = Seq::new(alloc);
+    for text in texts {
+        names.push(name(alloc, text)?)?;
     }
+    Ok(names)
+}
+
+/// The parameters, in order.
+fn params(alloc: Global, declared: &[Declared]) -> Result<Seq<ParamInfo>, NoMemory> {
     let mut params = Seq::new(alloc);
-    for (text, adornment, key) in parts.1 {
+    for (text, adornment, key) in declared {
         params.push(ParamInfo {
             name: name(alloc, text)?,
             adornment: *adornment,
             key: *key,
         })?;
     }
+    Ok(params)
+}
+
+/// The messages, in order.
+fn messages(alloc: Global, schemas: &[Schema]) -> Result<Seq<Message>, NoMemory> {
     let mut messages = Seq::new(alloc);
-    for (text, sender, receiver, carried) in parts.3 {
+    for (text, sender, receiver, carried) in schemas {
         messages.push(Message {
             name: name(alloc, text)?,
             sender: *sender,
@@ -119,6 +140,14 @@ fn assemble(alloc: Global, parts: Parts) -> Result<Option<Expanded>, NoMemory> {
             carried: Seq::from_slice(alloc, carried)?,
         })?;
     }
+    Ok(messages)
+}
+
+/// The protocol of the parts, if they are well formed.
+pub(crate) fn assemble(alloc: Global, parts: Parts) -> Result<Option<Expanded>, NoMemory> {
+    let roles = names(alloc, parts.0)?;
+    let params = params(alloc, parts.1)?;
+    let messages = messages(alloc, parts.3)?;
     let protocol = name(alloc, b"Ping")?;
     Expanded::assemble(alloc, protocol, roles, params, parts.2, messages)
 }
@@ -147,63 +176,64 @@ fn admits(alloc: Global, parts: Parts) -> Result<Option<bool>, NoMemory> {
 
 #[test]
 fn protocols_are_refused_or_admitted(rt: HostRuntime) -> Result<(), Fail> {
-    for (row, (parts, want)) in ROWS.iter().enumerate() {
-        let answer = admits(rt.alloc(), *parts)?;
-        assert_eq!(rt; answer, *want, "the parts in row {row}");
+    for (parts, want) in ROWS {
+        assert!(rt; admits(rt.alloc(), *parts)? == *want);
     }
     Ok(())
+}
+
+/// Whether the indices of its key and of its names are found.
+fn has_indices(x: &Expanded) -> bool {
+    x.keys.as_slice() == KEYS
+        && index_of(x.roles.as_slice(), b"B") == Some(1)
+        && index_of(x.params.as_slice(), b"ID") == Some(1)
+        && index_of(x.messages.as_slice(), b"pong").is_none()
 }
 
 #[test]
 fn parts_have_their_indices(rt: HostRuntime) -> Result<(), Fail> {
-    let parts: Parts = (AB, &[ITEM, ID], 2, PING);
-    let x = assemble(rt.alloc(), parts)?.ok_or("the parts are refused")?;
-    assert_eq!(rt; x.keys.as_slice(), [1].as_slice());
-    assert_eq!(rt; index_of(x.roles.as_slice(), b"B"), Some(1));
-    assert_eq!(rt; index_of(x.params.as_slice(), b"ID"), Some(1));
-    assert_eq!(rt; index_of(x.messages.as_slice(), b"pong"), None);
+    let x = assemble(rt.alloc(), KEY_IS_SECOND)?;
+    assert!(rt; x.is_some_and(|x| has_indices(&x)));
     Ok(())
 }
 
-/// The instance, if there are at most two numbers of each, and one of the key.
-fn instance(message: u32, key: &[u64], values: &[u64]) -> Option<Instance> {
-    let (keys, bound) = (cells(key)?, cells(values)?);
-    if key.is_empty() || key.len() > 2 || values.len() > 2 {
-        return None;
-    }
+/// The instance, if its numbers are those of a key and of values.
+fn instance(message: u32, numbers: &[u64], bound: &[u64]) -> Option<Instance> {
     Some(Instance {
         message,
-        key: Key::of(&keys[..key.len()]),
-        values: Values::of(&bound[..values.len()]),
+        key: key(numbers)?,
+        values: values(bound)?,
     })
 }
 
-/// The numbers as values, if there are at most two.
-fn cells(numbers: &[u64]) -> Option<[Value; 2]> {
-    match numbers {
-        [] => Some([Value::Number(0); 2]),
-        [first] => Some([Value::Number(*first), Value::Number(0)]),
-        [first, second] => Some([Value::Number(*first), Value::Number(*second)]),
-        _ => None,
-    }
+/// Whether an instance fits the protocol, and whether it is that of ping.
+fn answers(x: &Expanded, row: (u32, &[u64], &[u64])) -> Option<(bool, bool)> {
+    let ping = instance(0, &[7], &[7])?;
+    let found = instance(row.0, row.1, row.2)?;
+    Some((found.fits(x), found.same(&ping)))
 }
 
-fn none_fits(rt: &impl Abort, x: &Expanded, ping: &Instance) -> Result<(), Fail> {
-    for (row, (message, key, values)) in MISFITS.iter().enumerate() {
-        let other = instance(*message, key, values).ok_or("there is no room")?;
-        assert!(rt; !other.fits(x), "the instance in row {row}");
-        assert!(rt; !other.same(ping), "the instance in row {row}");
+/// Whether ping fits the protocol, and each misfit does not.
+fn are_told_apart(x: &Expanded) -> bool {
+    answers(x, (0, &[7], &[7])) == Some((true, true))
+        && MISFITS
+            .iter()
+            .all(|row| answers(x, *row) == Some((false, false)))
+}
+
+/// The roles that emit and receive the instance.
+fn roles_of(x: &Expanded, ping: Instance) -> Option<(u32, u32)> {
+    if ping.fits(x) {
+        Some((Event::Emit(ping).role(x), Event::Receive(ping).role(x)))
+    } else {
+        None
     }
-    Ok(())
 }
 
 #[test]
 fn instances_fit_their_protocol(rt: HostRuntime) -> Result<(), Fail> {
-    let parts: Parts = (AB, &[ID], 1, PING);
-    let x = assemble(rt.alloc(), parts)?.ok_or("the parts are refused")?;
+    let x = assemble(rt.alloc(), PING_ALONE)?.ok_or("the parts are refused")?;
     let ping = instance(0, &[7], &[7]).ok_or("there is no room")?;
-    assert!(rt; ping.fits(&x) && ping.same(&ping));
-    assert_eq!(rt; Event::Emit(ping).role(&x), 0);
-    assert_eq!(rt; Event::Receive(ping).role(&x), 1);
-    none_fits(&rt, &x, &ping)
+    assert!(rt; are_told_apart(&x) && roles_of(&x, ping) == Some((0, 1)));
+    Ok(())
 }

@@ -146,9 +146,7 @@ fn answers(
 /// No row is answered otherwise than is wanted.
 #[test]
 fn a_store_emits_or_says_why_not(rt: HostRuntime) -> Result<(), Fail> {
-    let pair = answers(rt.alloc(), (PAIR, 0), 0, PAIR_ROWS)?;
-    assert_eq!(rt; pair, (None, 2));
-    let purchase = answers(rt.alloc(), (PURCHASE, 1), 1, PURCHASE_ROWS)?;
-    assert_eq!(rt; purchase, (None, 0));
+    assert!(rt; answers(rt.alloc(), (PAIR, 0), 0, PAIR_ROWS)? == (None, 2));
+    assert!(rt; answers(rt.alloc(), (PURCHASE, 1), 1, PURCHASE_ROWS)? == (None, 0));
     Ok(())
 }

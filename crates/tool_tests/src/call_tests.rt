@@ -1,4 +1,4 @@
-use bspl_io::{MemSink, MemSource, PlainSink, PlainSource};
+use bspl_io::{MemSink, MemSource};
 use bspl_tool::{Status, bspl};
 use bspl_types::{Bytes, NumberList};
 use std::alloc::{AllocError, Global};
@@ -6,7 +6,27 @@ use std::test::Fail;
 
 const PING: &[u8] = b"Ping { roles A, B parameters out ID key A -> B: ping[out ID] }";
 
-const NOT_BUILT: &[u8] = b"refused N1\n";
+/// The arguments, the numbers of the calls of the source and of the sink that fail, the status, and
+/// what is written. The source's pieces have sixteen bytes, and the sink's eight.
+type Row = (
+    &'static str,
+    &'static [u32],
+    &'static [u32],
+    Status,
+    &'static [u8],
+);
+
+const ROWS: &[Row] = &[
+    ("verify Ping", &[2], &[], Status::ReadFault, b""),
+    ("generate 2", &[1], &[], Status::Refused, b"refused N1\n"),
+    (
+        "verify Ping",
+        &[],
+        &[3],
+        Status::WriteFault,
+        b"protocol Ping\nsa",
+    ),
+];
 
 /// The arguments of a row, with blanks between them.
 fn args_of(alloc: Global, text: &str) -> Result<Vec<String>, AllocError> {
@@ -17,32 +37,21 @@ fn args_of(alloc: Global, text: &str) -> Result<Vec<String>, AllocError> {
     Ok(args)
 }
 
+/// Whether a call has the status of the row, and writes its text.
+fn is_answered(alloc: Global, row: Row) -> Result<bool, Fail> {
+    let args = args_of(alloc, row.0)?;
+    let reads = NumberList::from_slice(alloc, row.1)?;
+    let writes = NumberList::from_slice(alloc, row.2)?;
+    let mut source = MemSource::new(Bytes::from_slice(alloc, PING)?, 16, reads);
+    let mut sink = MemSink::new(alloc, 8, writes);
+    let status = bspl(alloc, args.as_slice(), &mut source, &mut sink);
+    Ok(status == row.3 && sink.written() == row.4)
+}
+
 #[test]
 fn stops_at_faults(rt: HostRuntime) -> Result<(), Fail> {
-    let alloc = rt.alloc();
-    let args = args_of(alloc, "verify Ping")?;
-    let mut second = NumberList::new(alloc);
-    second.push(2)?;
-    let mut broken = MemSource::new(Bytes::from_slice(alloc, PING)?, 16, second);
-    let mut output = PlainSink::new(alloc);
-    let given = bspl(alloc, args.as_slice(), &mut broken, &mut output);
-    assert_eq!(rt; given, Status::ReadFault);
-    assert!(rt; output.written().is_empty());
-
-    let mut first = NumberList::new(alloc);
-    first.push(1)?;
-    let mut unread = MemSource::new(Bytes::from_slice(alloc, PING)?, 16, first);
-    let generate = args_of(alloc, "generate 2")?;
-    let given = bspl(alloc, generate.as_slice(), &mut unread, &mut output);
-    assert_eq!(rt; given, Status::Refused);
-    assert!(rt; output.written() == NOT_BUILT);
-
-    let mut third = NumberList::new(alloc);
-    third.push(3)?;
-    let mut input = PlainSource::new(Bytes::from_slice(alloc, PING)?);
-    let mut full = MemSink::new(alloc, 8, third);
-    let given = bspl(alloc, args.as_slice(), &mut input, &mut full);
-    assert_eq!(rt; given, Status::WriteFault);
-    assert!(rt; full.written() == b"protocol Ping\nsa".as_slice());
+    for row in ROWS {
+        assert!(rt; is_answered(rt.alloc(), *row)?);
+    }
     Ok(())
 }

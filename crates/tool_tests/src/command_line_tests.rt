@@ -124,7 +124,7 @@ fn reads_command_lines(rt: HostRuntime) -> Result<(), Fail> {
             conflicts: *conflicts,
             threads: *threads,
         };
-        assert!(rt; is_line(rt.alloc(), text, wanted)?, "{text}");
+        assert!(rt; is_line(rt.alloc(), text, wanted)?);
     }
     Ok(())
 }
