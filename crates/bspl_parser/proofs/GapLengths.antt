@@ -7,7 +7,7 @@ use Rattle.std.specs.Option.{option_map_or}
 use Rattle.std.proofs.lemmas.Bool.{cases_Bool, eqb-true, ltb-true, ltb-false}
 use Rattle.std.proofs.lemmas.List.{take-append-drop, take_all, drop_all}
 use Rattle.std.proofs.lemmas.List.Elements.{All-nil, All-cons}
-use Rattle.bspl_parser.specs.inner.Scanner.{comment_len, blanks_len, gap_len}
+use Rattle.bspl_parser.specs.inner.Scanner.{comment_len, blank_len, gap_len}
 use Rattle.bspl_parser.specs.Tokens.{is_blank_byte, IsLine, IsGap, nothing, blank, comment, IsEnd}
 use Rattle.bspl_parser.proofs.Gaps.{NotLf}
 
@@ -62,18 +62,18 @@ comment_is bytes starts =
     let cs = drop 2 bytes in
     subst (λ x. IsPassed x (comment_len x)) (sym (slashes bytes starts)) (comment_found cs (ltb (1 + (1 + position_or_len is_lf cs)) (suc (suc (length cs)))) refl)
 
--- blanks are a gap
-blanks_are_gap : (bytes : List ℕ) → IsGap (take (blanks_len bytes) bytes)
-blanks_are_gap [] = nothing
-blanks_are_gap (b ∷ bs) =
+-- a blank is a gap
+blank_is_gap : (bytes : List ℕ) → IsGap (take (blank_len bytes) bytes)
+blank_is_gap [] = nothing
+blank_is_gap (b ∷ bs) =
     elim (cases_Bool (is_blank_byte b)) [
-      | inl is ↦ rw (is, one-add) (blank is (blanks_are_gap bs))
+      | inl is ↦ rw is (blank is nothing)
       | inr other ↦ rw other nothing
     ]
 
-gap_found : (bytes : List ℕ) (starts : Bool) → starts_with eqb bytes (codes "//") ≡ starts → IsPassed bytes (cond starts (comment_len bytes) (blanks_len bytes))
+gap_found : (bytes : List ℕ) (starts : Bool) → starts_with eqb bytes (codes "//") ≡ starts → IsPassed bytes (cond starts (comment_len bytes) (blank_len bytes))
 gap_found bytes true s = comment_is bytes s
-gap_found bytes false s = inl (blanks_are_gap bytes)
+gap_found bytes false s = inl (blank_is_gap bytes)
 
 -- what is found is skipped
 pub gap_is_passed : (bytes : List ℕ) → IsPassed bytes (gap_len bytes)
@@ -95,10 +95,10 @@ no_comment_len bytes starts none =
     let cs = drop 2 bytes in
     comment_is_some cs (ltb (1 + (1 + position_or_len is_lf cs)) (suc (suc (length cs)))) (sym (ap comment_len (slashes bytes starts)) ∙ none)
 
-no_blanks_at : (b : ℕ) (bs : List ℕ) → blanks_len (b ∷ bs) ≡ 0 → is_blank_byte b ≡ true → ⊥
-no_blanks_at b bs none is = (let some : blanks_len (b ∷ bs) ≡ 1 + blanks_len bs = rw is refl in omega arith)
+no_blanks_at : (b : ℕ) (bs : List ℕ) → blank_len (b ∷ bs) ≡ 0 → is_blank_byte b ≡ true → ⊥
+no_blanks_at b bs none is = (let some : blank_len (b ∷ bs) ≡ 1 = rw is refl in omega arith)
 
-no_blank_found : (b : ℕ) (bs : List ℕ) (starts : Bool) → starts_with eqb (b ∷ bs) (codes "//") ≡ starts → cond starts (comment_len (b ∷ bs)) (blanks_len (b ∷ bs)) ≡ 0 → is_blank_byte b ≡ true → ⊥
+no_blank_found : (b : ℕ) (bs : List ℕ) (starts : Bool) → starts_with eqb (b ∷ bs) (codes "//") ≡ starts → cond starts (comment_len (b ∷ bs)) (blank_len (b ∷ bs)) ≡ 0 → is_blank_byte b ≡ true → ⊥
 no_blank_found b bs true s none is = no_comment_len (b ∷ bs) s none
 no_blank_found b bs false s none is = no_blanks_at b bs none is
 

@@ -42,7 +42,7 @@ pub fn read_more<'t, T: Parse<'t>>(
     Ok(items)
 }
 
-/// Reads one item, and one more after each comma.
+/// Reads one item, and one more after each comma. Most lists have no more than two.
 #[tactic(auto, unfolding(crate::specs::inner::GrammarParsers::parse_list))]
 pub fn read_list<'t, T: Parse<'t>>(
     alloc: Global,
@@ -52,7 +52,7 @@ pub fn read_list<'t, T: Parse<'t>>(
     ensures shorter { OnOk result (length stream.new < length stream.old) }
 {
     let first = T::read(alloc, stream)?;
-    let mut prefix = Seq::new(alloc);
+    let mut prefix = Seq::with_room(alloc, 2)?;
     prefix.push(first)?;
     read_more(alloc, stream, ListKind::Comma, prefix)
 }

@@ -1,7 +1,7 @@
 ghost use Rattle.std.specs.Prelude.{◌≡◌, ◌≤◌, ◌<◌, ◌==◌, length, position};
 ghost use Rattle.std.specs.Prelude.{IfSome, IfOk, IfErr};
 ghost use Rattle.bspl_parser.specs.Tokens.{is_blank_byte, Tokens};
-ghost use Rattle.bspl_parser.specs.inner.Scanner.{comment_len, blanks_len, gap_len, word_symbol};
+ghost use Rattle.bspl_parser.specs.inner.Scanner.{comment_len, gap_len, word_symbol};
 ghost use Rattle.bspl_parser.specs.inner.Scanner.{word_kind, mark_at, first_token, IsScanError};
 
 use super::name_length::name_len;
@@ -38,20 +38,7 @@ fn is_blank_byte(byte: u8) -> bool
     matches!(byte, b' ' | b'\t' | b'\n' | b'\r')
 }
 
-/// How many blanks the bytes begin with.
-fn blanks_len(bytes: &[u8]) -> usize
-    ensures exact { result ≡ blanks_len bytes.now }
-    ensures within { result ≤ length bytes.now }
-{
-    for (i, byte) in bytes.iter().enumerate() {
-        if !is_blank_byte(*byte) {
-            return i;
-        }
-    }
-    bytes.len()
-}
-
-/// The length of the blanks or of the comment that the bytes begin with; 0 if they begin with
+/// The length of the blank or of the comment that the bytes begin with; 0 if they begin with
 /// neither.
 #[tactic(auto, unfolding(crate::specs::inner::Scanner::gap_len))]
 fn gap_len(bytes: &[u8]) -> usize
@@ -59,8 +46,9 @@ fn gap_len(bytes: &[u8]) -> usize
     ensures within { result ≤ length bytes.now }
 {
     match bytes {
+        [] => 0,
         [b'/', b'/', ..] => comment_len(bytes),
-        _ => blanks_len(bytes),
+        [first, ..] => usize::from(is_blank_byte(*first)),
     }
 }
 
@@ -147,23 +135,20 @@ pub fn tokens_of(alloc: Global, text: &[u8]) -> Result<TokenStream<'_>, ParseErr
     let mut offset = 0;
     while offset < text.len() {
         let rest = &text[offset..];
-        match first_token(rest) {
-            Some((kind, len)) => {
-                tokens.push(PackedToken {
-                    start: offset as u32,
-                    len: len as u32,
-                    kind,
-                })?;
-                offset += len;
-            }
-            None => {
-                let skipped = gap_len(rest);
-                if skipped == 0 {
-                    return Err(ParseError::Invalid(ErrorPosition::At(offset as u64)));
-                }
-                offset += skipped;
-            }
+        let skipped = gap_len(rest);
+        if 0 < skipped {
+            offset += skipped;
+            continue;
         }
+        let Some((kind, len)) = first_token(rest) else {
+            return Err(ParseError::Invalid(ErrorPosition::At(offset as u64)));
+        };
+        tokens.push(PackedToken {
+            start: offset as u32,
+            len: len as u32,
+            kind,
+        })?;
+        offset += len;
     }
     Ok(TokenStream::new(text, tokens))
 }

@@ -23,15 +23,15 @@ abbrev pub comment_len : List ℕ → ℕ
 comment_len bytes =
     option_map_or (λ index. index + 1) (position (λ b. b == 10) bytes) (length bytes)
 
--- how many blanks the bytes begin with
-abbrev pub blanks_len : List ℕ → ℕ
-blanks_len [] = 0
-blanks_len (b ∷ bs) = if is_blank_byte b then 1 + blanks_len bs else 0
+-- the length of the blank that the bytes begin with, or 0
+abbrev pub blank_len : List ℕ → ℕ
+blank_len [] = 0
+blank_len (b ∷ bs) = if is_blank_byte b then 1 else 0
 
--- the length of the blanks or of the comment that the bytes begin with, or 0
+-- the length of the blank or of the comment that the bytes begin with, or 0
 unfoldable pub gap_len : List ℕ → ℕ
 gap_len bytes =
-    if starts_with nat_eq bytes (codes "//") then comment_len bytes else blanks_len bytes
+    if starts_with nat_eq bytes (codes "//") then comment_len bytes else blank_len bytes
 
 -- the reserved word that the text is
 abbrev pub word_symbol : List ℕ → Option Symbol
