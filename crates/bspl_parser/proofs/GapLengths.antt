@@ -80,6 +80,29 @@ pub gap_is_passed : (bytes : List ℕ) → IsPassed bytes (gap_len bytes)
 unfolding gap_len
 gap_is_passed bytes = gap_found bytes (starts_with eqb bytes (codes "//")) refl
 
+comment_within : (cs : List ℕ) (has : Bool) → ltb (1 + (1 + position_or_len is_lf cs)) (suc (suc (length cs))) ≡ has → option_map_or (λ index. index + 1) (cond has (Some (1 + (1 + position_or_len is_lf cs))) None) (suc (suc (length cs))) ≤ suc (suc (length cs))
+comment_within cs true has = (let inside = ltb-true (1 + (1 + position_or_len is_lf cs)) (suc (suc (length cs))) has in omega arith)
+comment_within cs false has = omega arith
+
+blank_within : (bytes : List ℕ) → blank_len bytes ≤ length bytes
+blank_within [] = omega arith
+blank_within (b ∷ bs) =
+    elim (cases_Bool (is_blank_byte b)) [
+      | inl is ↦ rw is (omega arith)
+      | inr other ↦ rw other (omega arith)
+    ]
+
+within_found : (bytes : List ℕ) (starts : Bool) → starts_with eqb bytes (codes "//") ≡ starts → cond starts (comment_len bytes) (blank_len bytes) ≤ length bytes
+within_found bytes true s =
+    let cs = drop 2 bytes in
+    subst (λ x. comment_len x ≤ length x) (sym (slashes bytes s)) (comment_within cs (ltb (1 + (1 + position_or_len is_lf cs)) (suc (suc (length cs)))) refl)
+within_found bytes false s = blank_within bytes
+
+-- what is found lies within the bytes
+pub gap_within : (bytes : List ℕ) → gap_len bytes ≤ length bytes
+unfolding gap_len
+gap_within bytes = within_found bytes (starts_with eqb bytes (codes "//")) refl
+
 -- the bytes begin with no blank and no comment
 pub record NoGap (bytes : List ℕ) : Type 0 where
   pub no_blank : (b : ℕ) (rest : List ℕ) → bytes ≡ b ∷ rest → IsTrue (is_blank_byte b) → ⊥

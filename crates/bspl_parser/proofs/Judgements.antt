@@ -1,17 +1,15 @@
 -- Why a text is refused.
 use Rattle.std.proofs.Common.{◌≡◌, ℕ, List, [], ◌∷◌, ◌++◌, length, Ok, Err, inl, inr, refl, sym, ap, subst, ◌∙◌, append_assoc}
 use Rattle.std.proofs.lemmas.List.{append-nil}
-use Rattle.bspl_types.specs.declared.refusals.Refusal.TheVariants.{Byte, Syntax}
+use Rattle.bspl_types.specs.declared.refusals.Refusal.TheVariants.{Syntax}
 use Rattle.bspl_parser.specs.declared.document.Document.{Document}
 use Rattle.bspl_parser.specs.declared.parse_error.ErrorPosition.{ErrorPosition}
 use Rattle.bspl_parser.specs.declared.parse_error.ErrorPosition.TheVariants.{At, End}
-use Rattle.bspl_parser.specs.declared.parse_error.ParseError.TheVariants as error
 use Rattle.bspl_parser.specs.declared.token.Token.{Token}
 use Rattle.bspl_parser.specs.Grammar.{signs_of_document}
 use Rattle.bspl_parser.specs.Judgement.{IsText, IsViable, IsBadSyntax, IsRefusedFor}
 use Rattle.bspl_parser.specs.inner.ParseResult.{error_offset}
 use Rattle.bspl_parser.specs.inner.GrammarParsers.{parse_document}
-use Rattle.bspl_parser.specs.inner.Scanner.{IsScanError}
 use Rattle.bspl_parser.specs.Spelling.{IsDocument, Spells}
 use Rattle.bspl_parser.specs.Token.{offset_of}
 use Rattle.bspl_parser.specs.Tokens.{Tokens, IsBadByte}
@@ -21,11 +19,6 @@ use Rattle.bspl_parser.proofs.ErrorPositionDocuments.{document_viable}
 use Rattle.bspl_parser.proofs.Primitives.{first_of_same}
 use Rattle.bspl_parser.proofs.Spelled.{Spelled, whole_from_Spelled}
 use Rattle.bspl_parser.proofs.Unique.{Tokens_unique, bad_has_no_tokens}
-
--- an error at a byte
-pub byte_refused : (text : List ℕ) (position : ErrorPosition) (end offset : ℕ) → IsScanError text (error.Invalid position) → offset ≡ error_offset position end → IsRefusedFor text (Byte offset)
-byte_refused text (At at) end offset bad is = subst (IsBadByte text) (sym is) bad
-byte_refused text End end offset bad is = absurd bad
 
 -- what can be completed is viable
 viable_of : (prefix : List Token) (more : List Token) (d : Document) → IsDocument d → Spelled (signs_of_document d) (prefix ++ more) [] → IsViable prefix

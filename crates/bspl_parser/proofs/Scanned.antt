@@ -1,14 +1,17 @@
--- Tokens that were taken from the start of a text, and the rest of it.
-use Rattle.std.proofs.Common.{◌≡◌, ℕ, ◌+◌, ◌<◌, ◌≤◌, List, [], ◌∷◌, ◌++◌, length, take, drop, Some, None, inl, inr, refl, sym, ap, subst, ◌∙◌, append_assoc, arith}
-use Rattle.std.proofs.lemmas.List.{append-nil, take-append-drop, length-take-le, length-append}
+-- The tokens of a scan are those of the text.
+use Rattle.std.proofs.Common.{◌≡◌, ℕ, zero, suc, ◌+◌, ◌<◌, ◌≤◌, List, [], ◌∷◌, ◌++◌, length, take, drop, Option, Some, None, inl, inr, refl, sym, ap, subst, ◌∙◌, append_assoc, arith}
+use Rattle.std.proofs.lemmas.List.{take-append-drop, length-take-le, length-append, length-drop}
 use Rattle.bspl_parser.specs.declared.packed_token.Kind.{Kind}
 use Rattle.bspl_parser.specs.declared.token.Token.{Token}
+use Rattle.bspl_parser.specs.inner.PackedToken.{kind_token}
+use Rattle.bspl_parser.specs.inner.Scan.{Scan, with_token, stopped, scan_after, scan_from}
 use Rattle.bspl_parser.specs.inner.Scanner.{gap_len, first_token, IsTokenOf}
 use Rattle.bspl_parser.specs.Tokens.{IsGap, nothing, IsEnd, BeginsWithToken, TokensTo, Tokens, BeginsNothing, IsBadByte}
-use Rattle.bspl_parser.proofs.GapLengths.{IsPassed, no_gap_there}
+use Rattle.bspl_parser.proofs.GapLengths.{IsPassed, gap_is_passed, gap_within, no_gap_there}
 use Rattle.bspl_parser.proofs.Gaps.{IsGap-append}
+use Rattle.bspl_parser.proofs.PackedTokens.{is_of_kind}
 use Rattle.bspl_parser.proofs.Scans.{first_is_longest, first_is_none}
-use Rattle.bspl_parser.proofs.Texts.{texts_solid}
+use Rattle.bspl_parser.proofs.ScanSteps.{scan_end, skip_step, token_step, stop_step}
 
 -- the tokens end where the text does
 abbrev pub AtEnd : ℕ → List ℕ → Type 0
@@ -17,15 +20,6 @@ AtEnd offset rest = IsEnd rest
 -- they end where nothing begins
 abbrev pub AtBad : ℕ → ℕ → List ℕ → Type 0
 AtBad bad offset rest = (offset ≡ bad) × BeginsNothing rest
-
--- the tokens that were taken, with those of the rest, are the text's, up to its end or up to a bad byte
-pub record IsScanned (text : List ℕ) (tokens : List Token) (offset : ℕ) (bytes : List ℕ) : Type 0 where
-  pub whole : (more : List Token) → TokensTo AtEnd offset bytes more → TokensTo AtEnd 0 text (tokens ++ more)
-  pub failure : (bad : ℕ) (more : List Token) → TokensTo (AtBad bad) offset bytes more → TokensTo (AtBad bad) 0 text (tokens ++ more)
-
--- at the end all were
-pub at_end : (text : List ℕ) (tokens : List Token) (offset : ℕ) (bytes : List ℕ) → IsScanned text tokens offset bytes → bytes ≡ [] → Tokens text tokens
-at_end text tokens offset bytes scanned none = subst (TokensTo AtEnd 0 text) (append-nil tokens) (scanned.whole [] ([], bytes, nothing, refl, inl none))
 
 -- a gap before the tokens
 pub gap_before : (End : ℕ → List ℕ → Type 0) (p : List ℕ) → IsGap p → (offset : ℕ) (bytes : List ℕ) (ts : List Token) → TokensTo End (offset + length p) bytes ts → TokensTo End offset (p ++ bytes) ts
@@ -53,39 +47,6 @@ gap_before End p gap offset bytes (t ∷ ts) of_ts =
       subst (λ o. TokensTo End o r ts) same_offset of_ts.4,
     )
 
--- no token is in nothing
-none_in_nothing : (End : ℕ → List ℕ → Type 0) (offset : ℕ) (ts : List Token) → TokensTo End offset [] ts → (ts ≡ []) × (at : ℕ) × End at []
-none_in_nothing End offset [] of_ts =
-    let rest : of_ts.1 ≡ [] = nothing_after of_ts.0 of_ts.1 (sym of_ts.3) in
-    (refl, offset + length of_ts.0, subst (End (offset + length of_ts.0)) rest of_ts.4)
-  where
-    nothing_after : (g r : List ℕ) → g ++ r ≡ [] → r ≡ []
-    nothing_after [] r e = e
-    nothing_after (b ∷ g) r e = absurd cc
-none_in_nothing End offset (t ∷ ts) of_ts = absurd (no_text of_ts.0 of_ts.1 of_ts.2 (texts_solid of_ts.1 t of_ts.3.spelled).is (sym of_ts.3.parts))
-  where
-    no_text : (g x r : List ℕ) → x ≡ (texts_solid of_ts.1 t of_ts.3.spelled).first ∷ (texts_solid of_ts.1 t of_ts.3.spelled).others → g ++ (x ++ r) ≡ [] → ⊥
-    no_text [] [] r solid e = cc
-    no_text [] (c ∷ x) r solid e = cc
-    no_text (b ∷ g) x r solid e = cc
-
--- what is skipped is scanned
-pub gap_skipped : (text : List ℕ) (tokens : List Token) (offset : ℕ) (bytes : List ℕ) (n : ℕ) → IsScanned text tokens offset bytes → n ≤ length bytes → IsPassed bytes n → IsScanned text tokens (offset + n) (drop n bytes)
-gap_skipped text tokens offset bytes n scanned within (inl gap) =
-    let len = length-take-le n bytes within in
-    let whole : (End : ℕ → List ℕ → Type 0) (more : List Token) → TokensTo End (offset + n) (drop n bytes) more → TokensTo End offset bytes more = λ End more of_more.
-    subst (λ b. TokensTo End offset b more) (take-append-drop n bytes) (gap_before End (take n bytes) gap offset (drop n bytes) more (subst (λ m. TokensTo End (offset + m) (drop n bytes) more) (sym len) of_more)) in
-    record {
-      whole = λ more of_more. scanned.whole more (whole AtEnd more of_more);
-      failure = λ bad more of_more. scanned.failure bad more (whole (AtBad bad) more of_more);
-    }
-gap_skipped text tokens offset bytes n scanned within (inr last) =
-    record {
-      whole = λ more of_more. (let none = none_in_nothing AtEnd (offset + n) more (subst (λ b. TokensTo AtEnd (offset + n) b more) last.1 of_more) in
-          subst (λ ts. TokensTo AtEnd 0 text (tokens ++ ts)) (sym none.0) (scanned.whole [] ([], bytes, nothing, refl, last.0)));
-      failure = λ bad more of_more. absurd (let none = none_in_nothing (AtBad bad) (offset + n) more (subst (λ b. TokensTo (AtBad bad) (offset + n) b more) last.1 of_more) in none.2.1.some refl);
-    }
-
 -- a token that was found begins the bytes
 begins : (offset : ℕ) (bytes : List ℕ) (k : Kind) (n : ℕ) (t : Token) → first_token bytes ≡ Some (k, n) → IsTokenOf k (take n bytes) offset t → BeginsWithToken offset bytes t [] (take n bytes) (drop n bytes)
 begins offset bytes k n t found is =
@@ -98,22 +59,47 @@ begins offset bytes k n t found is =
       at_offset = (prefix.spelled offset t is).1 ∙ (omega arith);
     }
 
--- a token that was found is taken
-pub token_taken : (text : List ℕ) (tokens : List Token) (offset : ℕ) (bytes : List ℕ) (k : Kind) (n : ℕ) (t : Token) → IsScanned text tokens offset bytes → first_token bytes ≡ Some (k, n) → IsTokenOf k (take n bytes) offset t → IsScanned text (tokens ++ t ∷ []) (offset + n) (drop n bytes)
-token_taken text tokens offset bytes k n t scanned found is =
-    let of_t = begins offset bytes k n t found is in
-    let len : length (take n bytes) ≡ n = length-take-le n bytes (first_is_longest bytes k n found).within in
+-- a token before the others
+token_before : (End : ℕ → List ℕ → Type 0) (offset : ℕ) (bytes : List ℕ) (k : Kind) (n : ℕ) → first_token bytes ≡ Some (k, n) → (ts : List Token) → TokensTo End (offset + n) (drop n bytes) ts → TokensTo End offset bytes (kind_token k (take n bytes) offset ∷ ts)
+token_before End offset bytes k n found ts of_ts =
+    let first = first_is_longest bytes k n found in
+    let len : length (take n bytes) ≡ n = length-take-le n bytes first.within in
     let same_offset : offset + n ≡ offset + 0 + length (take n bytes) = omega arith in
-    let following : (End : ℕ → List ℕ → Type 0) (more : List Token) → TokensTo End (offset + n) (drop n bytes) more → TokensTo End offset bytes (t ∷ more) = λ End more of_more.
-    ([], take n bytes, drop n bytes, of_t, subst (λ o. TokensTo End o (drop n bytes) more) same_offset of_more) in
+    ([], take n bytes, drop n bytes, begins offset bytes k n (kind_token k (take n bytes) offset) found (is_of_kind k (take n bytes) offset first.named), subst (λ o. TokensTo End o (drop n bytes) ts) same_offset of_ts)
+
+-- the scan's tokens are those of the bytes, up to the end or up to the bad byte
+pub record IsScanOf (offset : ℕ) (bytes : List ℕ) (scan : Scan) : Type 0 where
+  pub whole : scan.bad_byte ≡ None → TokensTo AtEnd offset bytes scan.tokens
+  pub failure : (bad : ℕ) → scan.bad_byte ≡ Some bad → TokensTo (AtBad bad) offset bytes scan.tokens
+
+-- at an end no token is left
+at_end : (offset : ℕ) (bytes : List ℕ) → IsEnd bytes → IsScanOf offset bytes (stopped None)
+at_end offset bytes end =
+    record { whole = λ none. ([], bytes, nothing, refl, end); failure = λ bad some. absurd cc }
+
+-- what is skipped is before the tokens
+gap_skipped : (offset : ℕ) (bytes : List ℕ) (n : ℕ) (scan : Scan) → n ≤ length bytes → IsPassed bytes n → (drop n bytes ≡ [] → scan ≡ stopped None) → IsScanOf (offset + n) (drop n bytes) scan → IsScanOf offset bytes scan
+gap_skipped offset bytes n scan within (inl gap) last rest =
+    let len = length-take-le n bytes within in
+    let before : (End : ℕ → List ℕ → Type 0) → TokensTo End (offset + n) (drop n bytes) scan.tokens → TokensTo End offset bytes scan.tokens = λ End of_rest.
+    subst (λ b. TokensTo End offset b scan.tokens) (take-append-drop n bytes) (gap_before End (take n bytes) gap offset (drop n bytes) scan.tokens (subst (λ m. TokensTo End (offset + m) (drop n bytes) scan.tokens) (sym len) of_rest)) in
     record {
-      whole = λ more of_more. subst (TokensTo AtEnd 0 text) (sym (append_assoc tokens (t ∷ []) more)) (scanned.whole (t ∷ more) (following AtEnd more of_more));
-      failure = λ bad more of_more. subst (TokensTo (AtBad bad) 0 text) (sym (append_assoc tokens (t ∷ []) more)) (scanned.failure bad (t ∷ more) (following (AtBad bad) more of_more));
+      whole = λ none. before AtEnd (rest.whole none);
+      failure = λ bad some. before (AtBad bad) (rest.failure bad some);
+    }
+gap_skipped offset bytes n scan within (inr end) last rest = subst (IsScanOf offset bytes) (sym (last end.1)) (at_end offset bytes end.0)
+
+-- a token is taken
+token_taken : (offset : ℕ) (bytes : List ℕ) (k : Kind) (n : ℕ) (scan : Scan) → first_token bytes ≡ Some (k, n) → IsScanOf (offset + n) (drop n bytes) scan → IsScanOf offset bytes (with_token (kind_token k (take n bytes) offset) scan)
+token_taken offset bytes k n scan found rest =
+    record {
+      whole = λ none. token_before AtEnd offset bytes k n found scan.tokens (rest.whole none);
+      failure = λ bad some. token_before (AtBad bad) offset bytes k n found scan.tokens (rest.failure bad some);
     }
 
 -- where neither a gap nor a token is found the byte is bad
-pub bad_byte : (text : List ℕ) (tokens : List Token) (offset : ℕ) (bytes : List ℕ) → IsScanned text tokens offset bytes → 0 < length bytes → gap_len bytes ≡ 0 → first_token bytes ≡ None → IsBadByte text offset
-bad_byte text tokens offset bytes scanned some no_gap none =
+nothing_found : (offset : ℕ) (bytes : List ℕ) → 0 < length bytes → gap_len bytes ≡ 0 → first_token bytes ≡ None → IsScanOf offset bytes (stopped (Some offset))
+nothing_found offset bytes some no_gap none =
     let gap = no_gap_there bytes no_gap in
     let is_nothing : BeginsNothing bytes = record {
       some = λ is. (let empty = ap length is in omega arith);
@@ -121,5 +107,37 @@ bad_byte text tokens offset bytes scanned some no_gap none =
       no_comment = gap.no_comment;
       no_token = first_is_none bytes none;
     } in
-    let same_offset : offset + 0 ≡ offset = omega arith in
-    (tokens ++ [], scanned.failure offset [] ([], bytes, nothing, refl, (same_offset, is_nothing)))
+    record {
+      whole = λ ends. absurd cc;
+      failure = λ bad is. (let same_offset : offset + 0 ≡ bad = (let at : offset ≡ bad = cc in omega arith) in
+          ([], bytes, nothing, refl, (same_offset, is_nothing)));
+    }
+
+-- a step of the scan, and the scan of what is left
+one_step : (offset : ℕ) (bytes : List ℕ) → 0 < length bytes → ((n : ℕ) → 0 < n → IsScanOf (offset + n) (drop n bytes) (scan_after 0 (offset + n) (drop n bytes))) → (gap : ℕ) → gap_len bytes ≡ gap → (found : Option (Kind × ℕ)) → first_token bytes ≡ found → IsScanOf offset bytes (scan_after 0 offset bytes)
+one_step offset bytes some rest (suc n) gap found f =
+    let m = gap_len bytes in
+    let has : 0 < m = omega arith in
+    let last : drop m bytes ≡ [] → scan_after 0 (offset + m) (drop m bytes) ≡ stopped None = λ none. ap (scan_after 0 (offset + m)) none ∙ scan_end 0 (offset + m) in
+    subst (IsScanOf offset bytes) (sym (skip_step offset bytes has)) (gap_skipped offset bytes m (scan_after 0 (offset + m) (drop m bytes)) (gap_within bytes) (gap_is_passed bytes) last (rest m has))
+one_step offset bytes some rest zero gap (Some t) f =
+    let has = (first_is_longest bytes t.0 t.1 f).some in
+    subst (IsScanOf offset bytes) (sym (token_step offset bytes t.0 t.1 gap f)) (token_taken offset bytes t.0 t.1 (scan_after 0 (offset + t.1) (drop t.1 bytes)) f (rest t.1 has))
+one_step offset bytes some rest zero gap None f =
+    subst (IsScanOf offset bytes) (sym (stop_step offset bytes some gap f)) (nothing_found offset bytes some gap f)
+
+-- the scan of some bytes is theirs
+scan_is : (room : ℕ) (offset : ℕ) (bytes : List ℕ) → length bytes ≤ room → IsScanOf offset bytes (scan_after 0 offset bytes)
+scan_is room offset [] fits = subst (IsScanOf offset []) (sym (scan_end 0 offset)) (at_end offset [] (inl refl))
+scan_is zero offset (b ∷ bs) fits = absurd (omega arith)
+scan_is (suc room) offset (b ∷ bs) fits =
+    let bytes = b ∷ bs in
+    one_step offset bytes (omega arith) (λ n some. scan_is room (offset + n) (drop n bytes) (let long = length-drop n bytes in omega arith)) (gap_len bytes) refl (first_token bytes) refl
+
+-- the tokens of a text without a bad byte
+pub tokens_scanned : (text : List ℕ) → (scan_from text 0).bad_byte ≡ None → Tokens text (scan_from text 0).tokens
+tokens_scanned text none = (scan_is (length text) 0 text (omega arith)).whole none
+
+-- the first bad byte of a text
+pub bad_byte_found : (text : List ℕ) (bad : ℕ) → (scan_from text 0).bad_byte ≡ Some bad → IsBadByte text bad
+bad_byte_found text bad some = ((scan_from text 0).tokens, (scan_is (length text) 0 text (omega arith)).failure bad some)

@@ -48,8 +48,9 @@ fn read_message<'t>(
     stream: &mut TokenStream<'t>,
     sender: Word<'t>,
 ) -> Result<Schema<'t>, ParseError>
-    ensures gives { Gives result stream.new (parse_message sender.entry stream.old) }
-    ensures no_longer { OnOk result (length stream.new ≤ length stream.old) }
+    ensures gives { Gives result stream.new.tokens (parse_message sender.entry stream.old.tokens) }
+    ensures same { stream.new.bad_byte ≡ stream.old.bad_byte }
+    ensures no_longer { OnOk result (length stream.new.tokens ≤ length stream.old.tokens) }
 {
     stream.symbol(Symbol::Arrow)?;
     let receiver = stream.word()?;
@@ -73,8 +74,9 @@ fn read_reference<'t>(
     stream: &mut TokenStream<'t>,
     protocol: Word<'t>,
 ) -> Result<Reference<'t>, ParseError>
-    ensures gives { Gives result stream.new (parse_reference protocol.entry stream.old) }
-    ensures no_longer { OnOk result (length stream.new ≤ length stream.old) }
+    ensures gives { Gives result stream.new.tokens (parse_reference protocol.entry stream.old.tokens) }
+    ensures same { stream.new.bad_byte ≡ stream.old.bad_byte }
+    ensures no_longer { OnOk result (length stream.new.tokens ≤ length stream.old.tokens) }
 {
     stream.symbol(Symbol::OpenParen)?;
     let first = stream.word()?;
@@ -108,8 +110,9 @@ impl<'t> Parse<'t> for Item<'t> {
 /// Reads the private parameters, if there are any.
 #[tactic(auto, unfolding(crate::specs::inner::GrammarParsers::parse_private))]
 fn read_private<'t>(alloc: Global, stream: &mut TokenStream<'t>) -> Result<WordList<'t>, ParseError>
-    ensures gives { Gives result stream.new (parse_private stream.old) }
-    ensures no_longer { OnOk result (length stream.new ≤ length stream.old) }
+    ensures gives { Gives result stream.new.tokens (parse_private stream.old.tokens) }
+    ensures same { stream.new.bad_byte ≡ stream.old.bad_byte }
+    ensures no_longer { OnOk result (length stream.new.tokens ≤ length stream.old.tokens) }
 {
     if stream.begins_with(Symbol::Private) {
         stream.symbol(Symbol::Private)?;
@@ -148,8 +151,9 @@ pub fn read_document<'t>(
     alloc: Global,
     stream: &mut TokenStream<'t>,
 ) -> Result<Document<'t>, ParseError>
-    ensures gives { Gives result stream.new (parse_document stream.old) }
-    ensures all { OnOk result (stream.new ≡ []) }
+    ensures gives { Gives result stream.new.tokens (parse_document stream.old.tokens) }
+    ensures same { stream.new.bad_byte ≡ stream.old.bad_byte }
+    ensures all { OnOk result (stream.new.tokens ≡ []) }
 {
     let first = Declaration::read(alloc, stream)?;
     let mut prefix = Seq::new(alloc);

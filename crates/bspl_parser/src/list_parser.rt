@@ -18,8 +18,9 @@ pub trait Parse<'t>: Drop {
 
     /// Reads one.
     fn read(alloc: Global, stream: &mut TokenStream<'t>) -> Result<Self, ParseError>
-        ensures gives { Gives result stream.new (at stream.old) }
-        ensures shorter { OnOk result (length stream.new < length stream.old) };
+        ensures gives { Gives result stream.new.tokens (at stream.old.tokens) }
+        ensures same { stream.new.bad_byte ≡ stream.old.bad_byte }
+        ensures shorter { OnOk result (length stream.new.tokens < length stream.old.tokens) };
 }
 
 /// Reads the further items of a list, and puts them after those that were read before.
@@ -29,9 +30,11 @@ pub fn read_more<'t, T: Parse<'t>>(
     kind: ListKind,
     prefix: Seq<T>,
 ) -> Result<Seq<T>, ParseError>
-    ensures gives { Gives result stream.new (with_prefix prefix (parse_many kind T.at stream.old)) }
-    ensures no_longer { OnOk result (length stream.new ≤ length stream.old) }
-    ensures ended { OnOk result (has_more kind stream.new ≡ false) }
+    ensures gives { Gives result stream.new.tokens
+        (with_prefix prefix (parse_many kind T.at stream.old.tokens)) }
+    ensures same { stream.new.bad_byte ≡ stream.old.bad_byte }
+    ensures no_longer { OnOk result (length stream.new.tokens ≤ length stream.old.tokens) }
+    ensures ended { OnOk result (has_more kind stream.new.tokens ≡ false) }
 {
     let mut items = prefix;
     'items: while stream.has_more(kind) {
@@ -48,8 +51,9 @@ pub fn read_list<'t, T: Parse<'t>>(
     alloc: Global,
     stream: &mut TokenStream<'t>,
 ) -> Result<Seq<T>, ParseError>
-    ensures gives { Gives result stream.new (parse_list T.at stream.old) }
-    ensures shorter { OnOk result (length stream.new < length stream.old) }
+    ensures gives { Gives result stream.new.tokens (parse_list T.at stream.old.tokens) }
+    ensures same { stream.new.bad_byte ≡ stream.old.bad_byte }
+    ensures shorter { OnOk result (length stream.new.tokens < length stream.old.tokens) }
 {
     let first = T::read(alloc, stream)?;
     let mut prefix = Seq::with_room(alloc, 2)?;

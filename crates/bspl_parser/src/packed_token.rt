@@ -1,4 +1,4 @@
-ghost use Rattle.std.specs.Prelude.{◌≡◌, slice_get};
+ghost use Rattle.std.specs.Prelude.{◌≡◌};
 ghost use Rattle.bspl_parser.specs.inner.PackedToken.{is_symbol, is_name_kind, IsPacked, unpacked};
 
 use super::symbol::Symbol;
@@ -43,13 +43,6 @@ impl PackedToken {
     {
         matches!(self.kind, Kind::Name)
     }
-}
-
-/// The packed token at the index, if there is one.
-pub fn packed_at(tokens: &[PackedToken], index: usize) -> Option<PackedToken>
-    ensures { result ≡ slice_get tokens.now index }
-{
-    tokens.get(index).copied()
 }
 
 /// The token, with its bytes lent from the text.

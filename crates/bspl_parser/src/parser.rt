@@ -5,7 +5,7 @@ ghost use Rattle.bspl_parser.specs.inner.ParseResult.{error_offset};
 use super::document::Document;
 use super::grammar::read_document;
 use super::parse_error::{ErrorPosition, ParseError};
-use super::scanner::tokens_of;
+use super::token_stream::TokenStream;
 use bspl_types::Refusal;
 use std::alloc::Global;
 
@@ -26,15 +26,15 @@ pub fn parse(alloc: Global, text: &[u8]) -> Result<Document<'_>, Refusal>
     ensures ok { IfOk result (IsText text.now) }
     ensures refused { IfErr result (IsRefusedFor text.now) }
 {
-    let mut tokens = match tokens_of(alloc, text) {
-        Ok(tokens) => tokens,
-        Err(ParseError::NoMemory) => return Err(Refusal::NoMemory),
-        Err(ParseError::Invalid(position)) => {
-            let offset = error_offset(position, text.len());
-            return Err(Refusal::Byte { offset });
-        }
-    };
-    match read_document(alloc, &mut tokens) {
+    if text.len() > u32::MAX as usize {
+        return Err(Refusal::NoMemory);
+    }
+    let mut stream = TokenStream::scan(text, 0);
+    let reading = read_document(alloc, &mut stream);
+    if let Some(offset) = stream.bad_byte() {
+        return Err(Refusal::Byte { offset });
+    }
+    match reading {
         Ok(document) => Ok(document),
         Err(ParseError::NoMemory) => Err(Refusal::NoMemory),
         Err(ParseError::Invalid(position)) => {

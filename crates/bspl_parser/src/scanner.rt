@@ -1,16 +1,12 @@
-ghost use Rattle.std.specs.Prelude.{◌≡◌, ◌≤◌, ◌<◌, ◌==◌, length, position};
-ghost use Rattle.std.specs.Prelude.{IfSome, IfOk, IfErr};
-ghost use Rattle.bspl_parser.specs.Tokens.{is_blank_byte, Tokens};
+ghost use Rattle.std.specs.Prelude.{◌≡◌, ◌≤◌, ◌<◌, ◌==◌, length, drop, position, IfSome};
+ghost use Rattle.bspl_parser.specs.Tokens.{is_blank_byte};
+ghost use Rattle.bspl_parser.specs.inner.Scan.{scan_from};
 ghost use Rattle.bspl_parser.specs.inner.Scanner.{comment_len, gap_len, word_symbol};
-ghost use Rattle.bspl_parser.specs.inner.Scanner.{word_kind, mark_at, first_token, IsScanError};
+ghost use Rattle.bspl_parser.specs.inner.Scanner.{word_kind, mark_at, first_token};
 
 use super::name_length::name_len;
-use super::packed_token::{Kind, PackedToken};
-use super::parse_error::{ErrorPosition, ParseError};
+use super::packed_token::Kind;
 use super::symbol::Symbol;
-use super::token_stream::TokenStream;
-use bspl_types::Seq;
-use std::alloc::Global;
 
 /// The index of the first LF.
 fn line_end(bytes: &[u8]) -> Option<usize>
@@ -116,39 +112,26 @@ fn word_or_mark(bytes: &[u8]) -> Option<(Kind, usize)>
 }
 
 /// The same, and its length is within the bytes.
-fn first_token(bytes: &[u8]) -> Option<(Kind, usize)>
+pub fn first_token(bytes: &[u8]) -> Option<(Kind, usize)>
     ensures exact { result ≡ first_token bytes.now }
     ensures within { IfSome result (λ found. (0 < found.1) × (found.1 ≤ length bytes.now)) }
 {
     word_or_mark(bytes)
 }
 
-/// The tokens of the text. One of four gibibytes or more has no room in packed tokens.
-pub fn tokens_of(alloc: Global, text: &[u8]) -> Result<TokenStream<'_>, ParseError>
-    ensures ok { IfOk result (λ tokens. Tokens text.now tokens) }
-    ensures error { IfErr result (IsScanError text.now) }
+/// The offset after the blanks and comments that begin at the offset.
+pub fn after_gap(text: &[u8], start: usize) -> usize
+    requires { start ≤ length text.now }
+    ensures same { scan_from text.now result ≡ scan_from text.now start }
+    ensures no_gap { gap_len (drop result text.now) ≡ 0 }
+    ensures within { result ≤ length text.now }
 {
-    if text.len() > u32::MAX as usize {
-        return Err(ParseError::NoMemory);
-    }
-    let mut tokens = Seq::new(alloc);
-    let mut offset = 0;
-    while offset < text.len() {
-        let rest = &text[offset..];
-        let skipped = gap_len(rest);
-        if 0 < skipped {
-            offset += skipped;
-            continue;
+    let mut offset = start;
+    'gap: loop {
+        let skipped = gap_len(&text[offset..]);
+        if skipped == 0 {
+            return offset;
         }
-        let Some((kind, len)) = first_token(rest) else {
-            return Err(ParseError::Invalid(ErrorPosition::At(offset as u64)));
-        };
-        tokens.push(PackedToken {
-            start: offset as u32,
-            len: len as u32,
-            kind,
-        })?;
-        offset += len;
+        offset += skipped;
     }
-    Ok(TokenStream::new(text, tokens))
 }

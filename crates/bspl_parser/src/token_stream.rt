@@ -1,7 +1,6 @@
-ghost use Rattle.std.specs.Prelude.{◌≡◌, ◌==◌, ◌<◌, ◌≤◌, [], ◌∷◌, drop, length};
-ghost use Rattle.std.specs.Prelude.{IfSome, IfNone, OnOk};
-ghost use Rattle.bspl_parser.specs.inner.PackedToken.{ArePacked, all_unpacked};
+ghost use Rattle.std.specs.Prelude.{◌≡◌, ◌==◌, ◌<◌, ◌≤◌, [], drop, length, IfSome, IfNone, OnOk};
 ghost use Rattle.bspl_parser.specs.inner.ParseResult.{Returns, ReturnsRest};
+ghost use Rattle.bspl_parser.specs.inner.Scan.{scan_from, with_token};
 ghost use Rattle.bspl_parser.specs.inner.TokenParsers.{begins_with, begins_with_name, parse_word};
 ghost use Rattle.bspl_parser.specs.inner.TokenParsers.{parse_symbol};
 ghost use Rattle.bspl_parser.specs.inner.TokenParsers.{parse_either, adorn_of, parse_adorn};
@@ -10,104 +9,133 @@ ghost use Rattle.bspl_parser.specs.inner.GrammarParsers.{has_more, parse_separat
 
 use super::document::Adorn;
 use super::list_kind::ListKind;
-use super::packed_token::{PackedToken, packed_at, unpack};
+use super::packed_token::{PackedToken, unpack};
 use super::parse_error::ErrorPosition;
+use super::scanner::{after_gap, first_token};
 use super::symbol::Symbol;
 use super::token::Token;
 use super::word::Word;
-use bspl_types::Seq;
 use std::marker::Model;
 
-/// The tokens of a text that are still to come, in order.
+/// The tokens of a text that are still to come, in order. Nothing is kept of the text's tokens but
+/// the next one: the scan goes on when it is taken.
 #[derive(Drop)]
 pub struct TokenStream<'t> {
     text: &'t [u8],
-    tokens: Seq<PackedToken>,
-    position: usize,
+    ahead: Option<PackedToken>,
+    offset: usize,
 }
 
 impl<'t> Model for TokenStream<'t> {
-    ghost use Rattle.std.specs.Prelude.{List, drop};
-    ghost use Rattle.bspl_parser.specs.declared.token.Token.{Token as SpecToken};
-    ghost use Rattle.bspl_parser.specs.inner.PackedToken.{ArePacked, all_unpacked};
+    ghost use Rattle.bspl_parser.specs.inner.Scan.{Scan, scan_from, with_next, IsAhead};
 
-    ghost Value = { List SpecToken };
+    ghost Value = { Scan };
 
-    ghost view = { λ s. drop s.position (all_unpacked s.text.now s.tokens) };
+    ghost view = { λ s. with_next s.text.now s.ahead (scan_from s.text.now s.offset) };
 
-    ghost invariant = { λ s. ArePacked s.text.now s.tokens };
+    ghost invariant = { λ s. IsAhead s.text.now s.ahead s.offset };
 }
 
 impl<'t> TokenStream<'t> {
-    /// The tokens, which lie in the text.
-    pub fn new(text: &'t [u8], tokens: Seq<PackedToken>) -> TokenStream<'t>
-        requires { ArePacked text.now tokens }
-        ensures { result ≡ all_unpacked text.now tokens }
+    /// The tokens of the text from the offset on.
+    pub fn scan(text: &'t [u8], start: usize) -> TokenStream<'t>
+        requires short { length text.now ≤ 4294967295 }
+        requires within { start ≤ length text.now }
+        ensures { result ≡ scan_from text.now start }
     {
+        let offset = after_gap(text, start);
+        let Some((kind, len)) = first_token(&text[offset..]) else {
+            return TokenStream {
+                text,
+                ahead: None,
+                offset,
+            };
+        };
+        let packed = PackedToken {
+            start: offset as u32,
+            len: len as u32,
+            kind,
+        };
         TokenStream {
             text,
-            tokens,
-            position: 0,
+            ahead: Some(packed),
+            offset: offset + len,
         }
     }
 
     /// Takes the next token.
     fn next(&mut self) -> Option<Token<'t>>
-        ensures some { IfSome result (λ token. self.old ≡ token ∷ self.new) }
-        ensures none { IfNone result (self.old ≡ []) }
+        ensures some { IfSome result (λ token. self.old ≡ with_token token self.new) }
+        ensures none { IfNone result (self.old.tokens ≡ []) }
+        ensures kept { IfNone result (self.new ≡ self.old) }
     {
-        let Some(packed) = packed_at(self.tokens.as_slice(), self.position) else {
+        let Some(packed) = self.ahead else {
             return None;
         };
         let token = unpack(self.text, packed);
-        self.position += 1;
+        *self = TokenStream::scan(self.text, self.offset);
         Some(token)
+    }
+
+    /// The offset of the first byte at which no token begins, after all tokens were taken.
+    pub fn bad_byte(&mut self) -> Option<u64>
+        ensures { result ≡ self.old.bad_byte }
+    {
+        'rest: while self.next().is_some() {}
+        (self.offset < self.text.len()).then_some(self.offset as u64)
     }
 
     /// Whether no token is left.
     fn is_empty(&self) -> bool
-        ensures { result ≡ (length self.now == 0) }
+        ensures { result ≡ (length self.now.tokens == 0) }
     {
-        self.tokens.len() <= self.position
+        self.ahead.is_none()
     }
 
     /// Whether the symbol comes next.
     pub fn begins_with(&self, symbol: Symbol) -> bool
-        ensures { result ≡ begins_with symbol self.now }
+        ensures { result ≡ begins_with symbol self.now.tokens }
     {
-        match packed_at(self.tokens.as_slice(), self.position) {
+        match self.ahead {
             Some(packed) => packed.is_symbol(symbol),
             None => false,
         }
     }
 
-    /// Whether a name follows after as many tokens as are skipped.
-    fn has_name_after(&self, skipped: usize) -> bool
-        ensures { result ≡ begins_with_name (drop skipped self.now) }
+    /// Whether a name comes next.
+    fn begins_with_name(&self) -> bool
+        ensures { result ≡ begins_with_name self.now.tokens }
     {
-        let position = self.position.saturating_add(skipped);
-        match packed_at(self.tokens.as_slice(), position) {
+        match self.ahead {
             Some(packed) => packed.is_name(),
             None => false,
         }
     }
 
+    /// Whether a name comes after the next token.
+    fn has_name_second(&self) -> bool
+        ensures { result ≡ begins_with_name (drop 1 self.now.tokens) }
+    {
+        TokenStream::scan(self.text, self.offset).begins_with_name()
+    }
+
     /// Whether a further item of the list comes.
     pub fn has_more(&self, kind: ListKind) -> bool
-        ensures { result ≡ has_more kind self.now }
+        ensures { result ≡ has_more kind self.now.tokens }
     {
         match kind {
             ListKind::Comma => self.begins_with(Symbol::Comma),
-            ListKind::CommaName => self.begins_with(Symbol::Comma) && self.has_name_after(1),
-            ListKind::Name => self.has_name_after(0),
+            ListKind::CommaName => self.begins_with(Symbol::Comma) && self.has_name_second(),
+            ListKind::Name => self.begins_with_name(),
             ListKind::Rest => !self.is_empty(),
         }
     }
 
     /// Takes what separates a further item from the one before.
     pub fn separator(&mut self, kind: ListKind) -> Result<(), ErrorPosition>
-        ensures gives { ReturnsRest result self.new (parse_separator kind self.old) }
-        ensures no_longer { OnOk result (length self.new ≤ length self.old) }
+        ensures gives { ReturnsRest result self.new.tokens (parse_separator kind self.old.tokens) }
+        ensures same { self.new.bad_byte ≡ self.old.bad_byte }
+        ensures no_longer { OnOk result (length self.new.tokens ≤ length self.old.tokens) }
     {
         if kind.has_comma() {
             let _offset = self.symbol(Symbol::Comma)?;
@@ -118,8 +146,9 @@ impl<'t> TokenStream<'t> {
     /// Takes a name.
     #[tactic(auto, unfolding(crate::specs::inner::TokenParsers::parse_word))]
     pub fn word(&mut self) -> Result<Word<'t>, ErrorPosition>
-        ensures gives { Returns result self.new (parse_word self.old) }
-        ensures shorter { OnOk result (length self.new < length self.old) }
+        ensures gives { Returns result self.new.tokens (parse_word self.old.tokens) }
+        ensures same { self.new.bad_byte ≡ self.old.bad_byte }
+        ensures shorter { OnOk result (length self.new.tokens < length self.old.tokens) }
     {
         match self.next() {
             None => Err(ErrorPosition::End),
@@ -131,8 +160,9 @@ impl<'t> TokenStream<'t> {
     /// Takes that symbol, and returns its offset.
     #[tactic(auto, unfolding(crate::specs::inner::TokenParsers::parse_symbol))]
     pub fn symbol(&mut self, wanted: Symbol) -> Result<u64, ErrorPosition>
-        ensures gives { Returns result self.new (parse_symbol wanted self.old) }
-        ensures shorter { OnOk result (length self.new < length self.old) }
+        ensures gives { Returns result self.new.tokens (parse_symbol wanted self.old.tokens) }
+        ensures same { self.new.bad_byte ≡ self.old.bad_byte }
+        ensures shorter { OnOk result (length self.new.tokens < length self.old.tokens) }
     {
         match self.next() {
             None => Err(ErrorPosition::End),
@@ -149,8 +179,9 @@ impl<'t> TokenStream<'t> {
 
     /// Takes one of two symbols, and returns its offset.
     pub fn either(&mut self, one: Symbol, other: Symbol) -> Result<u64, ErrorPosition>
-        ensures gives { Returns result self.new (parse_either one other self.old) }
-        ensures shorter { OnOk result (length self.new < length self.old) }
+        ensures gives { Returns result self.new.tokens (parse_either one other self.old.tokens) }
+        ensures same { self.new.bad_byte ≡ self.old.bad_byte }
+        ensures shorter { OnOk result (length self.new.tokens < length self.old.tokens) }
     {
         if self.begins_with(one) {
             self.symbol(one)
@@ -162,8 +193,9 @@ impl<'t> TokenStream<'t> {
     /// Takes an adornment, and returns it with its offset.
     #[tactic(auto, unfolding(crate::specs::inner::TokenParsers::parse_adorn))]
     pub fn adornment(&mut self) -> Result<(Adorn, u64), ErrorPosition>
-        ensures gives { Returns result self.new (parse_adorn self.old) }
-        ensures shorter { OnOk result (length self.new < length self.old) }
+        ensures gives { Returns result self.new.tokens (parse_adorn self.old.tokens) }
+        ensures same { self.new.bad_byte ≡ self.old.bad_byte }
+        ensures shorter { OnOk result (length self.new.tokens < length self.old.tokens) }
     {
         let (symbol, offset) = match self.next() {
             None => return Err(ErrorPosition::End),
@@ -179,8 +211,9 @@ impl<'t> TokenStream<'t> {
     /// Takes the word `key` if it comes, but not after a `nil` parameter, and returns its offset.
     #[tactic(auto, unfolding(crate::specs::inner::TokenParsers::parse_key))]
     pub fn key(&mut self, adorn: Adorn) -> Result<Option<u64>, ErrorPosition>
-        ensures gives { Returns result self.new (parse_key adorn self.old) }
-        ensures no_longer { OnOk result (length self.new ≤ length self.old) }
+        ensures gives { Returns result self.new.tokens (parse_key adorn self.old.tokens) }
+        ensures same { self.new.bad_byte ≡ self.old.bad_byte }
+        ensures no_longer { OnOk result (length self.new.tokens ≤ length self.old.tokens) }
     {
         if adorn.takes_key() && self.begins_with(Symbol::Key) {
             let offset = self.symbol(Symbol::Key)?;

@@ -1,7 +1,6 @@
--- Tokens that are kept as an offset, a length and a kind, beside the text.
-use Rattle.std.specs.Prelude.{◌≡◌, ℕ, ◌+◌, ◌≤◌, Bool, true, false, List, length, take, drop, map}
+-- A token that is kept as an offset, a length and a kind, beside the text.
+use Rattle.std.specs.Prelude.{◌≡◌, ℕ, ◌+◌, ◌≤◌, Bool, true, false, List, length, take, drop}
 use Rattle.std.specs.Prelude.{IsTrue, refl}
-use Rattle.std.specs.List.{All}
 use Rattle.bspl_types.specs.Name.{is_name}
 use Rattle.bspl_parser.specs.declared.packed_token.Kind.{Kind}
 use Rattle.bspl_parser.specs.declared.packed_token.Kind.TheVariants as kind
@@ -44,11 +43,3 @@ unpacked text p = kind_token p.kind (packed_bytes text p) p.start
 pub record IsPacked (text : List ℕ) (p : PackedToken) : Type 0 where
   pub within : p.start + p.len ≤ length text
   pub named : p.kind ≡ kind.Name → IsTrue (is_name (packed_bytes text p))
-
--- the tokens that are kept
-abbrev pub all_unpacked : List ℕ → List PackedToken → List Token
-all_unpacked text ps = map (unpacked text) ps
-
--- each of them lies in the text
-abbrev pub ArePacked : List ℕ → List PackedToken → Type 0
-ArePacked text ps = All (IsPacked text) ps

@@ -4,9 +4,6 @@ use Rattle.std.specs.Prelude.{length, take, codes, position, Option, Some}
 use Rattle.std.specs.List.{find, starts_with}
 use Rattle.std.specs.Option.{option_map, option_map_or}
 use Rattle.std.specs.Str.{bytes_eq}
-use Rattle.bspl_parser.specs.declared.parse_error.ErrorPosition.TheVariants.{At, End}
-use Rattle.bspl_parser.specs.declared.parse_error.ParseError.{ParseError}
-use Rattle.bspl_parser.specs.declared.parse_error.ParseError.TheVariants as error
 use Rattle.bspl_parser.specs.declared.packed_token.Kind.{Kind}
 use Rattle.bspl_parser.specs.declared.packed_token.Kind.TheVariants as kind
 use Rattle.bspl_parser.specs.declared.symbol.Symbol.{Symbol}
@@ -16,7 +13,7 @@ use Rattle.bspl_parser.specs.declared.token.Token.TheVariants.{Name, Fixed}
 use Rattle.bspl_parser.specs.inner.NameLength.{name_len}
 use Rattle.bspl_parser.specs.Symbol.{spelling}
 use Rattle.bspl_parser.specs.inner.SymbolTable.{words, marks}
-use Rattle.bspl_parser.specs.Tokens.{is_blank_byte, long_arrow, IsBadByte}
+use Rattle.bspl_parser.specs.Tokens.{is_blank_byte, long_arrow}
 
 -- the length of a comment up to its LF, or to the end
 abbrev pub comment_len : List ℕ → ℕ
@@ -61,9 +58,3 @@ abbrev pub IsTokenOf : Kind → List ℕ → ℕ → Token → Type 0
 IsTokenOf kind.Name text offset (Name word) = (word.text ≡ text) × (word.offset ≡ offset)
 IsTokenOf kind.Name text offset (Fixed symbol other) = ⊥
 IsTokenOf (kind.Fixed symbol) text offset token = token ≡ Fixed symbol offset
-
--- the text has a bad byte there, unless memory ran out
-abbrev pub IsScanError : List ℕ → ParseError → Type 0
-IsScanError text error.NoMemory = Unit {0}
-IsScanError text (error.Invalid (At offset)) = IsBadByte text offset
-IsScanError text (error.Invalid End) = ⊥
