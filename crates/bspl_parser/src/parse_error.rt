@@ -7,7 +7,7 @@ use bspl_types::NoMemory;
 /// Where a text stops being the beginning of a valid one.
 #[derive(Clone, Copy)]
 pub enum ErrorPosition {
-    /// At a byte or a token that no valid text can have there: its offset.
+    /// At a token that no valid text can have there: its offset.
     At(u64),
     /// At the end, where more has to come.
     End,

@@ -1,11 +1,11 @@
 ghost use Rattle.std.specs.Prelude.{◌≡◌, ◌≤◌, ◌<◌, ◌==◌, length, drop, position, IfSome};
 ghost use Rattle.bspl_parser.specs.Tokens.{is_blank_byte};
-ghost use Rattle.bspl_parser.specs.inner.Scan.{scan_from};
+ghost use Rattle.bspl_parser.specs.inner.Scan.{scan_from, rest_from, IsAhead};
 ghost use Rattle.bspl_parser.specs.inner.Scanner.{comment_len, gap_len, word_symbol};
 ghost use Rattle.bspl_parser.specs.inner.Scanner.{word_kind, mark_at, first_token};
 
 use super::name_length::name_len;
-use super::packed_token::Kind;
+use super::packed_token::{Kind, PackedToken};
 use super::symbol::Symbol;
 
 /// The index of the first LF.
@@ -43,6 +43,7 @@ fn gap_len(bytes: &[u8]) -> usize
 {
     match bytes {
         [] => 0,
+        [first, ..] if *first > b'/' => 0,
         [b'/', b'/', ..] => comment_len(bytes),
         [first, ..] => usize::from(is_blank_byte(*first)),
     }
@@ -112,7 +113,7 @@ fn word_or_mark(bytes: &[u8]) -> Option<(Kind, usize)>
 }
 
 /// The same, and its length is within the bytes.
-pub fn first_token(bytes: &[u8]) -> Option<(Kind, usize)>
+fn first_token(bytes: &[u8]) -> Option<(Kind, usize)>
     ensures exact { result ≡ first_token bytes.now }
     ensures within { IfSome result (λ found. (0 < found.1) × (found.1 ≤ length bytes.now)) }
 {
@@ -120,7 +121,7 @@ pub fn first_token(bytes: &[u8]) -> Option<(Kind, usize)>
 }
 
 /// The offset after the blanks and comments that begin at the offset.
-pub fn after_gap(text: &[u8], start: usize) -> usize
+fn after_gap(text: &[u8], start: usize) -> usize
     requires { start ≤ length text.now }
     ensures same { scan_from text.now result ≡ scan_from text.now start }
     ensures no_gap { gap_len (drop result text.now) ≡ 0 }
@@ -134,4 +135,34 @@ pub fn after_gap(text: &[u8], start: usize) -> usize
         }
         offset += skipped;
     }
+}
+
+/// How far a text was scanned.
+#[derive(Drop)]
+pub struct Ahead {
+    /// The token that was scanned last, if there was one more.
+    pub token: Option<PackedToken>,
+    /// Where the scan goes on.
+    pub offset: usize,
+}
+
+/// Scans one token more. Afterwards the scan is that of before, which goes on from the offset.
+pub fn scan_token(text: &[u8], ahead: &mut Ahead)
+    requires short { length text.now ≤ 4294967295 }
+    requires within { ahead.old.offset ≤ length text.now }
+    ensures same { rest_from text.now ahead.new ≡ scan_from text.now ahead.old.offset }
+    ensures ahead { IsAhead text.now ahead.new }
+{
+    let offset = after_gap(text, ahead.offset);
+    let Some((kind, len)) = first_token(&text[offset..]) else {
+        ahead.token = None;
+        ahead.offset = offset;
+        return;
+    };
+    ahead.token = Some(PackedToken {
+        start: offset as u32,
+        len: len as u32,
+        kind,
+    });
+    ahead.offset = offset + len;
 }

@@ -9,58 +9,45 @@ ghost use Rattle.bspl_parser.specs.inner.GrammarParsers.{has_more, parse_separat
 
 use super::document::Adorn;
 use super::list_kind::ListKind;
-use super::packed_token::{PackedToken, unpack};
+use super::packed_token::unpack;
 use super::parse_error::ErrorPosition;
-use super::scanner::{after_gap, first_token};
+use super::scanner::{Ahead, scan_token};
 use super::symbol::Symbol;
 use super::token::Token;
 use super::word::Word;
 use std::marker::Model;
 
-/// The tokens of a text that are still to come, in order. Nothing is kept of the text's tokens but
-/// the next one: the scan goes on when it is taken.
+/// The tokens of a text that are still to come, in order. The text is scanned one token ahead, and
+/// no other token is kept.
 #[derive(Drop)]
 pub struct TokenStream<'t> {
     text: &'t [u8],
-    ahead: Option<PackedToken>,
-    offset: usize,
+    ahead: Ahead,
 }
 
 impl<'t> Model for TokenStream<'t> {
-    ghost use Rattle.bspl_parser.specs.inner.Scan.{Scan, scan_from, with_next, IsAhead};
+    ghost use Rattle.bspl_parser.specs.inner.Scan.{Scan, rest_from, IsAhead};
 
     ghost Value = { Scan };
 
-    ghost view = { λ s. with_next s.text.now s.ahead (scan_from s.text.now s.offset) };
+    ghost view = { λ s. rest_from s.text.now s.ahead };
 
-    ghost invariant = { λ s. IsAhead s.text.now s.ahead s.offset };
+    ghost invariant = { λ s. IsAhead s.text.now s.ahead };
 }
 
 impl<'t> TokenStream<'t> {
     /// The tokens of the text from the offset on.
-    pub fn scan(text: &'t [u8], start: usize) -> TokenStream<'t>
+    pub fn scan(text: &'t [u8], offset: usize) -> TokenStream<'t>
         requires short { length text.now ≤ 4294967295 }
-        requires within { start ≤ length text.now }
-        ensures { result ≡ scan_from text.now start }
+        requires within { offset ≤ length text.now }
+        ensures { result ≡ scan_from text.now offset }
     {
-        let offset = after_gap(text, start);
-        let Some((kind, len)) = first_token(&text[offset..]) else {
-            return TokenStream {
-                text,
-                ahead: None,
-                offset,
-            };
+        let mut ahead = Ahead {
+            token: None,
+            offset,
         };
-        let packed = PackedToken {
-            start: offset as u32,
-            len: len as u32,
-            kind,
-        };
-        TokenStream {
-            text,
-            ahead: Some(packed),
-            offset: offset + len,
-        }
+        scan_token(text, &mut ahead);
+        TokenStream { text, ahead }
     }
 
     /// Takes the next token.
@@ -69,11 +56,11 @@ impl<'t> TokenStream<'t> {
         ensures none { IfNone result (self.old.tokens ≡ []) }
         ensures kept { IfNone result (self.new ≡ self.old) }
     {
-        let Some(packed) = self.ahead else {
+        let Some(packed) = self.ahead.token else {
             return None;
         };
         let token = unpack(self.text, packed);
-        *self = TokenStream::scan(self.text, self.offset);
+        scan_token(self.text, &mut self.ahead);
         Some(token)
     }
 
@@ -82,21 +69,22 @@ impl<'t> TokenStream<'t> {
         ensures { result ≡ self.old.bad_byte }
     {
         'rest: while self.next().is_some() {}
-        (self.offset < self.text.len()).then_some(self.offset as u64)
+        let offset = self.ahead.offset;
+        (offset < self.text.len()).then_some(offset as u64)
     }
 
     /// Whether no token is left.
     fn is_empty(&self) -> bool
         ensures { result ≡ (length self.now.tokens == 0) }
     {
-        self.ahead.is_none()
+        self.ahead.token.is_none()
     }
 
     /// Whether the symbol comes next.
     pub fn begins_with(&self, symbol: Symbol) -> bool
         ensures { result ≡ begins_with symbol self.now.tokens }
     {
-        match self.ahead {
+        match self.ahead.token {
             Some(packed) => packed.is_symbol(symbol),
             None => false,
         }
@@ -106,7 +94,7 @@ impl<'t> TokenStream<'t> {
     fn begins_with_name(&self) -> bool
         ensures { result ≡ begins_with_name self.now.tokens }
     {
-        match self.ahead {
+        match self.ahead.token {
             Some(packed) => packed.is_name(),
             None => false,
         }
@@ -116,7 +104,7 @@ impl<'t> TokenStream<'t> {
     fn has_name_second(&self) -> bool
         ensures { result ≡ begins_with_name (drop 1 self.now.tokens) }
     {
-        TokenStream::scan(self.text, self.offset).begins_with_name()
+        TokenStream::scan(self.text, self.ahead.offset).begins_with_name()
     }
 
     /// Whether a further item of the list comes.

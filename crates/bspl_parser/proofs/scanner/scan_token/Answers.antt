@@ -2,20 +2,24 @@
 use Rattle.std.proofs.Common.{ℕ, ◌∙◌}
 use Rattle.bspl_parser.specs.declared.packed_token.PackedToken.{PackedToken}
 use Rattle.bspl_parser.proofs.ScanSteps.{room_left, token_from, packed_there, stop_from}
-use Rattle.bspl_parser.proofs.token_stream.TokenStream.scan.Goals as goal
+use Rattle.bspl_parser.proofs.scanner.scan_token.Goals as goal
 
-pub invariant_of-result : goal.invariant_of-result
-invariant_of-result c =
-    let offset : ℕ = c.after_gap-offset.result in
+pub returns-in_default-clause-ahead : goal.returns-in_default-clause-ahead
+returns-in_default-clause-ahead c =
     record {
       short = c.requires.short;
       within = c.after_gap-offset.ensures.within;
       packed = tt;
-      ended = stop_from c.args.text.now offset c.after_gap-offset.ensures.no_gap c.in_default.ensures.exact;
+      ended = stop_from c.args.text.now c.after_gap-offset.result c.after_gap-offset.ensures.no_gap c.in_default.ensures.exact;
     }
 
-pub invariant_of-result-2 : goal.invariant_of-result-2
-invariant_of-result-2 c =
+pub returns-clause-same : goal.returns-clause-same
+returns-clause-same c =
+    let packed : PackedToken = record { start = c.after_gap-offset.result; len = c.in-Some.len; kind = c.in-Some.kind } in
+    token_from c.args.text.now packed c.after_gap-offset.ensures.no_gap c.in-Some.ensures.exact ∙ c.after_gap-offset.ensures.same
+
+pub returns-clause-ahead : goal.returns-clause-ahead
+returns-clause-ahead c =
     let text = c.args.text.now in
     let offset : ℕ = c.after_gap-offset.result in
     let packed : PackedToken = record { start = offset; len = c.in-Some.len; kind = c.in-Some.kind } in
@@ -25,8 +29,3 @@ invariant_of-result-2 c =
       packed = packed_there text packed c.after_gap-offset.ensures.within c.in-Some.ensures.exact;
       ended = tt;
     }
-
-pub returns : goal.returns
-returns c =
-    let packed : PackedToken = record { start = c.after_gap-offset.result; len = c.in-Some.len; kind = c.in-Some.kind } in
-    token_from c.args.text.now packed c.after_gap-offset.ensures.no_gap c.in-Some.ensures.exact ∙ c.after_gap-offset.ensures.same
