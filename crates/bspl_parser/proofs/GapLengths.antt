@@ -80,10 +80,12 @@ pub gap_is_passed : (bytes : List ℕ) → IsPassed bytes (gap_len bytes)
 unfolding gap_len
 gap_is_passed bytes = gap_found bytes (starts_with eqb bytes (codes "//")) refl
 
+-- a comment ends within the bytes
 comment_within : (cs : List ℕ) (has : Bool) → ltb (1 + (1 + position_or_len is_lf cs)) (suc (suc (length cs))) ≡ has → option_map_or (λ index. index + 1) (cond has (Some (1 + (1 + position_or_len is_lf cs))) None) (suc (suc (length cs))) ≤ suc (suc (length cs))
 comment_within cs true has = (let inside = ltb-true (1 + (1 + position_or_len is_lf cs)) (suc (suc (length cs))) has in omega arith)
 comment_within cs false has = omega arith
 
+-- and so does a blank
 blank_within : (bytes : List ℕ) → blank_len bytes ≤ length bytes
 blank_within [] = omega arith
 blank_within (b ∷ bs) =
@@ -92,6 +94,7 @@ blank_within (b ∷ bs) =
       | inr other ↦ rw other (omega arith)
     ]
 
+-- and what is found of the two
 within_found : (bytes : List ℕ) (starts : Bool) → starts_with eqb bytes (codes "//") ≡ starts → cond starts (comment_len bytes) (blank_len bytes) ≤ length bytes
 within_found bytes true s =
     let cs = drop 2 bytes in

@@ -27,13 +27,14 @@ scan_skips (suc n) offset (b ∷ bs) within =
     let same : offset + 1 + n ≡ offset + suc n = omega arith in
     scan_skips n (offset + 1) bs (omega arith) ∙ ap (λ o. scan_after 0 o (drop n bs)) same
 
--- and so is a first part
+-- and so is what begins with the first byte
 skips_first : (n offset : ℕ) (b : ℕ) (bs : List ℕ) → 0 < n → n ≤ length (b ∷ bs) → scan_after (pred n) (offset + 1) bs ≡ scan_after 0 (offset + n) (drop n (b ∷ bs))
 skips_first zero offset b bs some within = absurd (omega arith)
 skips_first (suc n) offset b bs some within =
     let same : offset + 1 + n ≡ offset + suc n = omega arith in
     scan_skips n (offset + 1) bs (omega arith) ∙ ap (λ o. scan_after 0 o (drop n bs)) same
 
+-- what has a length is no length of 0
 some_gap : (n : ℕ) → 0 < n → eqb n 0 ≡ false
 some_gap n some =
     elim (cases_Bool (eqb n 0)) [
@@ -97,6 +98,7 @@ packed_there text p inside found =
       named = λ is. subst (λ b. IsTrue (is_name (take p.len b))) (take_rest text p.start) (first.named is);
     }
 
+-- the scan stops at a bad byte, or at the end
 stop_at : (text : List ℕ) (offset : ℕ) (more : Bool) → ltb offset (length text) ≡ more → gap_len (drop offset text) ≡ 0 → first_token (drop offset text) ≡ None → scan_from text offset ≡ stopped (cond more (Some offset) None)
 stop_at text offset true more no_gap none =
     let within = ltb-true offset (length text) more in

@@ -140,13 +140,14 @@ fn after_gap(text: &[u8], start: usize) -> usize
 /// How far a text was scanned.
 #[derive(Drop)]
 pub struct Ahead {
-    /// The token that was scanned last, if there was one more.
+    /// The token that was scanned last, unless the scan came to its end.
     pub token: Option<PackedToken>,
     /// Where the scan goes on.
     pub offset: usize,
 }
 
-/// Scans one token more. Afterwards the scan is that of before, which goes on from the offset.
+/// Scans from the offset to the end of the next token, which takes the place of the one before. It
+/// works in place, since it is called once for each token of a text.
 pub fn scan_token(text: &[u8], ahead: &mut Ahead)
     requires short { length text.now ≤ 4294967295 }
     requires within { ahead.old.offset ≤ length text.now }
