@@ -1,90 +1,128 @@
--- What a map of first indices finds.
-use Rattle.std.proofs.Common.{◌≡◌, ◌≢◌, ◌<◌, arith, ℕ, Bool, true, false, cond, List, [], ◌∷◌, ◌++◌, length, Option, Some, None, refl, sym, ◌∙◌, ap, subst, ⊎_elim}
-use Rattle.std.specs.Prelude.{◌↔◌, ◌==◌, IsTrue, is_some, not}
-use denote.Ref.{Bor}
+-- What a map of first indices finds after a name more.
+use Rattle.std.proofs.Common.{◌≡◌, ◌≢◌, ◌<◌, arith, ℕ, true, false, cond, List, [], ◌∷◌, ◌++◌, length, get_or, Option, Some, None, refl, sym, ◌∙◌, ap, subst, ⊎_elim}
+use Rattle.std.specs.Prelude.{nat_eq}
 use Rattle.std.specs.Option.{option_or, unwrap_or}
-use Rattle.std.specs.Ordering.{nat_cmp, is_eq}
 use Rattle.std.specs.Str.{bytes_eq}
-use Rattle.std.specs.Cmp.{eq_by_cmp_equiv}
-use Rattle.std.specs.Cmp.Lexicographic.{slice_cmp, nat_list_cmp_total, nat_list_eq_equiv}
-use Rattle.std.specs.List.{Contains, position}
-use Rattle.std.specs.BTreeMap.{BTreeMap, UpdatesBy, get_by}
-use Rattle.std.specs.Map.{lookup, IsKeyTest, AreApart, KeepsOthers}
+use Rattle.std.specs.List.{position}
 use Rattle.std.proofs.lemmas.Bool.Decides.{nat_tests}
-use Rattle.std.proofs.lemmas.Bool.{cases_Bool, cond-true, cond-false}
-use Rattle.std.proofs.lemmas.Map.Text.{is_eq-slice_cmp}
+use Rattle.std.proofs.lemmas.Bool.{cases_Bool}
+use Rattle.std.proofs.lemmas.List.{get_or_append_left, length-append}
+use Rattle.std.proofs.Math.Seq.{get_or-append_seam}
 use Rattle.std.proofs.lemmas.Slice.Eq.{bytes_eq-Decides}
-use Rattle.list_base.proofs.FirstIndex.{first_index, has_index, is_name_at, position_push}
-use Rattle.protocol_names.specs.inner.IndexMap.{IsIndexMap}
+use Rattle.list_base.proofs.FirstIndex.{is_name_at, position_push}
+use Rattle.protocol_names.specs.inner.IndexMap.{IsIndexMap, chosen, number_of}
 
--- what a lookup by bytes finds
-abbrev pub found : BTreeMap (Bor (List ℕ)) ℕ → List ℕ → Option ℕ
-found table name = get_by (λ key. slice_cmp nat_cmp name key.now) table
+-- nothing else is found than before
+or_none : (o : Option ℕ) → option_or o None ≡ o
+or_none None = refl
+or_none (Some k) = refl
 
--- a key that is found by other bytes is not found by these
-apart : (bs cs ks : List ℕ) → bytes_eq bs cs ≡ false → is_eq (slice_cmp nat_cmp bs ks) ≡ true → is_eq (slice_cmp nat_cmp cs ks) ≡ false
-apart bs cs ks differ same = is_eq-slice_cmp cs ks ∙ nat_list_eq_equiv.symm cs ks ∙ sym (nat_list_eq_equiv.congr bs ks cs (sym (is_eq-slice_cmp bs ks) ∙ same)) ∙ differ
+-- numbers that pass the test are equal
+pub same_number : (m n : ℕ) → nat_eq m n ≡ true → m ≡ n
+same_number m n equal_is = grind (arith, nat_tests)
 
--- a change at one key leaves the others
-other_entries : {K X : Type 0} (eq : K → K → Bool) (test : K → Bool) (old new : List (K × X)) → KeepsOthers eq test old new → (other : K → Bool) → IsKeyTest eq other → AreApart test other → lookup other new ≡ lookup other old
-unfolding KeepsOthers
-other_entries eq test old new kept = kept
+-- and numbers that fail it are not
+other_number : (m n : ℕ) → nat_eq m n ≡ false → m ≢ n
+other_number m n differ_is same = grind (arith, nat_tests)
 
--- after an insertion at the bytes bs
-pub found_after : (bs : List ℕ) (old new : BTreeMap (Bor (List ℕ)) ℕ) (w : Option ℕ) → UpdatesBy (λ x y. slice_cmp nat_cmp x.now y.now) (λ k. slice_cmp nat_cmp bs k.now) old new w → (cs : List ℕ) → found new cs ≡ cond (bytes_eq bs cs) w (found old cs)
-found_after bs old new w updates cs =
-    ⊎_elim
-    (λ yes. subst (λ (l : List ℕ). found new l ≡ w) ((bytes_eq-Decides bs cs).0 yes) updates.1 ∙ sym (cond-true (bytes_eq bs cs) w (found old cs) yes))
-    (λ differ. other_entries _ _ _ _ updates.3 _ (λ x y. (eq_by_cmp_equiv nat_list_cmp_total).congr cs x.now y.now) (λ k. apart bs cs k.now differ) ∙ sym (cond-false (bytes_eq bs cs) w (found old cs) differ))
-    (cases_Bool (bytes_eq bs cs))
+-- an index of a name is the same with one name more
+chosen_more : (names : List (List ℕ)) (name last : List ℕ) (o other : Option ℕ) → ((i : ℕ) → o ≡ Some i → i < length names) → chosen (names ++ last ∷ []) name o other ≡ chosen names name o other
+chosen_more names name last None other within = refl
+chosen_more names name last (Some i) other within = ap (λ n. cond (bytes_eq n name) (Some i) other) (get_or_append_left names (last ∷ []) [] i (within i refl))
 
--- the same bytes
-same_name : (xs ys : List ℕ) → bytes_eq xs ys ≡ true → xs ≡ ys
-same_name xs ys = (bytes_eq-Decides xs ys).0
+-- other names are not at the end
+passed_over : (names : List (List ℕ)) (last name : List ℕ) → bytes_eq last name ≡ false → position (is_name_at name) (names ++ last ∷ []) ≡ position (is_name_at name) names
+passed_over names last name differ = position_push (is_name_at name) names last ∙ ap (λ b. option_or (position (is_name_at name) names) (cond b (Some (length names)) None)) differ ∙ or_none (position (is_name_at name) names)
 
--- the first index stays, and a new name gets the last
-pub placed : (names : List (List ℕ)) (name : List ℕ) (index first : ℕ) (old new : BTreeMap (Bor (List ℕ)) ℕ) → length names ≡ index → IsIndexMap names old → first ≡ unwrap_or (found old name) index → UpdatesBy (λ x y. slice_cmp nat_cmp x.now y.now) (λ k. slice_cmp nat_cmp name k.now) old new (Some first) → IsIndexMap (names ++ name ∷ []) new
-placed names name index first old new is_last is_map is_first updates = record {
-  finds = λ other.
-      let after = found_after name old new (Some first) updates other in
-      let pushed = position_push (is_name_at other) names name in
-      after ∙ ap (cond (bytes_eq name other) (Some first)) (is_map.finds other) ∙ joined (bytes_eq name other) (position (is_name_at other) names) (at other) ∙ sym pushed;
+-- so what was found of them is found
+others_stay : (names : List (List ℕ)) (last name : List ℕ) (numbers : ℕ → Option ℕ) (others : List ℕ → Option ℕ) → IsIndexMap names numbers others → bytes_eq last name ≡ false → chosen (names ++ last ∷ []) name (numbers (number_of name)) (others name) ≡ position (is_name_at name) (names ++ last ∷ [])
+others_stay names last name numbers others is_map differ = chosen_more names name last (numbers (number_of name)) (others name) (is_map.within (number_of name)) ∙ is_map.finds name ∙ sym (passed_over names last name differ)
+
+-- an index that was there is within more names
+still_within : (names : List (List ℕ)) (last : List ℕ) (i : ℕ) → i < length names → i < length (names ++ last ∷ [])
+still_within names last i below = let long = length-append names (last ∷ []) in omega (arith, below, long)
+
+-- a name whose number no other has
+pub new_number : (names : List (List ℕ)) (name : List ℕ) (numbers : ℕ → Option ℕ) (others : List ℕ → Option ℕ) → IsIndexMap names numbers others → numbers (number_of name) ≡ None → IsIndexMap (names ++ name ∷ []) (λ n. cond (nat_eq (number_of name) n) (Some (length names)) (numbers n)) others
+new_number names name numbers others is_map free = record {
+  finds = λ b. ⊎_elim (same b) (differs b) (cases_Bool (nat_eq (number_of name) (number_of b)));
+  within = λ n i. ⊎_elim (at n i) (before n i) (cases_Bool (nat_eq (number_of name) n));
+  taken = λ b. ⊎_elim (absurd_at b) (nothing b) (cases_Bool (nat_eq (number_of name) (number_of b)));
 }
   where
-    at : (other : List ℕ) → bytes_eq name other ≡ true → first ≡ unwrap_or (position (is_name_at other) names) (length names)
-    at other same = is_first ∙ (λ i. unwrap_or ((is_map.finds name ∙ ap (λ n. position (is_name_at n) names) (same_name name other same)) i) (sym is_last i))
+    now : ℕ → Option ℕ
+    now n = cond (nat_eq (number_of name) n) (Some (length names)) (numbers n)
 
-    joined : (b : Bool) (o : Option ℕ) → (b ≡ true → first ≡ unwrap_or o (length names)) → cond b (Some first) o ≡ option_or o (cond b (Some (length names)) None)
-    joined true None is = ap Some (is refl)
-    joined true (Some k) is = ap Some (is refl)
-    joined false None is = refl
-    joined false (Some k) is = refl
+    here : (n : ℕ) → nat_eq (number_of name) n ≡ true → now n ≡ Some (length names)
+    here n equal_is = ap (λ b. cond b (Some (length names)) (numbers n)) equal_is
 
--- the first index is another than the last exactly if the name was there
-pub was_there : (names : List (List ℕ)) (name : List ℕ) (index first : ℕ) (known : Bool) (old : BTreeMap (Bor (List ℕ)) ℕ) → length names ≡ index → IsIndexMap names old → first ≡ unwrap_or (found old name) index → known ≡ not (first == index) → IsTrue known ↔ Contains names name
-was_there names name index first known old is_last is_map is_first is_known = (
-  (λ yes. (has_index names name).0 (some (position (is_name_at name) names) is (differ yes))),
-  (λ among.
-      let at = first_index (is_name_at name) names ((has_index names name).1 among) in
-      let here : first ≡ at.0 = is ∙ ap (λ o. unwrap_or o index) at.2 in
-      is_known ∙ not_equal (omega (arith, at.1, here, is_last))),
-)
+    there : (n : ℕ) → nat_eq (number_of name) n ≡ false → now n ≡ numbers n
+    there n differ_is = ap (λ b. cond b (Some (length names)) (numbers n)) differ_is
+
+    same : (b : List ℕ) → nat_eq (number_of name) (number_of b) ≡ true → chosen (names ++ name ∷ []) b (now (number_of b)) (others b) ≡ position (is_name_at b) (names ++ name ∷ [])
+    same b equal_is =
+        let equal : number_of name ≡ number_of b = same_number (number_of name) (number_of b) equal_is in
+        let none : numbers (number_of b) ≡ None = sym (ap numbers equal) ∙ free in
+        let not_there : position (is_name_at b) names ≡ None = sym (is_map.finds b) ∙ ap (λ o. chosen names b o (others b)) none in
+        let last : get_or (names ++ name ∷ []) (length names) [] ≡ name = get_or-append_seam names name [] [] in
+        ap (λ o. chosen (names ++ name ∷ []) b o (others b)) (here (number_of b) equal_is) ∙ ap (λ n. cond (bytes_eq n b) (Some (length names)) (others b)) last ∙ ap (cond (bytes_eq name b) (Some (length names))) (is_map.taken b none) ∙ sym (position_push (is_name_at b) names name ∙ ap (λ o. option_or o (cond (bytes_eq name b) (Some (length names)) None)) not_there)
+
+    distinct : (b : List ℕ) → nat_eq (number_of name) (number_of b) ≡ false → bytes_eq name b ≡ false
+    distinct b differ_is = ⊎_elim (λ equal_is. absurd (other_number (number_of name) (number_of b) differ_is (ap number_of ((bytes_eq-Decides name b).0 equal_is)))) (λ differ. differ) (cases_Bool (bytes_eq name b))
+
+    differs : (b : List ℕ) → nat_eq (number_of name) (number_of b) ≡ false → chosen (names ++ name ∷ []) b (now (number_of b)) (others b) ≡ position (is_name_at b) (names ++ name ∷ [])
+    differs b differ_is = ap (λ o. chosen (names ++ name ∷ []) b o (others b)) (there (number_of b) differ_is) ∙ others_stay names name b numbers others is_map (distinct b differ_is)
+
+    at : (n i : ℕ) → nat_eq (number_of name) n ≡ true → now n ≡ Some i → i < length (names ++ name ∷ [])
+    at n i equal_is is = let long = length-append names (name ∷ []) in let same : Some (length names) ≡ Some i = sym (here n equal_is) ∙ is in let equal : length names ≡ i = cc same in omega (arith, long, equal)
+
+    before : (n i : ℕ) → nat_eq (number_of name) n ≡ false → now n ≡ Some i → i < length (names ++ name ∷ [])
+    before n i differ_is is = still_within names name i (is_map.within n i (sym (there n differ_is) ∙ is))
+
+    absurd_at : (b : List ℕ) → nat_eq (number_of name) (number_of b) ≡ true → now (number_of b) ≡ None → others b ≡ None
+    absurd_at b equal_is is = let wrong : Some (length names) ≡ None = sym (here (number_of b) equal_is) ∙ is in absurd (cc wrong)
+
+    nothing : (b : List ℕ) → nat_eq (number_of name) (number_of b) ≡ false → now (number_of b) ≡ None → others b ≡ None
+    nothing b differ_is is = is_map.taken b (sym (there (number_of b) differ_is) ∙ is)
+
+-- a name that is there
+pub known_name : (names : List (List ℕ)) (name : List ℕ) (first : ℕ) (numbers : ℕ → Option ℕ) (others : List ℕ → Option ℕ) → IsIndexMap names numbers others → position (is_name_at name) names ≡ Some first → IsIndexMap (names ++ name ∷ []) numbers others
+known_name names name first numbers others is_map there = record {
+  finds = λ b. ⊎_elim (λ equal_is. subst (λ (c : List ℕ). chosen (names ++ name ∷ []) c (numbers (number_of c)) (others c) ≡ position (is_name_at c) (names ++ name ∷ [])) ((bytes_eq-Decides name b).0 equal_is) here) (others_stay names name b numbers others is_map) (cases_Bool (bytes_eq name b));
+  within = λ n i is. still_within names name i (is_map.within n i is);
+  taken = is_map.taken;
+}
   where
-    differ : IsTrue known → first ≢ index
-    differ is_true same = grind (arith, nat_tests)
+    here : chosen (names ++ name ∷ []) name (numbers (number_of name)) (others name) ≡ position (is_name_at name) (names ++ name ∷ [])
+    here = chosen_more names name name (numbers (number_of name)) (others name) (is_map.within (number_of name)) ∙ is_map.finds name ∙ there ∙ sym (position_push (is_name_at name) names name ∙ ap (λ o. option_or o (cond (bytes_eq name name) (Some (length names)) None)) there)
 
-    not_equal : first < index → not (first == index) ≡ true
-    not_equal below = grind (arith, nat_tests)
+-- where the number is that of another name, the name is found by its bytes
+pub found_by_bytes : (names : List (List ℕ)) (name : List ℕ) (first : ℕ) (numbers : ℕ → Option ℕ) (others : List ℕ → Option ℕ) → IsIndexMap names numbers others → numbers (number_of name) ≡ Some first → bytes_eq (get_or names first []) name ≡ false → others name ≡ position (is_name_at name) names
+found_by_bytes names name first numbers others is_map is differ = ap (λ b. cond b (Some first) (others name)) (sym differ) ∙ ap (λ o. chosen names name o (others name)) (sym is) ∙ is_map.finds name
 
-    is : first ≡ unwrap_or (position (is_name_at name) names) index
-    is = is_first ∙ ap (λ o. unwrap_or o index) (is_map.finds name)
+-- and gets its index there
+pub shared_number : (names : List (List ℕ)) (name : List ℕ) (first : ℕ) (numbers : ℕ → Option ℕ) (others : List ℕ → Option ℕ) → IsIndexMap names numbers others → numbers (number_of name) ≡ Some first → bytes_eq (get_or names first []) name ≡ false → IsIndexMap (names ++ name ∷ []) numbers (λ b. cond (bytes_eq name b) (Some (unwrap_or (others name) (length names))) (others b))
+shared_number names name first numbers others is_map is differ = record {
+  finds = λ b. ⊎_elim (λ equal_is. subst (λ (c : List ℕ). chosen (names ++ name ∷ []) c (numbers (number_of c)) (now c) ≡ position (is_name_at c) (names ++ name ∷ [])) ((bytes_eq-Decides name b).0 equal_is) here) (λ differ_is. ap (chosen (names ++ name ∷ []) b (numbers (number_of b))) (there b differ_is) ∙ others_stay names name b numbers others is_map differ_is) (cases_Bool (bytes_eq name b));
+  within = λ n i at. still_within names name i (is_map.within n i at);
+  taken = λ b free. ⊎_elim (λ equal_is. let same : name ≡ b = (bytes_eq-Decides name b).0 equal_is in let wrong : Some first ≡ None = sym is ∙ ap (λ (c : List ℕ). numbers (number_of c)) same ∙ free in absurd (cc wrong)) (λ differ_is. there b differ_is ∙ is_map.taken b free) (cases_Bool (bytes_eq name b));
+}
+  where
+    now : List ℕ → Option ℕ
+    now b = cond (bytes_eq name b) (Some (unwrap_or (others name) (length names))) (others b)
 
-    some : (o : Option ℕ) → first ≡ unwrap_or o index → first ≢ index → IsTrue (is_some o)
-    some None same differs = absurd (differs same)
-    some (Some k) same differs = refl
+    there : (b : List ℕ) → bytes_eq name b ≡ false → now b ≡ others b
+    there b differ_is = ap (λ t. cond t (Some (unwrap_or (others name) (length names))) (others b)) differ_is
 
--- so the test of the table is the test of the names
-pub is_held : (names value : List (List ℕ)) (table : BTreeMap (Bor (List ℕ)) ℕ) (name : List ℕ) (held : Bool) → names ≡ value → IsIndexMap names table → held ≡ is_some (found table name) → IsTrue held ↔ Contains value name
-is_held names value table name held same is_map is_found =
-    subst (λ ns. IsTrue held ↔ Contains ns name) same
-    (subst (λ b. IsTrue b ↔ Contains names name) (sym (is_found ∙ ap is_some (is_map.finds name))) (has_index names name))
+    itself : bytes_eq name name ≡ true
+    itself = (bytes_eq-Decides name name).1 refl
+
+    joined : (o : Option ℕ) → Some (unwrap_or o (length names)) ≡ option_or o (Some (length names))
+    joined None = refl
+    joined (Some k) = refl
+
+    here : chosen (names ++ name ∷ []) name (numbers (number_of name)) (now name) ≡ position (is_name_at name) (names ++ name ∷ [])
+    here =
+        chosen_more names name name (numbers (number_of name)) (now name) (is_map.within (number_of name)) ∙ ap (λ o. chosen names name o (now name)) is ∙ ap (λ t. cond t (Some first) (now name)) differ ∙ ap (λ t. cond t (Some (unwrap_or (others name) (length names))) (others name)) itself ∙ joined (others name)
+        ∙ ap (λ o. option_or o (Some (length names))) (found_by_bytes names name first numbers others is_map is differ)
+        ∙ sym (position_push (is_name_at name) names name ∙ ap (λ t. option_or (position (is_name_at name) names) (cond t (Some (length names)) None)) itself)

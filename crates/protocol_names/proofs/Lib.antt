@@ -4,4 +4,6 @@ pub mod Faults
 pub mod FaultOrderLemmas
 pub mod Lookups
 pub mod IndexMapLemmas
+pub mod KeptIndexLemmas
+pub mod MapEntryLemmas
 pub mod Uses

@@ -10,6 +10,7 @@ mod items;
 mod laws;
 mod name_table;
 mod names;
+mod number;
 mod params;
 mod protocol_table;
 mod references;

@@ -1,29 +1,40 @@
-ghost use Rattle.std.specs.Prelude.{◌≡◌, ◌↔◌, ℕ, List, [], ◌∷◌, ◌++◌, length, IsTrue, IfOk, OnOk, OnErr};
+ghost use Rattle.std.specs.Prelude.{◌≡◌, ◌<◌, ◌↔◌, ℕ, Some, nat_eq, List, [], ◌∷◌, ◌++◌, length};
+ghost use Rattle.std.specs.Prelude.{IsTrue, IfOk, OnOk, OnErr};
 ghost use Rattle.std.specs.List.{Contains, position};
 ghost use Rattle.std.specs.Str.{bytes_eq};
-ghost use Rattle.protocol_names.specs.inner.IndexMap.{IsIndexMap};
+ghost use Rattle.protocol_names.specs.inner.IndexMap.{IsIndexMap, KeepsIndex, bytes_of};
+ghost use Rattle.protocol_names.specs.inner.IndexMap.{at_number, at_name};
 
+use super::number::name_number;
 use bspl_types::{NoMemory, Seq};
 use std::alloc::Global;
 use std::collections::BTreeMap;
 use std::marker::Model;
 
-/// Names in order, found by an ordered map. The text lends them. Contracts see their bytes.
+/// A name is compared with each of this many names or fewer, which is faster than a map.
+const FEW_NAMES: usize = 8;
+
+/// Names in order, found by ordered maps. The text lends them. Contracts see their bytes.
+///
+/// One map has the first index of each number of a name. The other has the names whose number is
+/// that of another name: a comparison of bytes is dear, and hardly any name needs one there.
 #[derive(Drop)]
 pub struct NameTable<'n> {
     names: Seq<&'n [u8]>,
-    indices: BTreeMap<&'n [u8], usize>,
+    by_number: BTreeMap<u64, usize>,
+    by_bytes: BTreeMap<&'n [u8], usize>,
 }
 
 impl<'n> Model for NameTable<'n> {
     ghost use Rattle.std.specs.Prelude.{List, ℕ};
-    ghost use Rattle.protocol_names.specs.inner.IndexMap.{IsIndexMap, bytes_of};
+    ghost use Rattle.protocol_names.specs.inner.IndexMap.{IsIndexMap, bytes_of, at_number, at_name};
 
     ghost Value = { List (List ℕ) };
 
     ghost view = { λ r. bytes_of r.names };
 
-    ghost invariant = { λ r. IsIndexMap (bytes_of r.names) r.indices };
+    ghost invariant = { λ r.
+        IsIndexMap (bytes_of r.names) (at_number r.by_number) (at_name r.by_bytes) };
 }
 
 impl<'n> NameTable<'n> {
@@ -33,7 +44,8 @@ impl<'n> NameTable<'n> {
     {
         NameTable {
             names: Seq::new(alloc),
-            indices: BTreeMap::new(alloc),
+            by_number: BTreeMap::new(alloc),
+            by_bytes: BTreeMap::new(alloc),
         }
     }
 
@@ -48,14 +60,23 @@ impl<'n> NameTable<'n> {
     pub fn has(&self, name: &[u8]) -> bool
         ensures { IsTrue result ↔ Contains self.now name.now }
     {
-        self.indices.contains_key(name)
+        self.index(name).is_some()
     }
 
     /// The first index of the name, if it is there.
     pub fn index(&self, name: &[u8]) -> Option<usize>
         ensures { result ≡ position (λ n. bytes_eq n name.now) self.now }
     {
-        self.indices.get(name).copied()
+        if self.names.len() <= FEW_NAMES {
+            return first_index(self.names.as_slice(), name);
+        }
+        let Some(index) = self.by_number.get(&name_number(name)).copied() else {
+            return None;
+        };
+        if *self.names.at(index) == name {
+            return Some(index);
+        }
+        self.by_bytes.get(name).copied()
     }
 
     /// Adds the name at the end, and returns whether it was there. If so, it keeps its first index.
@@ -66,7 +87,8 @@ impl<'n> NameTable<'n> {
     {
         let index = self.names.len();
         self.names.push(name)?;
-        match keep_index(&mut self.indices, name, index) {
+        let (numbers, others) = (&mut self.by_number, &mut self.by_bytes);
+        match keep_index(self.names.as_slice(), numbers, others, name, index) {
             Ok(known) => Ok(known),
             Err(error) => {
                 self.names.pop();
@@ -85,20 +107,66 @@ impl<'n> NameTable<'n> {
     }
 }
 
-/// Writes the index of a name that comes after the others, unless it has one. Returns whether it
-/// has.
+/// The first index of the name, by comparing it with each name in turn.
+fn first_index(names: &[&[u8]], name: &[u8]) -> Option<usize>
+    ensures { result ≡ position (λ n. bytes_eq n.now name.now) names.now }
+{
+    names.iter().position(|n| *n == name)
+}
+
+/// Writes the index of the last name, unless it has one. Returns whether it has.
 fn keep_index<'n>(
-    indices: &mut BTreeMap<&'n [u8], usize>,
+    names: &[&'n [u8]],
+    by_number: &mut BTreeMap<u64, usize>,
+    by_bytes: &mut BTreeMap<&'n [u8], usize>,
     name: &'n [u8],
     index: usize,
 ) -> Result<bool, NoMemory>
-    ensures ok { (names : List (List ℕ)) → length names ≡ index → IsIndexMap names indices.old →
-        OnOk result (IsIndexMap (names ++ name.now ∷ []) indices.new) }
-    ensures known { (names : List (List ℕ)) → length names ≡ index → IsIndexMap names indices.old →
-        IfOk result (λ known. IsTrue known ↔ Contains names name.now) }
-    ensures err { (names : List (List ℕ)) → IsIndexMap names indices.old →
-        OnErr result (IsIndexMap names indices.new) }
+    requires within { (number i : ℕ) → at_number by_number.old number ≡ Some i →
+        i < length names.now }
+    requires last { index < length names.now }
+    ensures ok { (before : List (List ℕ)) → length before ≡ index →
+        bytes_of names.now ≡ before ++ name.now ∷ [] →
+        IsIndexMap before (at_number by_number.old) (at_name by_bytes.old) →
+        OnOk result
+        (IsIndexMap (bytes_of names.now) (at_number by_number.new) (at_name by_bytes.new)) }
+    ensures known { (before : List (List ℕ)) → length before ≡ index →
+        bytes_of names.now ≡ before ++ name.now ∷ [] →
+        IsIndexMap before (at_number by_number.old) (at_name by_bytes.old) →
+        IfOk result (λ known. IsTrue known ↔ Contains before name.now) }
+    ensures err { (before : List (List ℕ)) → length before ≡ index →
+        IsIndexMap before (at_number by_number.old) (at_name by_bytes.old) →
+        OnErr result (IsIndexMap before (at_number by_number.new) (at_name by_bytes.new)) }
 {
-    let first = *indices.entry(name)?.or_insert(index);
+    let first = keep_number(by_number, name_number(name), index)?;
+    if first == index {
+        return Ok(false);
+    }
+    if names[first] == name {
+        return Ok(true);
+    }
+    let first = keep_bytes(by_bytes, name, index)?;
     Ok(first != index)
+}
+
+/// Writes this index at the number, unless it has one. Returns the one that it has then.
+fn keep_number(map: &mut BTreeMap<u64, usize>, number: u64, index: usize) -> Result<usize, NoMemory>
+    ensures ok { IfOk result
+        (KeepsIndex nat_eq number index (at_number map.old) (at_number map.new)) }
+    ensures err { (n : ℕ) → OnErr result (at_number map.new n ≡ at_number map.old n) }
+{
+    Ok(*map.entry(number)?.or_insert(index))
+}
+
+/// Writes this index at the name, unless it has one. Returns the one that it has then.
+fn keep_bytes<'n>(
+    map: &mut BTreeMap<&'n [u8], usize>,
+    name: &'n [u8],
+    index: usize,
+) -> Result<usize, NoMemory>
+    ensures ok { IfOk result
+        (KeepsIndex bytes_eq name.now index (at_name map.old) (at_name map.new)) }
+    ensures err { (n : List ℕ) → OnErr result (at_name map.new n ≡ at_name map.old n) }
+{
+    Ok(*map.entry(name)?.or_insert(index))
 }
