@@ -7,13 +7,27 @@ use std::test::Fail;
 const TWO_FAULTS: &[u8] = b"P { roles A, A parameters any ID key }";
 
 /// The names of a table, in order.
-const NAMES: &[&[u8]] = &[b"buyer", b"seller", b"buyer", b"bank"];
+const NAMES: &[&[u8]] = &[
+    b"buyer",
+    b"seller",
+    b"buyer",
+    b"bank",
+    b"carrier",
+    b"first office of customs",
+    b"second office of customs",
+    b"insurer",
+    b"broker",
+    b"insurer",
+];
 
 /// Names, and their first indices in the table.
 const INDICES: &[(&[u8], Option<usize>)] = &[
     (b"buyer", Some(0)),
     (b"seller", Some(1)),
     (b"bank", Some(3)),
+    (b"first office of customs", Some(5)),
+    (b"second office of customs", Some(6)),
+    (b"insurer", Some(7)),
     (b"ban", None),
     (b"Seller", None),
 ];

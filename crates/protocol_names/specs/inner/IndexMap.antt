@@ -1,6 +1,6 @@
 -- A map from names to their first indices in a list.
 use Rattle.std.specs.Prelude.{◌≡◌, ℕ, ◌+◌, ◌-◌, ◌*◌, ◌%◌, ◌^◌, ◌<◌, Bool, cond, get_or}
-use Rattle.std.specs.Prelude.{List, [], map, length, Option, Some, None}
+use Rattle.std.specs.Prelude.{List, [], map, length, drop, Option, Some, None}
 use denote.Ref.{Bor}
 use Rattle.std.specs.List.{fold, position}
 use Rattle.std.specs.Option.{unwrap_or}
@@ -13,9 +13,14 @@ use Rattle.std.specs.BTreeMap.{BTreeMap, get, get_by}
 abbrev pub bytes_of : List (Bor (List ℕ)) → List (List ℕ)
 bytes_of names = map (λ n. n.now) names
 
--- the number of a name: minus its bytes as digits to the base 257, of which 64 bits are kept
+-- minus the bytes as digits to the base 257, of which 64 bits are kept
+abbrev pub number_to_base : List ℕ → ℕ
+number_to_base bytes =
+    fold (λ number byte. (number * 257 % 2 ^ 64 + (2 ^ 64 - byte)) % 2 ^ 64) 0 bytes
+
+-- the number of a name: that of its last sixteen bytes
 abbrev pub number_of : List ℕ → ℕ
-number_of name = fold (λ number byte. (number * 257 % 2 ^ 64 + (2 ^ 64 - byte)) % 2 ^ 64) 0 name
+number_of name = number_to_base (drop (length name - 16) name)
 
 -- the index at a number
 abbrev pub at_number : BTreeMap ℕ ℕ → ℕ → Option ℕ
