@@ -74,7 +74,8 @@ fn read_reference<'t>(
     stream: &mut TokenStream<'t>,
     protocol: Word<'t>,
 ) -> Result<Reference<'t>, ParseError>
-    ensures gives { Gives result stream.new.tokens (parse_reference protocol.entry stream.old.tokens) }
+    ensures gives { Gives result stream.new.tokens
+        (parse_reference protocol.entry stream.old.tokens) }
     ensures same { stream.new.bad_byte ≡ stream.old.bad_byte }
     ensures no_longer { OnOk result (length stream.new.tokens ≤ length stream.old.tokens) }
 {

@@ -24,8 +24,8 @@ fn answer(alloc: Global, protocol: &Admitted, text: &[u8]) -> Option<Result<(), 
     }
 }
 
-/// Logs for the liveness formula of Ping, and the answers. Its clauses 5 to 7 say that the message is
-/// sent, that a message that is sent binds the key, and that the key is unbound.
+/// Logs for the liveness formula of Ping, and the answers. Its clauses 5 to 7 say that the message
+/// is sent, that a message that is sent binds the key, and that the key is unbound.
 const ROWS: &[(&[u8], Result<(), Reject>)] = &[
     (b"log 1 liveness\nstep 5 1 6 -3 7\nend\n", Ok(())),
     (
