@@ -100,7 +100,7 @@ fn cycle_of(alloc: Global, graph: &Graph) -> Result<Option<u32>, NoMemory> {
 /// The weights: 1 for the last node, and this one for the others.
 fn weights_of(alloc: Global, graph: &Graph, weight: u64) -> Result<Vec<u64>, NoMemory>
     requires { 0 < length graph.now }
-    ensures { IfOk result (λ weights. length weights ≡ length graph.now) }
+    ensures { IfOk result (λ weights. length weights.items ≡ length graph.now) }
 {
     let mut weights = vec![in alloc; weight; graph.len()]?;
     weights[graph.len() - 1] = 1;
