@@ -22,6 +22,7 @@ use Rattle.adapter.specs.Kept.{AreApart, IsFor}
 use Rattle.adapter.specs.Pending.{is_of_pair, messages_of, pairs_of, pending}
 use Rattle.adapter.specs.Rules.{rules_of}
 use Rattle.agent_scripts.specs.Job.{Job}
+use Rattle.agent_scripts.specs.Script.{Script}
 use Rattle.local_store.specs.Consistent.{IsConsistent}
 use Rattle.local_store.specs.State.{acts_of, AddsKey, new_store, StoreState}
 use Rattle.played_runs.specs.Played.{Played}
@@ -29,7 +30,7 @@ use Rattle.stamped_history.specs.declared.entry.Entry.{Entry}
 use Rattle.stamped_history.specs.Entries.{events_of}
 use Rattle.stamped_history.specs.Explained.{history_at}
 use Rattle.world_run.specs.World.{histories_of}
-use Rattle.world_run.specs.inner.Opening.{AreOpened, incoming, IsOpened, own}
+use Rattle.world_run.specs.inner.Opening.{AreOpened, envelopes_to, events_of_role, IsOpened, opened_store, own}
 use Rattle.world_run.specs.inner.Underway.{AreSound, AreWhole, IsSent}
 use Rattle.world_run.proofs.WorldLemmas.{all_items, each_history, played_none}
 
@@ -67,12 +68,11 @@ room_needed job role =
     let pairs = pairs_count job.script.keys (messages_of job.protocol role) in
     omega (arith, short, pairs ∙ ap (λ n. length job.script.keys * n) count)
 
--- a desk without events, with all workload keys and that room, is kept
-pub opened : (job : Job) (role : ℕ) (d : DeskState) (room : ℕ) → IsConsistent d.store → room ≡ length job.script.keys * length (own job.protocol.messages role) + 1 → d.store ≡ record { protocol = job.protocol; role = role; keys = job.script.keys; entries = []; spare = room } → d.inbox.envelopes ≡ [] → length job.script.keys * length (incoming job.protocol.messages role) ≤ d.inbox.spare → IsOpened job role d
-opened job role d room consistent room_is store_is empty envelopes =
+-- a desk with that store is kept
+pub opened : (job : Job) (role : ℕ) (d : DeskState) → IsConsistent d.store → d.store ≡ opened_store job role → d.inbox.envelopes ≡ [] → envelopes_to job role ≤ d.inbox.spare → IsOpened job role d
+opened job role d consistent store_is empty envelopes =
     let entries : d.store.entries ≡ [] = ap (λ (s : StoreState). s.entries) store_is in
     let acts : acts_of d.store ≡ [] = ap events_of entries in
-    let spare : d.store.spare ≡ room = ap (λ (s : StoreState). s.spare) store_is in
     record {
       kept = record {
         protocol_is = ap (λ (s : StoreState). s.protocol) store_is;
@@ -80,19 +80,18 @@ opened job role d room consistent room_is store_is empty envelopes =
         consistent = consistent;
         once = subst (AllPairs AreApart) (sym acts) (λ i j e before within. absurd (omega (arith, within)));
         held = subst (λ ks. All (Contains ks) job.script.keys) (sym (ap (λ (s : StoreState). s.keys) store_is)) (All-contains_itself job.script.keys);
-        room = subst (λ h. length (pending h (pairs_of job.script.keys (messages_of job.protocol role))) < d.store.spare) (sym acts) (omega (arith, spare, room_is, room_needed job role));
+        room = subst (λ h. length (pending h (pairs_of job.script.keys (messages_of job.protocol role))) < d.store.spare) (sym acts) (omega (arith, ap (λ (s : StoreState). s.spare) store_is, room_needed job role));
         played = subst (Played job.protocol (rules_of job)) (sym acts) (played_none job);
         inbox = subst (λ es. All (IsFor job role) es) (sym empty) (All-nil (IsFor job role));
       };
-      no_events = entries;
+      store = store_is;
       no_envelopes = empty;
-      events = spare ∙ room_is;
       envelopes = envelopes;
     }
 
 -- the histories of such desks
 no_history : (job : Job) (desks : List DeskState) → AreOpened job desks → (role : ℕ) → history_at (histories_of desks) role ≡ []
-no_history job desks opened role = each_history (λ r h. h ≡ []) desks (λ r d at. (opened.each r d at).no_events) (λ r. refl) role
+no_history job desks opened role = each_history (λ r h. h ≡ []) desks (λ r d at. ap (λ (s : StoreState). s.entries) (opened.each r d at).store) (λ r. refl) role
 
 -- such desks are sound
 pub opened_sound : (job : Job) (desks : List DeskState) → AreOpened job desks → AreSound job desks
@@ -116,7 +115,7 @@ opened_sound job desks opened =
 -- and whole
 pub opened_whole : (job : Job) (desks : List DeskState) → AreOpened job desks → AreWhole job desks
 opened_whole job desks opened role d at i receiver among survives r_at =
-    absurd (nowhere (Emit i) (subst (λ es. Contains (events_of es) (Emit i)) (opened.each role d at).no_events among))
+    absurd (nowhere (Emit i) (subst (λ es. Contains (events_of es) (Emit i)) (ap (λ (s : StoreState). s.entries) (opened.each role d at).store) among))
 
 -- an item of a longer list was there, or is the last one
 item_push : {X : Type 0} (xs : List X) (x : X) (k : ℕ) (z : X) → slice_get (xs ++ x ∷ []) k ≡ Some z → (slice_get xs k ≡ Some z) ⊎ ((k ≡ length xs) × (x ≡ z))
@@ -176,10 +175,18 @@ pub product_small : (keys messages : ℕ) → keys ≤ 10000 → messages ≤ 64
 product_small keys messages few_keys few_messages = mul-le keys messages 10000 64 few_keys few_messages
 
 -- the store of a new desk, as it is made
-pub store_made : (job : Job) (role room : ℕ) (a : Expanded) (first held last : StoreState) → a ≡ job.protocol → first ≡ new_store a role → held ≡ record first { keys = job.script.keys } → last ≡ record held { spare = max held.spare room } → last ≡ record { protocol = job.protocol; role = role; keys = job.script.keys; entries = []; spare = room }
-store_made job role room a first held last a_is first_is held_is last_is =
+pub store_made : (job : Job) (role room : ℕ) (a : Expanded) (first held last : StoreState) → room ≡ events_of_role job role + 1 → a ≡ job.protocol → first ≡ new_store a role → held ≡ record first { keys = job.script.keys } → last ≡ record held { spare = max held.spare room } → last ≡ opened_store job role
+store_made job role room a first held last room_is a_is first_is held_is last_is =
     let one : first ≡ new_store job.protocol role = first_is ∙ ap (λ (x : Expanded). new_store x role) a_is in
     let two : held ≡ record { protocol = job.protocol; role = role; keys = job.script.keys; entries = []; spare = 0 } = held_is ∙ ap (λ (s : StoreState). record s { keys = job.script.keys }) one in
-    let most : max 0 room ≡ room = omega arith in
+    let most : max 0 room ≡ events_of_role job role + 1 = omega (arith, room_is) in
     last_is ∙ ap (λ (s : StoreState). record s { spare = max s.spare room }) two
     ∙ ap (λ (n : ℕ). record { protocol = job.protocol; role = role; keys = job.script.keys; entries = []; spare = n }) most
+
+-- as many keys as the script has
+pub keys_of_script : (job : Job) (s : Script) (n : ℕ) → n ≡ length s.keys → s ≡ job.script → n ≡ length job.script.keys
+keys_of_script job s n count is = count ∙ ap (λ (t : Script). length t.keys) is
+
+-- the messages of the job's protocol
+pub messages_of_job : (job : Job) (a x : Expanded) (messages : List Message) → messages ≡ x.messages → x ≡ a → a ≡ job.protocol → messages ≡ job.protocol.messages
+messages_of_job job a x messages are same is = are ∙ ap (λ (y : Expanded). y.messages) (same ∙ is)

@@ -1,6 +1,7 @@
-ghost use Rattle.std.specs.Prelude.{◌≡◌, ◌<◌, length, IfOk, OnOk};
+ghost use Rattle.std.specs.Prelude.{◌≡◌, ◌<◌, ◌≤◌, ◌+◌, [], length, IfOk, OnOk};
 ghost use Rattle.local_store.specs.State.{new_store};
-ghost use Rattle.world_run.specs.inner.Opening.{AreOpened, incoming, IsOpened, own};
+ghost use Rattle.world_run.specs.inner.Opening.{AreOpened, envelopes_to, events_of_role, incoming};
+ghost use Rattle.world_run.specs.inner.Opening.{IsOpened, opened_store, own};
 
 use super::world::DeskList;
 use adapter::Desk;
@@ -29,15 +30,42 @@ fn open_desk(alloc: Global, job: &Job, role: u32) -> Result<Desk, NoMemory>
     requires { role < length job.now.protocol.roles }
     ensures { IfOk result (IsOpened job.now role) }
 {
-    let messages = job.admitted().expanded().messages.as_slice();
-    let keys = job.script().count();
+    let store = open_store(alloc, job, role)?;
+    prove!(store.len() == 0);
+    let inbox = open_inbox(alloc, job, role)?;
+    Ok(Desk::of(store, inbox))
+}
+
+/// A store for the role, which holds all workload keys.
+fn open_store(alloc: Global, job: &Job, role: u32) -> Result<Store, NoMemory>
+    requires { role < length job.now.protocol.roles }
+    ensures { IfOk result (λ s. s ≡ opened_store job.now role) }
+{
+    let room = event_room(job, role);
     let mut store = Store::new(alloc, job.admitted(), role)?;
     hold_keys(&mut store, job)?;
-    store.reserve(keys as u32 * count_own(messages, role) as u32 + 1)?;
+    store.reserve(room)?;
+    Ok(store)
+}
+
+/// An inbox for the role.
+fn open_inbox(alloc: Global, job: &Job, role: u32) -> Result<Inbox, NoMemory>
+    ensures empty { IfOk result (λ b. b.envelopes ≡ []) }
+    ensures room { IfOk result (λ b. envelopes_to job.now role ≤ b.spare) }
+{
+    let messages = job.admitted().expanded().messages.as_slice();
     let mut inbox = Inbox::new(alloc);
-    inbox.reserve(keys as usize * count_incoming(messages, role))?;
-    prove!(store.len() == 0);
-    Ok(Desk::of(store, inbox))
+    inbox.reserve(job.script().count() as usize * count_incoming(messages, role))?;
+    Ok(inbox)
+}
+
+/// How many events the role's store has room for: one more than the role can have.
+fn event_room(job: &Job, role: u32) -> u32
+    ensures count { result ≡ events_of_role job.now role + 1 }
+    ensures few { result ≤ 640001 }
+{
+    let messages = job.admitted().expanded().messages.as_slice();
+    job.script().count() as u32 * count_own(messages, role) as u32 + 1
 }
 
 /// Makes all workload keys held.
