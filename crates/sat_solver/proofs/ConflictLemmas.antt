@@ -1,12 +1,11 @@
 -- What a false clause has of the current level, and that what is learned is lacked.
-use Rattle.std.proofs.Common.{◌≡◌, ◌≢◌, ℕ, ◌-◌, ◌<◌, Bool, true, false, Option, Some, None, option_map, List, [], inl, inr, get_or, sym, ap, ◌∙◌, subst, arith, Contains}
-use Rattle.std.proofs.lemmas.List.Elements.{All-contains, Contains-get_or}
+use Rattle.std.proofs.Common.{◌≡◌, ◌≢◌, ℕ, ◌-◌, ◌<◌, Bool, true, false, Option, Some, None, option_map, List, inl, inr, get_or, sym, ap, ◌∙◌, arith, Contains}
+use Rattle.std.proofs.lemmas.List.Elements.{All-contains}
 use Rattle.clause_core.specs.declared.literal.Lit.{Lit}
 use Rattle.clause_core.specs.Propagation.{MakesFalse, Falsifies, LeavesOnly, IsPropagated, IsLacked}
 use Rattle.refutation_log.specs.declared.refutation.Chain.{Chain}
 use Rattle.sat_trail.specs.declared.entry.Entry.{Entry}
 use Rattle.sat_trail.specs.Entry.{values_of, up_to}
-use Rattle.std.proofs.lemmas.Option.{get_or_from_slice_get, slice_get_within}
 use Rattle.clause_core.specs.Numbering.{Numbering, numbered, HasNumber}
 use Rattle.sat_trail.specs.State.{State, numbering_of}
 use Rattle.sat_trail.specs.Trail.{IsTrail}

@@ -1,9 +1,9 @@
 -- The entry at a position of the trail, and resolving on its literal.
-use Rattle.std.proofs.Common.{◌≡◌, ◌≢◌, ℕ, ◌+◌, ◌-◌, ◌<◌, ◌≤◌, false, Some, None, option_map, IsSome, List, [], ◌∷◌, ◌++◌, inl, inr, length, take, drop, get_or, slice_get, map, sym, ap, refl, ◌∙◌, subst, arith, Contains}
+use Rattle.std.proofs.Common.{◌≡◌, ◌≢◌, ℕ, ◌+◌, ◌<◌, false, Some, None, option_map, IsSome, List, [], ◌∷◌, ◌++◌, inl, inr, length, take, drop, get_or, slice_get, map, sym, ap, refl, ◌∙◌, subst, Contains}
 use Rattle.std.specs.Prelude.{option_and_then}
 use Rattle.std.proofs.lemmas.Bool.{eq-eqb}
 use Rattle.std.proofs.lemmas.List.{take_more, take-append-drop, drop_more}
-use Rattle.std.proofs.lemmas.Option.{slice_get-map, slice_get-get_or, slice_get_within}
+use Rattle.std.proofs.lemmas.Option.{slice_get-map, slice_get-get_or}
 use Rattle.clause_core.specs.declared.literal.Lit.{Lit}
 use Rattle.clause_core.specs.Literal.{negated}
 use Rattle.clause_core.specs.Propagation.{MakesFalse, LeavesOnly}

@@ -1,19 +1,17 @@
 -- What the solver has learned so far, and what that makes of its answers.
-use Rattle.std.proofs.Common.{◌≡◌, ◌≢◌, ℕ, ◌+◌, ◌-◌, ◌<◌, Bool, false, List, [], ◌∷◌, ◌++◌, inl, inr, length, get_or, sym, ap, refl, ◌∙◌, subst, append_assoc, append-nil, arith, All, Contains, length-append}
+use Rattle.std.proofs.Common.{◌≡◌, ◌≢◌, ℕ, ◌+◌, ◌<◌, Bool, List, [], ◌∷◌, ◌++◌, inl, inr, length, get_or, sym, ap, refl, ◌∙◌, subst, append_assoc, append-nil, arith, All, Contains, length-append}
 use Rattle.std.proofs.lemmas.Bool.{cases_eq}
-use Rattle.std.proofs.lemmas.List.{get_or_append_left}
-use Rattle.std.proofs.lemmas.List.Elements.{All-push, Contains-append_left, Contains-append_right, Contains-push, Contains-push_cases, Contains-get_or}
-use Rattle.std.proofs.lemmas.Option.{get_or_from_slice_get, slice_get_within}
+use Rattle.std.proofs.lemmas.List.Elements.{All-push, Contains-append_left, Contains-append_right, Contains-push, Contains-push_cases}
 use Rattle.clause_core.specs.declared.literal.Lit.{Lit}
 use Rattle.clause_core.specs.declared.formula.Formula.{Formula}
-use Rattle.clause_core.specs.Clause.{Satisfies, SatisfiesAll}
+use Rattle.clause_core.specs.Clause.{SatisfiesAll}
 use Rattle.clause_core.specs.Propagation.{IsLacked}
 use Rattle.refutation_log.specs.declared.refutation.Chain.{Chain}
 use Rattle.refutation_log.specs.declared.refutation.Log.{Log}
 use Rattle.refutation_log.specs.Ledger.{IsContaining, IsLive, Ledger}
 use Rattle.refutation_log.specs.Resolution.{Derives, DerivesAll, Folds, IsNew, ResolvesBy}
 use Rattle.refutation_log.specs.ResolutionLaws.{NewClausesAppend, PlainLogsResolve, StepsAppend}
-use Rattle.clause_core.specs.Numbering.{numbered, HasNumber}
+use Rattle.clause_core.specs.Numbering.{numbered}
 use Rattle.sat_trail.specs.State.{State, numbering_of, last_number}
 use Rattle.sat_trail.specs.Trail.{IsTrail, IsStart, Adds}
 use Rattle.sat_solver.specs.inner.Analysis.{Refuted, Learns, at_level}
@@ -21,6 +19,9 @@ use Rattle.sat_solver.specs.inner.Search.{KeepsClauses}
 use Rattle.sat_solver.specs.inner.Choice.{SatisfiesNumbered}
 use Rattle.sat_solver.proofs.NumberLemmas.{number_made, slice_get-append, number_among, others_keep, added_last, derives-agree}
 use Rattle.sat_solver.specs.inner.Progress.{AreLearned, HasLearned}
+use Rattle.sat_solver.specs.declared.learner.Learner.{Learner}
+use Rattle.sat_solver.specs.inner.Ending.{IsPlain}
+use Rattle.sat_solver.specs.inner.Learner.{IsLearning, IsNewLearner, LearnsOne, RefutesBy}
 use Rattle.sat_solver.specs.Outcome.{Refutes, Spends}
 use Rattle.sat_solver.proofs.ConflictLemmas.{IsLacked-learned}
 
@@ -100,11 +101,6 @@ HasLearned-learn f t new steps chain derives_more new_more known above learns = 
   where
     grown : length (f.clauses ++ known.derived) + 1 ≡ length ((f.clauses ++ known.derived) ++ learns.clause ∷ [])
     grown = omega (arith, length-append (f.clauses ++ known.derived) (learns.clause ∷ []))
-
--- the log has these steps and removes nothing
-pub record IsPlain (steps : List Chain) (log : Log) : Type 0 where
-  pub same : log.steps ≡ steps
-  pub none : log.removals ≡ []
 
 -- the laws of a log without removals: by live clauses, and by clauses that contain others
 pub record PlainLaws : Type 0 where
@@ -194,3 +190,33 @@ satisfies-formula f t steps v known satisfies k d within = satisfies (k + 1) (ge
 pub few-learned : (f : Formula) (t : State) (steps : List Chain) (budget : ℕ) → HasLearned f t steps → length steps < budget → length f.clauses + budget < 4294967296 → last_number t + 1 < 4294967296
 few-learned f t steps budget known short few =
     omega (arith, known.last, length-append f.clauses known.derived, known.learned.counted, short, few)
+
+-- nothing is learned yet
+pub IsLearning-start : (f : Formula) (l : Learner) → ¬ Contains f.clauses [] → IsNewLearner f l → IsLearning f l
+IsLearning-start f l no_empty new = record {
+  learned = subst (HasLearned f l.trail) (sym new.steps) (HasLearned-start f l.trail no_empty new.start new.sound);
+  lits = new.lits;
+  rule = new.rule;
+}
+
+-- a search changes no clause and no step
+pub IsLearning-search : (f : Formula) (l new : Learner) → IsLearning f l → KeepsClauses l.trail new.trail → new.steps ≡ l.steps → new.lits ≡ l.lits → new.rule.queue.vars ≡ l.rule.queue.vars → IsLearning f new
+IsLearning-search f l new known keeps steps lits rule = record {
+  learned = subst (HasLearned f new.trail) (sym steps) (HasLearned-search f l.trail new.trail l.steps known.learned keeps);
+  lits = ap (λ m. m.set.vars) lits ∙ known.lits ∙ sym keeps.vars;
+  rule = rule ∙ known.rule ∙ sym keeps.vars;
+}
+
+-- a clause is learned at a conflict
+pub IsLearning-learn : (f : Formula) (l new : Learner) → StepsAppend → NewClausesAppend → IsLearning f l → 0 < l.trail.level → LearnsOne l new → IsLearning f new
+IsLearning-learn f l new derives_more new_more known above one = record {
+  learned = subst (HasLearned f new.trail) (sym one.steps) (HasLearned-learn f l.trail new.trail l.steps one.chain derives_more new_more known.learned above one.learns);
+  lits = one.lits ∙ sym (ap (λ (s : State). s.vars) one.learns.adds.rest);
+  rule = one.rule ∙ known.rule ∙ sym (ap (λ (s : State). s.vars) one.learns.adds.rest);
+}
+
+-- a learner's log, once it has the last step, refutes the formula
+pub Refutes-by : PlainLaws → (f : Formula) (l new : Learner) (log : Log) (budget number : ℕ) → StepsAppend → NewClausesAppend → IsLearning f l → length l.steps < budget → RefutesBy number l new → IsPlain new.steps log → Refutes f budget log
+Refutes-by laws f l new log budget number derives_more new_more known short by plain =
+    Refutes-learned laws f l.trail l.steps log budget number by.chain by.clause derives_more new_more
+    (record { same = plain.same ∙ by.steps; none = plain.none }) known.learned short by.refuted

@@ -1,5 +1,5 @@
 -- The way along the trail to one literal of the current level.
-use Rattle.std.proofs.Common.{◌≡◌, ◌≢◌, ℕ, zero, suc, ◌+◌, ◌-◌, ◌<◌, ◌≤◌, false, not, Some, None, option_map, IsSome, List, [], ◌∷◌, ◌⊎◌, inl, inr, length, take, drop, get_or, slice_get, sym, ap, refl, ◌∙◌, subst, arith, Contains}
+use Rattle.std.proofs.Common.{◌≡◌, ◌≢◌, ℕ, zero, suc, ◌+◌, ◌-◌, ◌<◌, ◌≤◌, false, not, Some, None, option_map, IsSome, List, [], ◌∷◌, ◌⊎◌, inl, inr, length, take, drop, get_or, sym, ap, refl, ◌∙◌, subst, arith, Contains}
 use Rattle.std.proofs.lemmas.List.{take-append-drop}
 use Rattle.std.proofs.lemmas.List.Elements.{All-contains, Contains-get_or}
 use Rattle.clause_core.specs.declared.literal.Lit.{Lit}

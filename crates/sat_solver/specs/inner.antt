@@ -5,3 +5,5 @@ pub mod Progress
 pub mod LiteralSet
 pub mod Analysis
 pub mod Gathered
+pub mod Learner
+pub mod Ending

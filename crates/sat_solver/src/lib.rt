@@ -6,6 +6,7 @@ mod choice;
 mod conflict;
 mod decision_rule;
 mod false_lits;
+mod learner;
 mod lit_set;
 mod model;
 mod outcome;

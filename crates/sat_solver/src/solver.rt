@@ -1,19 +1,27 @@
 ghost use Rattle.std.specs.Prelude.{◌+◌, ◌^◌, ◌<◌, ◌≤◌, ◌↔◌, [], length, IfOk, IsTrue, Contains};
 ghost use Rattle.sat_solver.specs.Outcome.{IsOutcome};
+ghost use Rattle.sat_solver.specs.inner.Ending.{IsEnding};
+ghost use Rattle.sat_solver.specs.inner.Learner.{IsNewLearner};
 
-use super::analysis::{Derivation, refute};
-use super::conflict::learn_from;
-use super::decision_rule::DecisionRule;
-use super::false_lits::FalseLits;
+use super::learner::Learner;
 use super::model::model;
 use super::outcome::Outcome;
-use super::search::search;
 use super::search_stats::SearchStats;
-use clause_core::{Clause, Formula};
+use clause_core::{Assignment, Clause, Formula};
 use list_base::{NoMemory, Seq};
-use refutation_log::{ChainList, Log, new_clause_appends, plain_resolves, step_appends};
-use sat_trail::Trail;
+use refutation_log::{Log, new_clause_appends, plain_resolves, step_appends};
 use std::alloc::Global;
+
+/// How a search ends.
+#[derive(Drop)]
+pub enum Ending {
+    /// The assignment satisfies the formula.
+    Model(Assignment),
+    /// The last step derives the empty clause.
+    Refuted,
+    /// Each conflict of the budget had its step.
+    Spent,
+}
 
 /// Decides the formula by learning a clause at each conflict, as GRASP and Chaff do, with no more
 /// than `budget` conflicts.
@@ -39,29 +47,48 @@ pub fn solve_counted(
 {
     // law: a log without removals resolves if each step derives its clause from all before it
     plain_resolves();
-    let mut steps: ChainList = Seq::new(alloc);
     if has_empty(f.clauses.as_slice()) {
-        return Ok(Outcome::Unsat(Log::plain(alloc, steps)));
+        return Ok(Outcome::Unsat(Log::plain(alloc, Seq::new(alloc))));
     }
-    let mut trail = Trail::new(alloc, f)?;
-    let mut lits = FalseLits::new(alloc, f.vars)?;
-    let mut rule = DecisionRule::new(alloc, f.vars)?;
+    let mut learner = Learner::new(alloc, f)?;
+    let ending = search_within(alloc, f, budget, &mut learner, stats)?;
+    match ending {
+        Ending::Model(assignment) => Ok(Outcome::Sat(assignment)),
+        Ending::Refuted => Ok(Outcome::Unsat(learner.into_log(alloc))),
+        Ending::Spent => Ok(Outcome::Budget(learner.into_log(alloc))),
+    }
+}
+
+/// Searches and learns until the formula is decided or the budget is spent.
+fn search_within(
+    alloc: Global,
+    f: &Formula,
+    budget: u32,
+    learner: &mut Learner,
+    stats: &mut SearchStats,
+) -> Result<Ending, NoMemory>
+    requires few { length f.now.clauses + budget < 2 ^ 32 }
+    requires none { ¬ Contains f.now.clauses [] }
+    requires new { IsNewLearner f.now learner.old }
+    ensures { IfOk result (IsEnding f.now budget learner.new.steps) }
+{
+    // law: a log without removals resolves if each step derives its clause from all before it
+    plain_resolves();
     // law: a step at the end of a log derives its clause from all the clauses before it
     step_appends();
     // law: new clauses stay new if a new one comes after them
     new_clause_appends();
     for _ in 0..budget {
-        let Some(number) = search(&mut trail, f.vars, &mut rule, stats) else {
-            return Ok(Outcome::Sat(model(alloc, &trail, f.vars)?));
+        let Some(number) = learner.search(f.vars, stats) else {
+            return Ok(Ending::Model(model(alloc, &learner.trail, f.vars)?));
         };
-        if trail.level() == 0 {
-            let Derivation { chain, clause: _ } = refute(alloc, &trail, number, &mut lits)?;
-            steps.push(chain)?;
-            return Ok(Outcome::Unsat(Log::plain(alloc, steps)));
+        if learner.trail.level() == 0 {
+            learner.refute(alloc, number)?;
+            return Ok(Ending::Refuted);
         }
-        steps.push(learn_from(alloc, &mut trail, number, &mut lits, &mut rule)?)?;
+        learner.learn(alloc, number)?;
     }
-    Ok(Outcome::Budget(Log::plain(alloc, steps)))
+    Ok(Ending::Spent)
 }
 
 /// Whether one of the clauses is empty.

@@ -1,5 +1,5 @@
 -- There is a value for each variable, and the values satisfy, since no clause is false.
-use Rattle.std.proofs.Common.{◌≡◌, length, sym, ap, ◌∙◌, subst, arith}
+use Rattle.std.proofs.Common.{◌≡◌, length, subst, arith}
 use Rattle.sat_trail.specs.Entry.{values_of}
 use Rattle.sat_solver.proofs.ModelLemmas.{HasValues, satisfies-model}
 use Rattle.sat_solver.proofs.model.model.Goals as goal
