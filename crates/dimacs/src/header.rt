@@ -1,8 +1,8 @@
-ghost use Rattle.std.specs.Prelude.{◌≡◌, ◌≢◌, ◌≤◌, ℕ, IfOk, IfErr};
+ghost use Rattle.std.specs.Prelude.{◌≡◌, ◌≢◌, ◌≤◌, ◌∷◌, ℕ, List, IfOk, IfErr, MatchOption};
 ghost use Rattle.std.specs.Option.{option_copied};
 ghost use Rattle.refutation_log.specs.LogText.{numeral};
 ghost use Rattle.dimacs.specs.Dimacs.{HasHeader, IsHeader, clause_limit, text_lines, words_of};
-ghost use Rattle.dimacs.specs.inner.Reading.{HasNoHeader, lines_in};
+ghost use Rattle.dimacs.specs.inner.Reading.{HasNoHeader, header_form, lines_in, words_left};
 
 use super::refusal::Refusal;
 use super::words::{next_word, uncommented};
@@ -60,17 +60,38 @@ fn header_of(line: &[u8]) -> Result<Header, LineError>
     ensures err { IfErr result (λ error. error ≢ LineError.NoMemory →
         (vars clauses : ℕ) → ¬ IsHeader (words_of line.now) vars clauses) }
 {
-    let (first, rest) = next_word(Some(line)).ok_or(LineError::Form)?;
-    let (second, rest) = next_word(rest).ok_or(LineError::Form)?;
-    let (vars, rest) = next_word(rest).ok_or(LineError::Form)?;
-    let (clauses, rest) = next_word(rest).ok_or(LineError::Form)?;
-    if first != b"p".as_slice() || second != b"cnf".as_slice() || next_word(rest).is_some() {
-        return Err(LineError::Form);
+    let (vars, clauses) = counts_in(line).ok_or(LineError::Form)?;
+    let vars = count_of(vars, VARIABLE_LIMIT)?;
+    let clauses = count_of(clauses, CLAUSE_LIMIT)?;
+    Ok(Header { vars, clauses })
+}
+
+/// The two words after `p cnf`, if these are the words of the line.
+fn counts_in(line: &[u8]) -> Option<(&[u8], &[u8])>
+    ensures { MatchOption result
+        ((vars clauses : List ℕ) → words_of line.now ≢ header_form vars clauses)
+        (λ found. words_of line.now ≡ header_form found.0.now found.1.now) }
+{
+    let rest = word_after(Some(line), b"p")?;
+    let rest = word_after(rest, b"cnf")?;
+    let (vars, rest) = next_word(rest)?;
+    let (clauses, rest) = next_word(rest)?;
+    if next_word(rest).is_none() {
+        Some((vars, clauses))
+    } else {
+        None
     }
-    Ok(Header {
-        vars: count_of(vars, VARIABLE_LIMIT)?,
-        clauses: count_of(clauses, CLAUSE_LIMIT)?,
-    })
+}
+
+/// What is left after the first word, if that is the wanted one.
+fn word_after<'a>(fields: Option<&'a [u8]>, wanted: &[u8]) -> Option<Option<&'a [u8]>>
+    ensures { MatchOption result
+        ((words : List (List ℕ)) → words_left (option_copied fields.entry) ≢ wanted.now ∷ words)
+        (λ rest. words_left (option_copied fields.entry)
+        ≡ wanted.now ∷ words_left (option_copied rest)) }
+{
+    let (word, rest) = next_word(fields)?;
+    if word == wanted { Some(rest) } else { None }
 }
 
 /// The number that a word is, from 0 to the limit.

@@ -21,6 +21,10 @@ blank_parts (Some bytes) = slice_split parts_words bytes
 abbrev pub words_left : Option (List ℕ) → List (List ℕ)
 words_left left = filter is_word (blank_parts left)
 
+-- the words of a line that has these two after `p cnf`
+abbrev pub header_form : List ℕ → List ℕ → List (List ℕ)
+header_form vars clauses = codes "p" ∷ codes "cnf" ∷ vars ∷ clauses ∷ []
+
 -- the lines of what is left of a text
 abbrev pub lines_in : Option (List ℕ) → List (List ℕ)
 lines_in left = parts_in 10 left
