@@ -1,5 +1,5 @@
 -- What `run` answers, from what is read, verified and played.
-use Rattle.std.proofs.Common.{◌≡◌, ◌≢◌, ℕ, Bool, List, [], refl, sym, subst, append-nil}
+use Rattle.std.proofs.Common.{◌≡◌, ◌≢◌, ℕ, Bool, List, [], refl, sym, subst, ◌++◌}
 use Rattle.adapter.specs.Desk.{DeskState}
 use Rattle.agent_scripts.specs.declared.refusal.ScriptRefusal.{ScriptRefusal}
 use Rattle.agent_scripts.specs.declared.refusal.ScriptRefusal.TheVariants.{Form, NoMemory, Unknown}
@@ -16,9 +16,13 @@ use Rattle.verdict.specs.declared.outcome.Safety.TheVariants.{Safe, Undecided, U
 use Rattle.verdict.specs.declared.outcome.Verdicts.{Verdicts}
 use Rattle.world_run.specs.Finished.{IsFinished}
 use Rattle.world_run.specs.World.{HasHistories, histories_of}
+use Rattle.bspl_tool.specs.declared.answer_error.Aborted.TheVariants as aborted
+use Rattle.bspl_tool.specs.declared.answer_error.AnswerError.{AnswerError}
+use Rattle.bspl_tool.specs.declared.answer_error.AnswerError.TheVariants as error
 use Rattle.bspl_tool.specs.declared.rejection.Code.TheVariants.{S}
+use Rattle.bspl_tool.specs.declared.rejection.Rejection.{Rejection}
 use Rattle.bspl_tool.specs.declared.rejection.Field.TheVariants as field
-use Rattle.bspl_tool.specs.declared.status.Status.{Status}
+use Rattle.bspl_tool.specs.declared.reply.Reply.{Reply}
 use Rattle.bspl_tool.specs.Rejection.{script_rejection, with_one}
 use Rattle.bspl_tool.specs.RunAnswer.{AgentsText, IsJobAnswer, IsPlayedText, IsRunRefused, bad_script}
 use Rattle.bspl_tool.specs.VerifyAnswer.{IsVerdictAnswer}
@@ -32,6 +36,12 @@ script_refused threads x part (Unknown number) refused =
     bad_script (with_one (S 2) (field.Number number)) (record { refusal = Unknown number; refused = refused (λ is. absurd (cc)); rejection_is = refl })
 script_refused threads x part NoMemory refused = tt
 
+-- an error that rejects for no reason rejects for any
+pub never_refused : (P : Rejection → Type 0) (e : AnswerError) → RejectsFor (λ _. ⊥) e → RejectsFor P e
+never_refused P (error.Rejected rejection) never = absurd never
+never_refused P (error.Aborted aborted.ReadFault) never = absurd never
+never_refused P (error.Aborted aborted.NoMemory) never = tt
+
 -- the text that reports on a world which has come to its end
 pub finished_text : (job : Job) (x : Expanded) (script : Script) (desks : List DeskState) (text : List ℕ) → x ≡ job.protocol → script ≡ job.script → IsFinished job desks → ((run : List Event) → AreLocal x (histories_of desks) → HasHistories x desks run → IsWorldText x script run text) → IsPlayedText job text
 finished_text job x script desks text same same_script finished reports =
@@ -40,19 +50,19 @@ finished_text job x script desks text same same_script finished reports =
     let text_is = subst (λ y. IsWorldText y script finished.run text) same (reports finished.run local histories) in
     record { desks = desks; finished = finished; text_is = subst (λ s. IsWorldText job.protocol s finished.run text) same_script text_is }
 
--- agents do not play a protocol that is not found safe
-nothing_played : (job : Job) (safety : Safety) → ((log : Log) → safety ≢ Safe log) → AgentsText job safety []
+-- no agents play a protocol that is not found safe
+pub nothing_played : (job : Job) (safety : Safety) → ((log : Log) → safety ≢ Safe log) → AgentsText job safety []
 nothing_played job (Safe log) other = absurd (other log refl)
 nothing_played job (Unsafe run param first second) other = refl
 nothing_played job (Undecided log) other = refl
 
--- so the verdicts are the answer
-pub verdicts_alone : (brief : Bool) (budget : ℕ) (job : Job) (v : Verdicts) (out : List ℕ) (status : Status) → IsVerdictAnswer brief budget job.protocol v out status → ((log : Log) → v.safety ≢ Safe log) → IsJobAnswer brief budget job out status
-verdicts_alone brief budget job v out status verified other = record {
+-- the reply of verdicts, and then what the agents play, is the answer
+pub job_answered : (brief : Bool) (budget : ℕ) (job : Job) (v : Verdicts) (verified : Reply) (played : List ℕ) (reply : Reply) → IsVerdictAnswer brief budget job.protocol v verified.text verified.status → AgentsText job v.safety played → reply ≡ record verified { text = verified.text ++ played } → IsJobAnswer brief budget job reply.text reply.status
+job_answered brief budget job v verified played reply answer agents is = rw is (record {
   verdicts = v;
-  verdict_text = out;
-  verified = verified;
-  agents_text = [];
-  played = nothing_played job v.safety other;
-  text = sym (append-nil out);
-}
+  verdict_text = verified.text;
+  verified = answer;
+  agents_text = played;
+  played = agents;
+  text = refl;
+})

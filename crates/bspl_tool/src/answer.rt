@@ -4,7 +4,9 @@ ghost use Rattle.bspl_types.specs.Limits.{input_limit};
 ghost use Rattle.bspl_tool.specs.Answer.{IsAnswer, IsPartRefused};
 ghost use Rattle.bspl_tool.specs.Output.{AnswersInput};
 ghost use Rattle.bspl_tool.specs.Refusals.{RefusesInput};
-ghost use Rattle.bspl_tool.specs.Task.{HasBudget};
+ghost use Rattle.bspl_tool.specs.ExpandAnswer.{IsExpandAnswer};
+ghost use Rattle.bspl_tool.specs.Task.{HasBudget, IsBudget};
+ghost use Rattle.bspl_tool.specs.VerifyAnswer.{IsVerifyAnswer};
 ghost use Rattle.bspl_tool.specs.inner.Error.{HasFailed, RejectsFor};
 ghost use Rattle.bspl_tool.specs.inner.Reply.{IsAborted, IsCause, IsReply};
 
@@ -42,8 +44,8 @@ fn answer_task(
     ensures refused { IfErr result (RejectsFor (IsPartRefused task protocol part.now)) }
 {
     match task {
-        Task::Expand => Ok(expand(alloc, &protocol)?),
-        Task::Verify { brief, conflicts } => Ok(verify(alloc, brief, conflicts, &protocol)?),
+        Task::Expand => expand_answer(alloc, &protocol),
+        Task::Verify { brief, conflicts } => verify_answer(alloc, brief, conflicts, &protocol),
         Task::Check => check(alloc, &protocol, part),
         Task::Replay => replay(alloc, &protocol, part),
         Task::Run {
@@ -52,6 +54,29 @@ fn answer_task(
             threads,
         } => run(alloc, brief, conflicts, threads, protocol, part),
     }
+}
+
+/// The answer to `expand`. It is never refused.
+fn expand_answer(alloc: Global, protocol: &Admitted) -> Result<Reply, AnswerError>
+    ensures ok { IfOk result (λ reply. IsExpandAnswer protocol.now reply.text reply.status) }
+    ensures refused { IfErr result (RejectsFor (λ _. ⊥)) }
+{
+    Ok(expand(alloc, protocol)?)
+}
+
+/// The answer to `verify`. It is never refused.
+fn verify_answer(
+    alloc: Global,
+    brief: bool,
+    conflicts: u32,
+    protocol: &Admitted,
+) -> Result<Reply, AnswerError>
+    requires { IsBudget conflicts }
+    ensures ok { IfOk result (λ reply.
+        IsVerifyAnswer brief conflicts protocol.now reply.text reply.status) }
+    ensures refused { IfErr result (RejectsFor (λ _. ⊥)) }
+{
+    Ok(verify(alloc, brief, conflicts, protocol)?)
 }
 
 /// Answers the task on an input that was read.

@@ -1,6 +1,9 @@
-ghost use Rattle.std.specs.Prelude.{IfErr, IfOk};
+ghost use Rattle.std.specs.Prelude.{◌≡◌, ◌++◌, IfErr, IfOk};
+ghost use Rattle.agent_scripts.specs.Refusal.{IsScriptText};
 ghost use Rattle.enactment_model.specs.Safety.{SafeProtocol};
-ghost use Rattle.bspl_tool.specs.RunAnswer.{IsJobAnswer, IsPlayedText, IsRunAnswer, IsRunRefused};
+ghost use Rattle.refutation_log.specs.declared.refutation.Log.{Log};
+ghost use Rattle.verdict.specs.declared.outcome.Safety.TheVariants as safeties;
+ghost use Rattle.bspl_tool.specs.RunAnswer.{AgentsText, IsJobAnswer, IsPlayedText, IsRunAnswer, IsRunRefused};
 ghost use Rattle.bspl_tool.specs.Task.{IsBudget};
 ghost use Rattle.bspl_tool.specs.inner.Error.{RejectsFor};
 
@@ -8,7 +11,7 @@ use super::answer_error::AnswerError;
 use super::refusal::InputRefusal;
 use super::reply::Reply;
 use super::verify_command::{VerdictReply, reply_with_verdicts};
-use agent_scripts::Job;
+use agent_scripts::{Agents, Job};
 use bspl_types::{Admitted, Bytes, NoMemory};
 use report::world_text;
 use script_reader::read_scripts;
@@ -31,12 +34,38 @@ pub fn run(
         IsRunAnswer brief conflicts threads protocol part.now reply.text reply.status) }
     ensures refused { IfErr result (RejectsFor (IsRunRefused threads protocol part.now)) }
 {
-    let agents = read_scripts(alloc, part, &protocol)?;
+    let agents = agents_of(alloc, threads, &protocol, part)?;
+    let job = Job::of(protocol, agents);
+    job_answer(alloc, brief, conflicts, &job)
+}
+
+/// What the text says of the agents, if no threads are asked for.
+fn agents_of(
+    alloc: Global,
+    threads: u32,
+    protocol: &Admitted,
+    part: &[u8],
+) -> Result<Agents, AnswerError>
+    ensures no_threads { IfOk result (λ _. threads ≡ 0) }
+    ensures ok { IfOk result (λ agents.
+        IsScriptText protocol.now part.now agents.script agents.plan) }
+    ensures refused { IfErr result (RejectsFor (IsRunRefused threads protocol.now part.now)) }
+{
+    let agents = read_scripts(alloc, part, protocol)?;
     if threads > 0 {
         return Err(AnswerError::from(InputRefusal::NotBuilt));
     }
-    let job = Job::of(protocol, agents);
-    Ok(job_reply(alloc, brief, conflicts, &job)?)
+    Ok(agents)
+}
+
+/// The answer to the job. It is never refused.
+fn job_answer(alloc: Global, brief: bool, conflicts: u32, job: &Job) -> Result<Reply, AnswerError>
+    requires { IsBudget conflicts }
+    ensures ok { IfOk result (λ reply.
+        IsJobAnswer brief conflicts job.now reply.text reply.status) }
+    ensures refused { IfErr result (RejectsFor (λ _. ⊥)) }
+{
+    Ok(job_reply(alloc, brief, conflicts, job)?)
 }
 
 /// The reply that gives the verdicts on the job's protocol. Its agents play only if it is found
@@ -46,14 +75,33 @@ fn job_reply(alloc: Global, brief: bool, conflicts: u32, job: &Job) -> Result<Re
     ensures { IfOk result (λ reply.
         IsJobAnswer brief conflicts job.now reply.text reply.status) }
 {
-    let protocol = job.admitted();
-    let VerdictReply { verdicts, reply } = reply_with_verdicts(alloc, brief, conflicts, protocol)?;
-    let Safety::Safe(_) = verdicts.safety else {
-        return Ok(reply);
+    let VerdictReply { verdicts, reply } = reply_with_verdicts(
+        alloc,
+        brief,
+        conflicts,
+        job.admitted(),
+    )?;
+    let played = agents_text(alloc, job, &verdicts.safety)?;
+    with_text(reply, played.as_slice())
+}
+
+/// The text of what the agents play if their protocol is found safe; else the empty one.
+fn agents_text(alloc: Global, job: &Job, safety: &Safety) -> Result<Bytes, NoMemory>
+    requires { (log : Log) → safety.now ≡ safeties.Safe log → SafeProtocol job.now.protocol }
+    ensures { IfOk result (AgentsText job.now safety.now) }
+{
+    let Safety::Safe(_) = safety else {
+        return Ok(Bytes::new(alloc));
     };
+    played_text(alloc, job)
+}
+
+/// The reply with more text after its own.
+fn with_text(reply: Reply, more: &[u8]) -> Result<Reply, NoMemory>
+    ensures { IfOk result (λ r. r ≡ record reply { text = reply.text ++ more.now }) }
+{
     let Reply { status, mut text } = reply;
-    let world = played_text(alloc, job)?;
-    text.append(world.as_slice())?;
+    text.append(more)?;
     Ok(Reply { status, text })
 }
 

@@ -1,4 +1,6 @@
-ghost use Rattle.std.specs.Prelude.{◌≡◌, ◌≢◌, IfOk};
+ghost use Rattle.std.specs.Prelude.{◌≡◌, ◌≢◌, ◌++◌, IfOk};
+ghost use Rattle.std.specs.Fmt.{decimal};
+ghost use Rattle.log_checker.specs.declared.refusal.Reject.TheVariants as rejects;
 ghost use Rattle.bspl_tool.specs.Claims.{claim_line};
 ghost use Rattle.bspl_tool.specs.Texts.{line, reject_text, usage_text};
 
@@ -29,28 +31,57 @@ pub fn reject_text(alloc: Global, reject: Reject) -> Result<Bytes, NoMemory>
     requires { reject ≢ Reject.NoMemory }
     ensures { IfOk result (λ text. text ≡ line (reject_text reject)) }
 {
-    let mut text = Bytes::from_slice(alloc, b"rejected ")?;
-    match reject {
-        Reject::NoClause { step } => {
-            text.append(b"step ")?;
-            text.append(step.to_string(alloc)?.as_bytes())?;
-            text.append(b" clause")?;
-        }
-        Reject::NoPivot { step, link } => {
-            text.append(b"step ")?;
-            text.append(step.to_string(alloc)?.as_bytes())?;
-            text.append(b" link ")?;
-            text.append(link.to_string(alloc)?.as_bytes())?;
-        }
-        Reject::NoDrop { after, item } => {
-            text.append(b"drop ")?;
-            text.append(after.to_string(alloc)?.as_bytes())?;
-            text.push(b' ')?;
-            text.append(item.to_string(alloc)?.as_bytes())?;
-        }
-        Reject::NotEmpty => text.append(b"not-empty")?,
-        Reject::NoMemory => return Err(NoMemory),
-    }
+    let mut text = reject_words(alloc, reject)?;
     text.push(b'\n')?;
+    Ok(text)
+}
+
+/// The words that name the first failure of a log.
+fn reject_words(alloc: Global, reject: Reject) -> Result<Bytes, NoMemory>
+    ensures { IfOk result (λ text. text ≡ reject_text reject) }
+{
+    match reject {
+        Reject::NoClause { step } => no_clause_words(alloc, step),
+        Reject::NoPivot { step, link } => {
+            two_numbers(alloc, b"rejected step ", step, b" link ", link)
+        }
+        Reject::NoDrop { after, item } => two_numbers(alloc, b"rejected drop ", after, b" ", item),
+        Reject::NotEmpty => Bytes::from_slice(alloc, b"rejected not-empty"),
+        Reject::NoMemory => Err(NoMemory),
+    }
+}
+
+/// The words for a step that names no clause.
+fn no_clause_words(alloc: Global, step: u32) -> Result<Bytes, NoMemory>
+    ensures { IfOk result (λ text. text ≡ reject_text (rejects.NoClause step)) }
+{
+    let mut text = one_number(alloc, b"rejected step ", step)?;
+    text.append(b" clause")?;
+    Ok(text)
+}
+
+/// A word and a number, and once more.
+fn two_numbers(
+    alloc: Global,
+    word: &[u8],
+    number: u32,
+    next_word: &[u8],
+    next_number: u64,
+) -> Result<Bytes, NoMemory>
+    ensures { IfOk result (λ text.
+        text ≡ word.now ++ decimal number ++ next_word.now ++ decimal next_number) }
+{
+    let mut text = one_number(alloc, word, number)?;
+    text.append(next_word)?;
+    text.append(next_number.to_string(alloc)?.as_bytes())?;
+    Ok(text)
+}
+
+/// A word and a number.
+fn one_number(alloc: Global, word: &[u8], number: u32) -> Result<Bytes, NoMemory>
+    ensures { IfOk result (λ text. text ≡ word.now ++ decimal number) }
+{
+    let mut text = Bytes::from_slice(alloc, word)?;
+    text.append(number.to_string(alloc)?.as_bytes())?;
     Ok(text)
 }

@@ -1,11 +1,18 @@
--- The verdicts are the answer if the protocol is not found safe.
+-- The answer is the verdicts' text and then the agents'.
 use Rattle.std.proofs.Common.{subst}
+use Rattle.std.proofs.lemmas.Result.{IfOk-weaker}
+use Rattle.bspl_tool.specs.declared.reply.Reply.{Reply}
+use Rattle.bspl_tool.specs.RunAnswer.{IsJobAnswer}
 use Rattle.bspl_tool.specs.VerifyAnswer.{IsVerdictAnswer}
-use Rattle.bspl_tool.proofs.RunAnswers.{verdicts_alone}
+use Rattle.bspl_tool.proofs.RunAnswers.{job_answered}
 use Rattle.bspl_tool.proofs.run_command.job_reply.Goals as goal
 
-pub returns-in_default : goal.returns-in_default
-returns-in_default c =
+pub returns : goal.returns
+returns c =
+    let brief = c.args.brief in
+    let budget = c.args.conflicts in
+    let job = c.args.job.now in
     let given = c.in_ok-verdicts.field-0 in
-    let right = subst (λ x. IsVerdictAnswer c.args.brief c.args.conflicts x given.verdicts given.reply.text given.reply.status) c.admitted-protocol.ensures c.in_ok-verdicts.ensures in
-    verdicts_alone c.args.brief c.args.conflicts c.args.job.now given.verdicts given.reply.text given.reply.status right c.in_default.not-Safe
+    let verified = subst (λ x. IsVerdictAnswer brief budget x given.verdicts given.reply.text given.reply.status) c.admitted.ensures c.in_ok-verdicts.ensures in
+    IfOk-weaker c.with_text.result _ (λ (reply : Reply). IsJobAnswer brief budget job reply.text reply.status)
+    (λ reply is. job_answered brief budget job given.verdicts given.reply c.as_slice.result.now reply verified (rw c.as_slice.ensures c.in_ok-played.ensures) is) c.with_text.ensures

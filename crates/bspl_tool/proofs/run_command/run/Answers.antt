@@ -1,30 +1,30 @@
 -- The answer is that to the job, once the agents' text is read.
-use Rattle.std.proofs.Common.{arith, subst, sym}
-use Rattle.std.proofs.lemmas.Result.{err_from_is_err_and}
-use Rattle.bspl_tool.specs.RunAnswer.{IsJobAnswer, IsRunRefused, not_supported}
+use Rattle.std.proofs.Common.{subst}
+use Rattle.std.proofs.lemmas.Result.{IfErr-weaker, IfOk-weaker}
+use Rattle.bspl_tool.specs.declared.reply.Reply.{Reply}
+use Rattle.bspl_tool.specs.RunAnswer.{IsJobAnswer, IsRunAnswer, IsRunRefused}
 use Rattle.bspl_tool.specs.inner.Error.{RejectsFor}
-use Rattle.bspl_tool.proofs.RunAnswers.{script_refused}
+use Rattle.bspl_tool.proofs.RunAnswers.{never_refused}
 use Rattle.bspl_tool.proofs.run_command.run.Goals as goal
-
-pub returns-in_err-agents-clause-refused : goal.returns-in_err-agents-clause-refused
-returns-in_err-agents-clause-refused c =
-    let p = err_from_is_err_and c.from_residual.result c.from_residual.ensures.1 in
-    rw (p.1, p.2) (script_refused c.args.threads c.args.protocol c.args.part.now c.in_err-agents.field-0.0 (λ named. c.in_err-agents.ensures.refused (λ is. named (cc))))
-
-pub returns-then-threads-gt0-clause-refused : goal.returns-then-threads-gt0-clause-refused
-returns-then-threads-gt0-clause-refused c =
-    subst (RejectsFor (IsRunRefused c.args.threads c.args.protocol c.args.part.now)) (sym c.from.ensures)
-    (not_supported c.in_ok-agents.agents.script c.in_ok-agents.agents.plan c.in_ok-agents.ensures.ok c.if-threads-gt0.true)
 
 pub of-job-requires : goal.of-job-requires
 of-job-requires c = record { text = c.args.part.now; plan = c.in_ok-agents.agents.plan; gives = c.in_ok-agents.ensures.ok }
 
 pub returns-clause-ok : goal.returns-clause-ok
 returns-clause-ok c =
-    let reply = c.in_ok-job_reply.field-0 in record {
-      no_threads = omega (arith, c.if-threads-gt0.false);
+    let brief = c.args.brief in
+    let budget = c.args.conflicts in
+    IfOk-weaker c.job_answer.result (λ (reply : Reply). IsJobAnswer brief budget c.of-job.result reply.text reply.status) (λ (reply : Reply). IsRunAnswer brief budget c.args.threads c.args.protocol c.args.part.now reply.text reply.status)
+    (λ reply answer. record {
+      no_threads = c.in_ok-agents.ensures.no_threads;
       script = c.in_ok-agents.agents.script;
       plan = c.in_ok-agents.agents.plan;
       given = c.in_ok-agents.ensures.ok;
-      answer = subst (λ job. IsJobAnswer c.args.brief c.args.conflicts job reply.text reply.status) c.of-job.ensures c.in_ok-job_reply.ensures;
-    }
+      answer = subst (λ job. IsJobAnswer brief budget job reply.text reply.status) c.of-job.ensures answer;
+    })
+    c.job_answer.ensures.ok
+
+pub returns-clause-refused : goal.returns-clause-refused
+returns-clause-refused c =
+    IfErr-weaker c.job_answer.result (RejectsFor (λ _. ⊥)) (RejectsFor (IsRunRefused c.args.threads c.args.protocol c.args.part.now))
+    (never_refused (IsRunRefused c.args.threads c.args.protocol c.args.part.now)) c.job_answer.ensures.refused
