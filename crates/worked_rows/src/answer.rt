@@ -16,29 +16,44 @@ pub(crate) struct Answer {
 /// What the program of the command gives for its arguments and the input.
 pub(crate) fn answer_to(alloc: Global, command: &[u8], input: &[u8]) -> Result<Answer, NoMemory> {
     let words = words_of(alloc, command)?;
-    let mut source = PlainSource::new(Bytes::from_slice(alloc, input)?);
-    let mut sink = PlainSink::new(alloc);
-    let status = match words.as_slice().split_first() {
-        Some((program, args)) => status_of(alloc, program, args, &mut source, &mut sink),
-        None => None,
-    };
-    Ok(Answer {
-        status: match status {
-            Some(number) => number.to_string(alloc)?,
-            None => "no such program".to_string(alloc)?,
-        },
-        output: Bytes::from_slice(alloc, sink.written())?,
-    })
+    let input = Bytes::from_slice(alloc, input)?;
+    answer_to_words(alloc, words.as_slice(), PlainSource::new(input))
 }
 
-/// The exit status of the program of that name.
+/// What the program that the first word names gives for the other words and the source.
+fn answer_to_words(
+    alloc: Global,
+    words: &[String],
+    mut source: PlainSource,
+) -> Result<Answer, NoMemory> {
+    let mut sink = PlainSink::new(alloc);
+    let status = status_of(alloc, words, &mut source, &mut sink);
+    answer_of(alloc, status, sink.written())
+}
+
+/// The answer with this status and this output.
+fn answer_of(alloc: Global, status: Option<u8>, output: &[u8]) -> Result<Answer, NoMemory> {
+    let status = status_text(alloc, status)?;
+    let output = Bytes::from_slice(alloc, output)?;
+    Ok(Answer { status, output })
+}
+
+/// The number of a status. Without one there was no program.
+fn status_text(alloc: Global, status: Option<u8>) -> Result<String, NoMemory> {
+    match status {
+        Some(number) => Ok(number.to_string(alloc)?),
+        None => Ok("no such program".to_string(alloc)?),
+    }
+}
+
+/// The exit status of the program that the first word names.
 fn status_of(
     alloc: Global,
-    program: &String,
-    args: &[String],
+    words: &[String],
     source: &mut PlainSource,
     sink: &mut PlainSink,
 ) -> Option<u8> {
+    let (program, args) = words.split_first()?;
     match program.as_str() {
         "bspl" => Some(bspl_status(alloc, args, source, sink)),
         "bspl_formula" => Some(formula_status(alloc, args, source, sink)),

@@ -14,37 +14,58 @@ struct Verdicts {
 }
 
 impl Verdicts {
-    /// Takes a line. At the end of a block it is tried: one that holds leaves a line, any other
-    /// stays.
+    /// Takes a line. At the end of a block it is tried.
     fn take(&mut self, alloc: Global, input: &[u8], line: &[u8]) -> Result<(), NoMemory> {
         if self.block.is_empty() && !begins_block(line) {
             return self.take_claim(alloc, line);
         }
         self.block.append(line)?;
         self.block.push(b'\n')?;
-        if line != b"end".as_slice() {
-            return Ok(());
-        }
-        let block = mem::replace(&mut self.block, Bytes::new(alloc));
-        let name = self.name.as_slice();
-        let holds = if block.as_slice().starts_with(b"log ") {
-            log_holds(alloc, name, input, self.claim.as_slice(), block.as_slice())?
+        if line == b"end".as_slice() {
+            self.end_block(alloc, input)
         } else {
-            run_holds(alloc, name, input, self.claim.as_slice(), block.as_slice())?
-        };
-        if !holds {
-            return self.lines.append(block.as_slice());
+            Ok(())
         }
-        self.lines.append(split_once(block.as_slice(), b' ').0)?;
+    }
+
+    /// Tries the block. One that holds leaves a line, any other stays.
+    fn end_block(&mut self, alloc: Global, input: &[u8]) -> Result<(), NoMemory> {
+        let block = mem::replace(&mut self.block, Bytes::new(alloc));
+        if self.holds(alloc, input, block.as_slice())? {
+            self.push_held(split_once(block.as_slice(), b' ').0)
+        } else {
+            self.lines.append(block.as_slice())
+        }
+    }
+
+    /// Whether the block proves the claim before it.
+    fn holds(&self, alloc: Global, input: &[u8], block: &[u8]) -> Result<bool, NoMemory> {
+        let name = self.name.as_slice();
+        let claim = self.claim.as_slice();
+        if block.starts_with(b"log ") {
+            log_holds(alloc, name, input, claim, block)
+        } else {
+            run_holds(alloc, name, input, claim, block)
+        }
+    }
+
+    /// Leaves a line for a block that begins with the word.
+    fn push_held(&mut self, word: &[u8]) -> Result<(), NoMemory> {
+        self.lines.append(word)?;
         self.lines.append(b" ..\n")
     }
 
-    /// Takes a line outside the blocks, without the positions of a conflict.
+    /// Takes a line outside the blocks.
     fn take_claim(&mut self, alloc: Global, line: &[u8]) -> Result<(), NoMemory> {
         if let Some(name) = line.strip_prefix(b"protocol ") {
             self.name = Bytes::from_slice(alloc, name)?;
         }
         self.claim = Bytes::from_slice(alloc, line)?;
+        self.push_claim(line)
+    }
+
+    /// Leaves the line, without the positions of a conflict.
+    fn push_claim(&mut self, line: &[u8]) -> Result<(), NoMemory> {
         match line.strip_prefix(b"safety unsafe ") {
             Some(conflict) => {
                 self.lines.append(b"safety unsafe ")?;
@@ -53,6 +74,15 @@ impl Verdicts {
             None => self.lines.append(line)?,
         }
         self.lines.push(b'\n')
+    }
+
+    /// Takes the lines of an output. A block that does not end stays.
+    fn take_output(&mut self, alloc: Global, input: &[u8], output: &[u8]) -> Result<(), NoMemory> {
+        let lines = output.strip_suffix(b"\n").unwrap_or(output);
+        for line in lines.split(|b| *b == b'\n') {
+            self.take(alloc, input, line)?;
+        }
+        self.lines.append(self.block.as_slice())
     }
 }
 
@@ -69,14 +99,7 @@ pub(crate) fn without_evidence(
         block: Bytes::new(alloc),
         lines: Bytes::new(alloc),
     };
-    for line in output
-        .strip_suffix(b"\n")
-        .unwrap_or(output)
-        .split(|b| *b == b'\n')
-    {
-        verdicts.take(alloc, input, line)?;
-    }
-    verdicts.lines.append(verdicts.block.as_slice())?;
+    verdicts.take_output(alloc, input, output)?;
     Ok(verdicts.lines)
 }
 
@@ -95,17 +118,29 @@ fn log_holds(
     block: &[u8],
 ) -> Result<bool, NoMemory> {
     let answer = answer_with_part(alloc, b"bspl check ", name, input, b"\n%% log\n", block)?;
+    is_accepted(alloc, claim, &answer)
+}
+
+/// Whether this answer to `check` is the one for the claim.
+fn is_accepted(alloc: Global, claim: &[u8], answer: &Answer) -> Result<bool, NoMemory> {
     let (kind, verdict) = split_once(claim, b' ');
     if verdict.is_some_and(|verdict| verdict.starts_with(b"undecided ")) {
-        return Ok(
-            answer.status.as_str() == "1"
-                && answer.output.as_slice() == b"rejected not-empty\n".as_slice(),
-        );
+        return Ok(is_answer(answer, "1", b"rejected not-empty\n"));
     }
-    let mut wanted = Bytes::from_slice(alloc, b"accepted ")?;
-    wanted.append(kind)?;
-    wanted.push(b'\n')?;
-    Ok(answer.status.as_str() == "0" && answer.output.as_slice() == wanted.as_slice())
+    let wanted = accepted_line(alloc, kind)?;
+    Ok(is_answer(answer, "0", wanted.as_slice()))
+}
+
+/// The line of an accepted log of the kind.
+fn accepted_line(alloc: Global, kind: &[u8]) -> Result<Bytes, NoMemory> {
+    let mut line = joined(alloc, b"accepted ", kind)?;
+    line.push(b'\n')?;
+    Ok(line)
+}
+
+/// Whether the answer has this status and this output.
+fn is_answer(answer: &Answer, status: &str, output: &[u8]) -> bool {
+    answer.status.as_str() == status && answer.output.as_slice() == output
 }
 
 /// Whether `replay` finds in the run what is claimed: the conflict, at these positions and the
@@ -121,12 +156,17 @@ fn run_holds(
     if answer.status.as_str() != "0" {
         return Ok(false);
     }
+    is_found(alloc, claim, answer.output.as_slice())
+}
+
+/// Whether this report of `replay` finds what is claimed.
+fn is_found(alloc: Global, claim: &[u8], report: &[u8]) -> Result<bool, NoMemory> {
     if let Some(conflict) = claim.strip_prefix(b"safety unsafe ") {
         let wanted = conflict_report(alloc, conflict)?;
-        return Ok(answer.output.as_slice().starts_with(wanted.as_slice()));
+        return Ok(report.starts_with(wanted.as_slice()));
     }
     Ok(match claim.strip_prefix(b"liveness not-live ") {
-        Some(param) => has_unbound(answer.output.as_slice(), param),
+        Some(param) => has_unbound(report, param),
         None => false,
     })
 }
@@ -134,12 +174,16 @@ fn run_holds(
 /// What `replay` reports first of a run that ends with the conflict.
 fn conflict_report(alloc: Global, conflict: &[u8]) -> Result<Bytes, NoMemory> {
     let second = conflict.split(|b| *b == b' ').last().unwrap_or(conflict);
-    let mut report = Bytes::from_slice(alloc, b"legal ")?;
-    report.append(second)?;
+    let mut report = joined(alloc, b"legal ", second)?;
+    push_conflict(&mut report, conflict)?;
+    Ok(report)
+}
+
+/// Appends the line of the conflict, after the end of the line before it.
+fn push_conflict(report: &mut Bytes, conflict: &[u8]) -> Result<(), NoMemory> {
     report.append(b"\nconflict ")?;
     report.append(conflict)?;
-    report.push(b'\n')?;
-    Ok(report)
+    report.push(b'\n')
 }
 
 /// Whether the report is on a legal run that leaves the parameter unbound where it is quiet.
@@ -164,10 +208,15 @@ fn answer_with_part(
     part_line: &[u8],
     part: &[u8],
 ) -> Result<Answer, NoMemory> {
-    let mut whole = Bytes::from_slice(alloc, command)?;
-    whole.append(name)?;
-    let mut text = Bytes::from_slice(alloc, input)?;
-    text.append(part_line)?;
+    let whole = joined(alloc, command, name)?;
+    let mut text = joined(alloc, input, part_line)?;
     text.append(part)?;
     answer_to(alloc, whole.as_slice(), text.as_slice())
+}
+
+/// Both texts, one after the other.
+fn joined(alloc: Global, first: &[u8], second: &[u8]) -> Result<Bytes, NoMemory> {
+    let mut text = Bytes::from_slice(alloc, first)?;
+    text.append(second)?;
+    Ok(text)
 }

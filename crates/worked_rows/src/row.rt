@@ -27,20 +27,27 @@ impl Row {
         })
     }
 
+    /// Takes a line: `= STATUS` or `~ STATUS`, which ends the input, or one of the input or the
+    /// output.
+    pub(crate) fn take_line(&mut self, alloc: Global, line: &[u8]) -> Result<(), NoMemory> {
+        if let Some(status) = line.strip_prefix(b"= ") {
+            return self.want(alloc, status, false);
+        }
+        match line.strip_prefix(b"~ ") {
+            Some(status) => self.want(alloc, status, true),
+            None => self.push_line(alloc, line),
+        }
+    }
+
     /// Ends the input with the status that is wanted.
-    pub(crate) fn want(
-        &mut self,
-        alloc: Global,
-        status: &[u8],
-        is_tried: bool,
-    ) -> Result<(), NoMemory> {
+    fn want(&mut self, alloc: Global, status: &[u8], is_tried: bool) -> Result<(), NoMemory> {
         self.status = Some(Bytes::from_slice(alloc, status)?);
         self.is_tried = is_tried;
         Ok(())
     }
 
     /// Puts a line to the input, or to the output once the status is known.
-    pub(crate) fn push_line(&mut self, alloc: Global, line: &[u8]) -> Result<(), NoMemory> {
+    fn push_line(&mut self, alloc: Global, line: &[u8]) -> Result<(), NoMemory> {
         if self.status.is_some() {
             append_line(alloc, &mut self.output, line)
         } else {
