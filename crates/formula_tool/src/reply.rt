@@ -4,7 +4,7 @@ ghost use Rattle.bspl_types.specs.Limits.{input_limit};
 ghost use Rattle.formula_text.specs.declared.property.Property.{Property};
 ghost use Rattle.formula_tool.specs.Output.{FormulaOutput};
 ghost use Rattle.formula_tool.specs.Request.{IsUsage, Requests};
-ghost use Rattle.formula_tool.specs.inner.Reply.{IsRejected, IsReply};
+ghost use Rattle.formula_tool.specs.inner.Reply.{IsPrinted, IsRejected, IsReply};
 
 use super::aborted::Aborted;
 use super::request::{Request, read_request};
@@ -13,7 +13,8 @@ use bspl_tool::{
     INPUT_LIMIT, InputRefusal, Rejection, Status, input_rejection, protocol_of, rejection_line,
     text_rejection,
 };
-use formula_text::formula_text;
+use bspl_types::Admitted;
+use formula_text::{Property, formula_text};
 use list_base::{Bytes, NoMemory};
 use std::alloc::Global;
 
@@ -72,12 +73,20 @@ fn formula_reply(alloc: Global, request: Request<'_>, input: &[u8]) -> Result<Re
         → IfOk result (λ reply. FormulaOutput args input.now reply.text reply.status) }
 {
     match protocol_of(alloc, request.name, input) {
-        Ok(protocol) => Ok(Reply {
-            status: Status::Done,
-            text: formula_text(alloc, request.property, &protocol)?,
-        }),
+        Ok(protocol) => printed(alloc, request.property, &protocol),
         Err(refusal) => refused(alloc, text_rejection(refusal)),
     }
+}
+
+/// The reply that gives the formula of a protocol.
+fn printed(alloc: Global, property: Property, protocol: &Admitted) -> Result<Reply, NoMemory>
+    ensures { IfOk result (IsPrinted property protocol.now) }
+{
+    let text = formula_text(alloc, property, protocol)?;
+    Ok(Reply {
+        status: Status::Done,
+        text,
+    })
 }
 
 /// The reply to an input that is too long.

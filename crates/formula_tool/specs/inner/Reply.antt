@@ -1,8 +1,11 @@
 -- What one call replies before it writes.
 use Rattle.std.specs.Prelude.{◌≡◌, ℕ, List, Option, Some}
+use Rattle.bspl_types.specs.declared.expanded.Expanded.{Expanded}
 use Rattle.bspl_tool.specs.declared.rejection.Rejection.{Rejection}
-use Rattle.bspl_tool.specs.declared.status.Status.TheVariants.{Refused}
+use Rattle.bspl_tool.specs.declared.status.Status.TheVariants.{Done, Refused}
 use Rattle.bspl_tool.specs.Rejection.{rejection_line}
+use Rattle.formula_text.specs.declared.property.Property.{Property}
+use Rattle.formula_text.specs.FormulaText.{IsFormulaText}
 use Rattle.formula_tool.specs.declared.reply.Reply.{Reply}
 use Rattle.formula_tool.specs.Call.{ReadsInput}
 use Rattle.formula_tool.specs.Output.{FormulaOutput}
@@ -20,3 +23,8 @@ pub record IsRejected (rejection : Option Rejection) (reply : Reply) : Type 0 wh
   pub given : rejection ≡ Some reason
   pub line : reply.text ≡ rejection_line reason
   pub refused : reply.status ≡ Refused
+
+-- it is the text of the protocol's formula
+pub record IsPrinted (property : Property) (x : Expanded) (reply : Reply) : Type 0 where
+  pub printed : IsFormulaText property x reply.text
+  pub done : reply.status ≡ Done

@@ -2,14 +2,20 @@
 use Rattle.std.proofs.Common.{◌≡◌, None, ap, sym, ◌∙◌}
 use Rattle.std.proofs.lemmas.Result.{IfOk-weaker}
 use Rattle.bspl_tool.specs.Rejection.{text_rejection}
-use Rattle.formula_tool.specs.inner.Reply.{IsRejected}
+use Rattle.formula_tool.specs.inner.Reply.{IsPrinted, IsRejected}
 use Rattle.formula_tool.specs.Output.{FormulaOutput, printed, text}
 use Rattle.formula_tool.proofs.ReplyLemmas.{rejected}
 use Rattle.formula_tool.proofs.reply.formula_reply.Goals as goal
 
-pub returns-in_ok-formula_text-in-Ok : goal.returns-in_ok-formula_text-in-Ok
-returns-in_ok-formula_text-in-Ok c =
-    λ args requests. printed c.args.request.name.now c.args.request.property _ requests (record { short = c.requires; protocol = c.in-Ok.protocol; declared = c.in-Ok.ensures.ok; printed = c.in_ok-formula_text-in-Ok.ensures })
+pub returns-in-Ok : goal.returns-in-Ok
+returns-in-Ok c =
+    let name = c.args.request.name.now in
+    let input = c.args.input.now in
+    let property = c.args.request.property in
+    let x = c.in-Ok.protocol in
+    λ args requests. IfOk-weaker c.printed.result (IsPrinted property x) (λ reply. FormulaOutput args input reply.text reply.status)
+    (λ reply is. rw is.done (printed name property reply.text requests (record { short = c.requires; protocol = x; declared = c.in-Ok.ensures.ok; printed = is.printed })))
+    c.printed.ensures
 
 pub returns-in-Err : goal.returns-in-Err
 returns-in-Err c =
