@@ -10,6 +10,7 @@ pub mod CommandLaws
 pub mod ExpandLaws
 pub mod VerifyLaws
 pub mod CheckLaws
+pub mod NeverRefused
 pub mod CheckAnswers
 pub mod ReplayLaws
 pub mod WorldLines

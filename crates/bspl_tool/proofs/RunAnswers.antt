@@ -1,10 +1,11 @@
 -- What `run` answers, from what is read, verified and played.
 use Rattle.std.proofs.Common.{◌≡◌, ◌≢◌, ℕ, Bool, List, [], refl, sym, subst, ◌++◌}
 use Rattle.adapter.specs.Desk.{DeskState}
+use Rattle.agent_scripts.specs.declared.plan.Plan.{Plan}
 use Rattle.agent_scripts.specs.declared.refusal.ScriptRefusal.{ScriptRefusal}
 use Rattle.agent_scripts.specs.declared.refusal.ScriptRefusal.TheVariants.{Form, NoMemory, Unknown}
 use Rattle.agent_scripts.specs.Job.{Job}
-use Rattle.agent_scripts.specs.Refusal.{IsRefusedScript}
+use Rattle.agent_scripts.specs.Refusal.{IsRefusedScript, IsScriptText}
 use Rattle.agent_scripts.specs.Script.{Script}
 use Rattle.bspl_types.specs.declared.event.Event.{Event}
 use Rattle.bspl_types.specs.declared.expanded.Expanded.{Expanded}
@@ -16,16 +17,13 @@ use Rattle.verdict.specs.declared.outcome.Safety.TheVariants.{Safe, Undecided, U
 use Rattle.verdict.specs.declared.outcome.Verdicts.{Verdicts}
 use Rattle.world_run.specs.Finished.{IsFinished}
 use Rattle.world_run.specs.World.{HasHistories, histories_of}
-use Rattle.bspl_tool.specs.declared.answer_error.Aborted.TheVariants as aborted
-use Rattle.bspl_tool.specs.declared.answer_error.AnswerError.{AnswerError}
-use Rattle.bspl_tool.specs.declared.answer_error.AnswerError.TheVariants as error
 use Rattle.bspl_tool.specs.declared.rejection.Code.TheVariants.{S}
-use Rattle.bspl_tool.specs.declared.rejection.Rejection.{Rejection}
 use Rattle.bspl_tool.specs.declared.rejection.Field.TheVariants as field
 use Rattle.bspl_tool.specs.declared.reply.Reply.{Reply}
 use Rattle.bspl_tool.specs.Rejection.{script_rejection, with_one}
-use Rattle.bspl_tool.specs.RunAnswer.{AgentsText, IsJobAnswer, IsPlayedText, IsRunRefused, bad_script}
+use Rattle.bspl_tool.specs.RunAnswer.{AgentsText, IsJobAnswer, IsPlayedText, IsRunAnswer, IsRunRefused, bad_script}
 use Rattle.bspl_tool.specs.VerifyAnswer.{IsVerdictAnswer}
+use Rattle.bspl_tool.specs.inner.Job.{IsGivenJob}
 use Rattle.bspl_tool.specs.inner.Error.{RejectsFor, error_for}
 
 -- a text that is no agents' is refused at its first bad line
@@ -36,11 +34,19 @@ script_refused threads x part (Unknown number) refused =
     bad_script (with_one (S 2) (field.Number number)) (record { refusal = Unknown number; refused = refused (λ is. absurd (cc)); rejection_is = refl })
 script_refused threads x part NoMemory refused = tt
 
--- an error that rejects for no reason rejects for any
-pub never_refused : (P : Rejection → Type 0) (e : AnswerError) → RejectsFor (λ _. ⊥) e → RejectsFor P e
-never_refused P (error.Rejected rejection) never = absurd never
-never_refused P (error.Aborted aborted.ReadFault) never = absurd never
-never_refused P (error.Aborted aborted.NoMemory) never = tt
+-- the job of a protocol, and of what its agents' text gives
+pub given_job : (x : Expanded) (part : List ℕ) (script : Script) (plan : Plan) (job : Job) → job ≡ record { protocol = x; script = script; plan = plan } → IsScriptText x part script plan → IsGivenJob x part job
+given_job x part script plan job is given = rw is (record { protocol = refl; given = given })
+
+-- its answer is that of the command
+pub given_answer : (brief : Bool) (budget threads : ℕ) (x : Expanded) (part : List ℕ) (job : Job) (reply : Reply) → threads ≡ 0 → IsGivenJob x part job → IsJobAnswer brief budget job reply.text reply.status → IsRunAnswer brief budget threads x part reply.text reply.status
+given_answer brief budget threads x part job reply no_threads given answer = record {
+  no_threads = no_threads;
+  script = job.script;
+  plan = job.plan;
+  given = given.given;
+  answer = subst (λ y. IsJobAnswer brief budget (record { protocol = y; script = job.script; plan = job.plan }) reply.text reply.status) given.protocol answer;
+}
 
 -- the text that reports on a world which has come to its end
 pub finished_text : (job : Job) (x : Expanded) (script : Script) (desks : List DeskState) (text : List ℕ) → x ≡ job.protocol → script ≡ job.script → IsFinished job desks → ((run : List Event) → AreLocal x (histories_of desks) → HasHistories x desks run → IsWorldText x script run text) → IsPlayedText job text

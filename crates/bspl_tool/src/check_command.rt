@@ -1,6 +1,9 @@
 ghost use Rattle.std.specs.Prelude.{◌≡◌, ◌≢◌, ◌≤◌, IfErr, IfOk, length};
 ghost use Rattle.bspl_types.specs.Limits.{input_limit};
 ghost use Rattle.bspl_tool.specs.CheckAnswer.{Fails, IsAccepted, IsCheckAnswer, IsCheckRefused};
+ghost use Rattle.bspl_tool.specs.declared.status.Status.TheVariants as statuses;
+ghost use Rattle.bspl_tool.specs.Claims.{claim_line};
+ghost use Rattle.bspl_tool.specs.Texts.{line, reject_text};
 ghost use Rattle.bspl_tool.specs.inner.Error.{RejectsFor};
 
 use super::answer_error::{Aborted, AnswerError};
@@ -26,16 +29,37 @@ pub fn check(alloc: Global, protocol: &Admitted, part: &[u8]) -> Result<Reply, A
     steps_are_fewer_than_bytes();
     let (kind, log) = read_log(alloc, part)?;
     match claim_of(alloc, protocol, kind, &log) {
-        Ok(claim) => Ok(Reply {
-            status: Status::Done,
-            text: claim_text(alloc, claim)?,
-        }),
+        Ok(claim) => accepted_answer(alloc, claim),
         Err(Reject::NoMemory) => Err(AnswerError::Aborted(Aborted::NoMemory)),
-        Err(reject) => Ok(Reply {
-            status: Status::Refuted,
-            text: reject_text(alloc, reject)?,
-        }),
+        Err(reject) => rejected_answer(alloc, reject),
     }
+}
+
+/// The answer to a log that proves the claim. It is never refused.
+fn accepted_answer(alloc: Global, claim: Claim) -> Result<Reply, AnswerError>
+    ensures ok { IfOk result (λ reply.
+        (reply.text ≡ line (claim_line claim)) × (reply.status ≡ statuses.Done)) }
+    ensures refused { IfErr result (RejectsFor (λ _. ⊥)) }
+{
+    let text = claim_text(alloc, claim)?;
+    Ok(Reply {
+        status: Status::Done,
+        text,
+    })
+}
+
+/// The answer to a log with this first failure. It is never refused.
+fn rejected_answer(alloc: Global, reject: Reject) -> Result<Reply, AnswerError>
+    requires { reject ≢ Reject.NoMemory }
+    ensures ok { IfOk result (λ reply.
+        (reply.text ≡ line (reject_text reject)) × (reply.status ≡ statuses.Refuted)) }
+    ensures refused { IfErr result (RejectsFor (λ _. ⊥)) }
+{
+    let text = reject_text(alloc, reject)?;
+    Ok(Reply {
+        status: Status::Refuted,
+        text,
+    })
 }
 
 /// What the log proves, checked against the protocol's formula of its kind, or its first failure.

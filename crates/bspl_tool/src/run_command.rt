@@ -5,6 +5,7 @@ ghost use Rattle.refutation_log.specs.declared.refutation.Log.{Log};
 ghost use Rattle.verdict.specs.declared.outcome.Safety.TheVariants as safeties;
 ghost use Rattle.bspl_tool.specs.RunAnswer.{AgentsText, IsJobAnswer, IsPlayedText, IsRunAnswer, IsRunRefused};
 ghost use Rattle.bspl_tool.specs.Task.{IsBudget};
+ghost use Rattle.bspl_tool.specs.inner.Job.{IsGivenJob};
 ghost use Rattle.bspl_tool.specs.inner.Error.{RejectsFor};
 
 use super::answer_error::AnswerError;
@@ -34,9 +35,18 @@ pub fn run(
         IsRunAnswer brief conflicts threads protocol part.now reply.text reply.status) }
     ensures refused { IfErr result (RejectsFor (IsRunRefused threads protocol part.now)) }
 {
-    let agents = agents_of(alloc, threads, &protocol, part)?;
-    let job = Job::of(protocol, agents);
+    let job = job_of(alloc, threads, protocol, part)?;
     job_answer(alloc, brief, conflicts, &job)
+}
+
+/// The job that the text gives the agents of the protocol, if no threads are asked for.
+fn job_of(alloc: Global, threads: u32, protocol: Admitted, part: &[u8]) -> Result<Job, AnswerError>
+    ensures no_threads { IfOk result (λ _. threads ≡ 0) }
+    ensures ok { IfOk result (IsGivenJob protocol part.now) }
+    ensures refused { IfErr result (RejectsFor (IsRunRefused threads protocol part.now)) }
+{
+    let agents = agents_of(alloc, threads, &protocol, part)?;
+    Ok(Job::of(protocol, agents))
 }
 
 /// What the text says of the agents, if no threads are asked for.

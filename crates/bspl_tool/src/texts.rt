@@ -1,4 +1,4 @@
-ghost use Rattle.std.specs.Prelude.{◌≡◌, ◌≢◌, ◌++◌, IfOk};
+ghost use Rattle.std.specs.Prelude.{◌≡◌, ◌≢◌, ◌++◌, IfOk, OnOk};
 ghost use Rattle.std.specs.Fmt.{decimal};
 ghost use Rattle.log_checker.specs.declared.refusal.Reject.TheVariants as rejects;
 ghost use Rattle.bspl_tool.specs.Claims.{claim_line};
@@ -73,7 +73,7 @@ fn two_numbers(
 {
     let mut text = one_number(alloc, word, number)?;
     text.append(next_word)?;
-    text.append(next_number.to_string(alloc)?.as_bytes())?;
+    append_number(alloc, &mut text, next_number)?;
     Ok(text)
 }
 
@@ -84,4 +84,11 @@ fn one_number(alloc: Global, word: &[u8], number: u32) -> Result<Bytes, NoMemory
     let mut text = Bytes::from_slice(alloc, word)?;
     text.append(number.to_string(alloc)?.as_bytes())?;
     Ok(text)
+}
+
+/// Writes the digits of a number.
+fn append_number(alloc: Global, text: &mut Bytes, number: u64) -> Result<(), NoMemory>
+    ensures { OnOk result (text.new ≡ text.old ++ decimal number) }
+{
+    text.append(number.to_string(alloc)?.as_bytes())
 }
