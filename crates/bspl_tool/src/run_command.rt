@@ -1,4 +1,4 @@
-ghost use Rattle.std.specs.Prelude.{◌≡◌, ◌++◌, IfErr, IfOk};
+ghost use Rattle.std.specs.Prelude.{◌≡◌, ◌++◌, ℕ, List, IfErr, IfOk};
 ghost use Rattle.agent_scripts.specs.Refusal.{IsScriptText};
 ghost use Rattle.enactment_model.specs.Safety.{SafeProtocol};
 ghost use Rattle.refutation_log.specs.declared.refutation.Log.{Log};
@@ -91,8 +91,8 @@ fn job_reply(alloc: Global, brief: bool, conflicts: u32, job: &Job) -> Result<Re
         conflicts,
         job.admitted(),
     )?;
-    let played = agents_text(alloc, job, &verdicts.safety)?;
-    with_text(reply, played.as_slice())
+    let played = agents_text(alloc, job, &verdicts.safety);
+    with_played(reply, played)
 }
 
 /// The text of what the agents play if their protocol is found safe; else the empty one.
@@ -104,6 +104,15 @@ fn agents_text(alloc: Global, job: &Job, safety: &Safety) -> Result<Bytes, NoMem
         return Ok(Bytes::new(alloc));
     };
     played_text(alloc, job)
+}
+
+/// The reply with what is played after its own text.
+fn with_played(reply: Reply, played: Result<Bytes, NoMemory>) -> Result<Reply, NoMemory>
+    ensures { IfOk result (λ r. (text : List ℕ) × (played ≡ Ok text)
+        × (r ≡ record reply { text = reply.text ++ text })) }
+{
+    let played = played?;
+    with_text(reply, played.as_slice())
 }
 
 /// The reply with more text after its own.

@@ -14,5 +14,5 @@ returns c =
     let job = c.args.job.now in
     let given = c.in_ok-verdicts.field-0 in
     let verified = subst (λ x. IsVerdictAnswer brief budget x given.verdicts given.reply.text given.reply.status) c.admitted.ensures c.in_ok-verdicts.ensures in
-    IfOk-weaker c.with_text.result _ (λ (reply : Reply). IsJobAnswer brief budget job reply.text reply.status)
-    (λ reply is. job_answered brief budget job given.verdicts given.reply c.as_slice.result.now reply verified (rw c.as_slice.ensures c.in_ok-played.ensures) is) c.with_text.ensures
+    IfOk-weaker c.with_played.result _ (λ (reply : Reply). IsJobAnswer brief budget job reply.text reply.status)
+    (λ reply is. job_answered brief budget job given.verdicts given.reply is.0 reply verified (rw is.1 at c.agents_text-played.ensures) is.2) c.with_played.ensures
