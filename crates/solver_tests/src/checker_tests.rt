@@ -1,5 +1,5 @@
-use super::formulas::{add_clause, lit};
-use clause_core::{ClauseList, Formula};
+use super::formulas::{formula, lit};
+use clause_core::Formula;
 use list_base::{NoMemory, NumberList, Seq};
 use log_checker::{Reject, check_log};
 use refutation_log::{Chain, Link, Log};
@@ -8,17 +8,27 @@ use std::test::Fail;
 
 /// What would hold of an exchange of one message that gets stuck: 1 it is sent, 2 it is received,
 /// 3 its key is unbound, 4 it is sent before it is received.
-fn liveness_of_ping(alloc: Global) -> Result<ClauseList, NoMemory> {
-    let mut clauses = Seq::new(alloc);
-    add_clause(alloc, &mut clauses, &[-1, 2, 4])?;
-    add_clause(alloc, &mut clauses, &[1, -2, -4])?;
-    add_clause(alloc, &mut clauses, &[-2, 4])?;
-    add_clause(alloc, &mut clauses, &[-1, 2])?;
-    add_clause(alloc, &mut clauses, &[1])?;
-    add_clause(alloc, &mut clauses, &[-1, -3])?;
-    add_clause(alloc, &mut clauses, &[3])?;
-    Ok(clauses)
-}
+const LIVENESS_OF_PING: &[&[i32]] = &[
+    &[-1, 2, 4],
+    &[1, -2, -4],
+    &[-2, 4],
+    &[-1, 2],
+    &[1],
+    &[-1, -3],
+    &[3],
+];
+
+/// The links of a step.
+const LINKS: &[(i32, u32)] = &[(1, 6), (-3, 7)];
+
+/// A clause that is removed, the first clause of a step after that, and the answer.
+type Row = (u32, u32, Result<(), Reject>);
+
+const ROWS: &[Row] = &[
+    (1, 5, Ok(())),
+    (1, 0, Err(Reject::NoClause { step: 1 })),
+    (0, 5, Err(Reject::NoDrop { after: 0, item: 1 })),
+];
 
 /// A step of the first clause and the links, each a pivot and a clause.
 fn step(alloc: Global, first: u32, links: &[(i32, u32)]) -> Result<Chain, NoMemory> {
@@ -44,28 +54,45 @@ fn answer(alloc: Global, f: &Formula, log: &Log) -> Option<Result<(), Reject>> {
     }
 }
 
+/// Adds the removal of a clause to the log.
+fn remove(alloc: Global, log: &mut Log, removed: u32) -> Result<(), NoMemory> {
+    log.remove(NumberList::from_slice(alloc, &[removed])?)
+}
+
+/// Adds the step of the first clause to the log.
+fn add_step(alloc: Global, log: &mut Log, first: u32) -> Result<(), NoMemory> {
+    log.push(step(alloc, first, LINKS)?)
+}
+
 /// The log of a step, before which a clause is removed.
-fn log_of(alloc: Global, removed: u32, step: Chain) -> Result<Log, NoMemory> {
-    let mut numbers: NumberList = Seq::new(alloc);
-    numbers.push(removed)?;
+fn log_of(alloc: Global, removed: u32, first: u32) -> Result<Log, NoMemory> {
     let mut log = Log::plain(alloc, Seq::new(alloc));
-    log.remove(numbers)?;
-    log.push(step)?;
+    remove(alloc, &mut log, removed)?;
+    add_step(alloc, &mut log, first)?;
     Ok(log)
+}
+
+/// Whether the row's log is answered as it should be.
+fn is_answered(alloc: Global, f: &Formula, (removed, first, wanted): &Row) -> bool {
+    match log_of(alloc, *removed, *first) {
+        Ok(log) => answer(alloc, f, &log) == Some(*wanted),
+        Err(NoMemory) => false,
+    }
+}
+
+/// Whether the row's log is answered as it should be for the liveness of ping.
+fn is_passed(alloc: Global, row: &Row) -> bool {
+    match formula(alloc, 4, LIVENESS_OF_PING) {
+        Ok(Some(f)) => is_answered(alloc, &f, row),
+        Ok(None) | Err(NoMemory) => false,
+    }
 }
 
 /// No text of a log has a clause of the number 0.
 #[test]
 fn no_clause_has_the_number_0(rt: HostRuntime) -> Result<(), Fail> {
-    let alloc = rt.alloc();
-    let f = Formula::of(4, liveness_of_ping(alloc)?).ok_or("four variables")?;
-    for (removed, first, wanted) in [
-        (1, 5, Ok(())),
-        (1, 0, Err(Reject::NoClause { step: 1 })),
-        (0, 5, Err(Reject::NoDrop { after: 0, item: 1 })),
-    ] {
-        let log = log_of(alloc, removed, step(alloc, first, &[(1, 6), (-3, 7)])?)?;
-        assert_eq!(rt; answer(alloc, &f, &log), Some(wanted));
+    for row in ROWS {
+        assert!(rt; is_passed(rt.alloc(), row));
     }
     Ok(())
 }

@@ -1,4 +1,5 @@
 use super::formulas::formula_of;
+use clause_core::Formula;
 use list_base::NoMemory;
 use sat_solver::{Outcome, solve};
 use std::alloc::Global;
@@ -8,7 +9,9 @@ use std::test::Fail;
 /// of a formula, each ended by 0. The letter is `s` for an assignment, whose count is that of its
 /// variables, `u` for a refutation and `b` for a spent budget, whose counts are those of their
 /// steps.
-const ROWS: &[(char, Option<usize>, u32, u32, &str)] = &[
+type Row = (char, Option<usize>, u32, u32, &'static str);
+
+const ROWS: &[Row] = &[
     ('b', Some(1), 1, 2, "1 2 0 -1 2 0 1 -2 0 -1 -2 0"),
     ('u', None, 9, 2, "1 2 0 -1 2 0 1 -2 0 -1 -2 0"),
     ('s', Some(2), 9, 2, "1 2 0"),
@@ -63,33 +66,45 @@ const ROWS: &[(char, Option<usize>, u32, u32, &str)] = &[
     ('s', None, 729, 3, "1 0 -1 2 0 -2 3 0"),
 ];
 
-/// The answer's letter, with its count; nothing if the row is no formula or too long.
-fn answer(
-    alloc: Global,
-    budget: u32,
-    vars: u32,
-    text: &str,
-) -> Result<Option<(char, usize)>, NoMemory> {
-    let Some(f) = formula_of(alloc, vars, text)? else {
-        return Ok(None);
-    };
-    if budget == 0 || budget > 1000 || f.clauses.len() > 1000 {
-        return Ok(None);
-    }
-    Ok(Some(match solve(alloc, &f, budget)? {
+/// The answer's letter, with its count.
+fn letter_of(outcome: &Outcome) -> (char, usize) {
+    match outcome {
         Outcome::Sat(assignment) => ('s', assignment.vars() as usize),
         Outcome::Unsat(log) => ('u', log.steps.len()),
         Outcome::Budget(log) => ('b', log.steps.len()),
-    }))
+    }
+}
+
+/// The answer's letter, with its count; nothing if the row is too long.
+fn answer(alloc: Global, f: &Formula, budget: u32) -> Result<Option<(char, usize)>, NoMemory> {
+    if budget == 0 || budget > 1000 || f.clauses.len() > 1000 {
+        return Ok(None);
+    }
+    let outcome = solve(alloc, f, budget)?;
+    Ok(Some(letter_of(&outcome)))
+}
+
+/// Whether the formula is answered with the row's letter, and its count if one is wanted.
+fn is_answered(alloc: Global, f: &Formula, row: &Row) -> bool {
+    let (letter, wanted, budget, _, _) = row;
+    match answer(alloc, f, *budget) {
+        Ok(Some((given, count))) => given == *letter && count == wanted.unwrap_or(count),
+        Ok(None) | Err(NoMemory) => false,
+    }
+}
+
+/// Whether the row is a formula, and answered as it should be.
+fn is_passed(alloc: Global, row: &Row) -> bool {
+    match formula_of(alloc, row.3, row.4) {
+        Ok(Some(f)) => is_answered(alloc, &f, row),
+        Ok(None) | Err(NoMemory) => false,
+    }
 }
 
 #[test]
 fn answers_each_formula(rt: HostRuntime) -> Result<(), Fail> {
-    for (letter, wanted, budget, vars, text) in ROWS {
-        let given = answer(rt.alloc(), *budget, *vars, text)?;
-        let (given, count) = given.ok_or("a row is no formula")?;
-        assert_eq!(rt; given, *letter, "the answer to {text}");
-        assert_eq!(rt; count, wanted.unwrap_or(count), "the count of {text}");
+    for row in ROWS {
+        assert!(rt; is_passed(rt.alloc(), row));
     }
     Ok(())
 }

@@ -1,4 +1,4 @@
-ghost use Rattle.std.specs.Prelude.{◌≡◌, ◌<◌, ◌^◌, OnOk, length};
+ghost use Rattle.std.specs.Prelude.{◌≡◌, OnOk};
 
 use super::formulas::{clause, formula, lit};
 use clause_core::Formula;
@@ -18,7 +18,9 @@ type Call = (char, i32, Option<u32>, bool, &'static [u32], Entries);
 const FOUR: &[&[i32]] = &[&[1, 2], &[-1, 2], &[1, -2], &[-1, -2]];
 
 /// A number of variables, clauses over them, and calls.
-const ROWS: &[(u32, &[&[i32]], &[Call])] = &[
+type Row = (u32, &'static [&'static [i32]], &'static [Call]);
+
+const ROWS: &[Row] = &[
     // a decision falsifies a clause
     (
         2,
@@ -173,35 +175,48 @@ fn is_as_wanted(trail: &Trail, answer: Option<u32>, call: &Call) -> bool {
         && has_entries(trail, entries)
 }
 
-/// How many of the calls leave the trail as it should be, up to the first that does not.
-fn calls_passed(alloc: Global, vars: u32, f: &Formula, calls: &[Call]) -> Result<usize, Fail>
-    requires vars { f.now.vars ≡ vars }
-    requires few { length f.now.clauses < 2 ^ 32 }
+/// Whether the call leaves the trail as it should be.
+fn is_made(alloc: Global, trail: &mut Trail, vars: u32, call: &Call) -> Result<bool, Fail>
+    requires { trail.old.vars ≡ vars }
+    ensures { OnOk result (trail.new.vars ≡ vars) }
 {
-    let mut trail = Trail::new(alloc, f)?;
-    for (passed, call) in calls.iter().enumerate() {
-        let answer = make(alloc, &mut trail, vars, call.0, call.1)?;
-        if !is_as_wanted(&trail, answer, call) {
-            return Ok(passed);
+    let answer = make(alloc, trail, vars, call.0, call.1)?;
+    Ok(is_as_wanted(trail, answer, call))
+}
+
+/// Whether each of the calls leaves the trail as it should be.
+fn are_made(alloc: Global, trail: &mut Trail, vars: u32, calls: &[Call]) -> Result<bool, Fail>
+    requires { trail.old.vars ≡ vars }
+{
+    for call in calls {
+        if !is_made(alloc, trail, vars, call)? {
+            return Ok(false);
         }
     }
-    Ok(calls.len())
+    Ok(true)
+}
+
+/// Whether the formula is small, and each of the calls leaves its trail as it should be.
+fn are_made_on(alloc: Global, f: &Formula, calls: &[Call]) -> Result<bool, Fail> {
+    if f.clauses.len() >= 10 {
+        return Ok(false);
+    }
+    let mut trail = Trail::new(alloc, f)?;
+    are_made(alloc, &mut trail, f.vars, calls)
+}
+
+/// Whether the row is a formula, and each of its calls leaves the trail as it should be.
+fn is_passed(alloc: Global, (vars, clauses, calls): &Row) -> Result<bool, Fail> {
+    match formula(alloc, *vars, clauses)? {
+        Some(f) => are_made_on(alloc, &f, calls),
+        None => Ok(false),
+    }
 }
 
 #[test]
 fn each_call_leaves_its_trail(rt: HostRuntime) -> Result<(), Fail> {
-    for (vars, clauses, calls) in ROWS {
-        let f = formula(rt.alloc(), *vars, clauses)?;
-        if f.clauses.len() >= 10 {
-            return Err("more clauses than a row may have".into());
-        }
-        let passed = calls_passed(rt.alloc(), *vars, &f, calls)?;
-        assert_eq!(rt;
-            passed,
-            calls.len(),
-            "the first clause: {:?}",
-            clauses.first()
-        );
+    for row in ROWS {
+        assert!(rt; is_passed(rt.alloc(), row)?);
     }
     Ok(())
 }
