@@ -46,6 +46,11 @@ fn is_answer(found: Result<Bytes, ReadRefusal>, wanted: Answer) -> bool {
     }
 }
 
+/// Whether the source gives the answer.
+fn is_read(alloc: Global, source: &mut MemSource, limit: u64, wanted: Answer) -> bool {
+    is_answer(read_all(alloc, source, limit), wanted)
+}
+
 /// Whether a source of the row gives its answers; not if its pieces are empty.
 fn reads(
     alloc: Global,
@@ -55,15 +60,15 @@ fn reads(
         return Ok(false);
     }
     let fails = NumberList::from_slice(alloc, fails)?;
-    let mut source = MemSource::new(Bytes::from_slice(alloc, TEXT)?, piece, fails);
-    let is_first = is_answer(read_all(alloc, &mut source, limit), first);
-    Ok(is_first && is_answer(read_all(alloc, &mut source, limit), second))
+    let text = Bytes::from_slice(alloc, TEXT)?;
+    let mut source = MemSource::new(text, piece, fails);
+    Ok(is_read(alloc, &mut source, limit, first) && is_read(alloc, &mut source, limit, second))
 }
 
 #[test]
 fn reads_pieces_to_the_end_or_a_fault(rt: HostRuntime) -> Result<(), Fail> {
     for row in READS {
-        assert!(rt; reads(rt.alloc(), *row)?);
+        assert!(rt; reads(rt.alloc(), *row) == Ok(true));
     }
     Ok(())
 }
@@ -93,7 +98,7 @@ fn writes(
 #[test]
 fn writes_pieces_until_a_fault(rt: HostRuntime) -> Result<(), Fail> {
     for (fails, wanted, written) in WRITES {
-        assert!(rt; writes(rt.alloc(), fails, *wanted, written)?);
+        assert!(rt; writes(rt.alloc(), fails, *wanted, written) == Ok(true));
     }
     Ok(())
 }

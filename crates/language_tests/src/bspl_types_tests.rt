@@ -87,16 +87,27 @@ fn found(numbers: &HashMap<Key, usize>, list: &[u64]) -> Option<usize> {
     numbers.get(&key).copied()
 }
 
+/// Whether each list has its index, and the absent one has none.
+fn are_found(numbers: &HashMap<Key, usize>) -> bool {
+    let mut lists = LISTS.iter().enumerate();
+    lists.all(|(number, list)| found(numbers, list) == Some(number))
+        && found(numbers, ABSENT).is_none()
+}
+
+/// Whether the key of a text, once it is added, is apart from that of the number.
+fn is_text_apart(numbers: &mut HashMap<Key, usize>) -> Result<bool, Fail> {
+    let text = Key::of(&[Value::Text(Text32::of(b"1"))]);
+    if numbers.get(&text).is_some() {
+        return Ok(false);
+    }
+    numbers.insert(text, 99)?;
+    Ok(numbers.get(&text) == Some(&99) && found(numbers, &[1]) == Some(1))
+}
+
 #[test]
 fn keys_are_found_by_their_hash(rt: HostRuntime) -> Result<(), Fail> {
     let mut numbers = numbered(rt.alloc())?;
-    for (number, list) in LISTS.iter().enumerate() {
-        assert!(rt; found(&numbers, list) == Some(number));
-    }
-    assert!(rt; found(&numbers, ABSENT).is_none());
-    let text = Key::of(&[Value::Text(Text32::of(b"1"))]);
-    assert!(rt; numbers.get(&text).is_none());
-    numbers.insert(text, 99)?;
-    assert!(rt; numbers.get(&text) == Some(&99) && found(&numbers, &[1]) == Some(1));
+    assert!(rt; are_found(&numbers));
+    assert!(rt; is_text_apart(&mut numbers)?);
     Ok(())
 }

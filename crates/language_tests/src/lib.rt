@@ -12,6 +12,8 @@ mod enactment_model_tests;
 #[cfg(test)]
 mod expanded_tests;
 #[cfg(test)]
+mod instance_tests;
+#[cfg(test)]
 mod list_base_tests;
 #[cfg(test)]
 mod protocol_names_tests;

@@ -1,4 +1,5 @@
-use bspl_parser::{Document, parse};
+use bspl_parser::{Declaration, Document, parse};
+use list_base::NoMemory;
 use protocol_names::{DocumentFault, FaultKind, NameTable, first_fault};
 use std::alloc::Global;
 use std::test::Fail;
@@ -32,38 +33,67 @@ const INDICES: &[(&[u8], Option<usize>)] = &[
     (b"Seller", None),
 ];
 
-/// The document of that text, with its public parameter moved to the offset of its second role.
-fn at_one_offset(alloc: Global) -> Result<Document<'static>, Fail> {
-    let mut document = parse(alloc, TWO_FAULTS).ok().ok_or("this is a text")?;
-    let mut p = document.protocols.pop().ok_or("there is one protocol")?;
-    let mut id = p.public.pop().ok_or("there is one parameter")?;
-    id.offset = 13;
-    p.public.push(id)?;
-    document.protocols.push(p)?;
-    Ok(document)
+/// The fault of that text which comes first.
+const DUPLICATE: DocumentFault = DocumentFault {
+    kind: FaultKind::Duplicate,
+    offset: 13,
+};
+
+/// Moves the first public parameter to the offset; whether there is one.
+fn move_parameter(p: &mut Declaration, offset: u64) -> bool {
+    if p.public.is_empty() {
+        return false;
+    }
+    let parameter = p.public.at_mut(0);
+    parameter.offset = offset;
+    true
+}
+
+/// Moves the first public parameter of the first protocol to the offset; whether there is one.
+fn move_first_parameter(document: &mut Document, offset: u64) -> bool {
+    !document.protocols.is_empty() && move_parameter(document.protocols.at_mut(0), offset)
+}
+
+/// Whether two roles of one name come first where both faults are at the offset of the second.
+fn is_duplicate_first(alloc: Global) -> bool {
+    match parse(alloc, TWO_FAULTS) {
+        Ok(mut document) => {
+            move_first_parameter(&mut document, DUPLICATE.offset)
+                && first_fault(alloc, &document) == Ok(Some(DUPLICATE))
+        }
+        Err(_) => false,
+    }
 }
 
 /// No text has two faults at one offset, so one is moved there.
 #[test]
 fn at_one_offset_the_kind_that_comes_first_counts(rt: HostRuntime) -> Result<(), Fail> {
-    let document = at_one_offset(rt.alloc())?;
-    let wanted = DocumentFault {
-        kind: FaultKind::Duplicate,
-        offset: 13,
-    };
-    assert!(rt; first_fault(rt.alloc(), &document) == Ok(Some(wanted)));
+    assert!(rt; is_duplicate_first(rt.alloc()));
     Ok(())
+}
+
+/// The table of the names, in order.
+fn table(alloc: Global) -> Result<NameTable<'static>, NoMemory> {
+    let mut table = NameTable::new(alloc);
+    for name in NAMES {
+        table.push(name)?;
+    }
+    Ok(table)
+}
+
+/// Whether the name has its first index in the table, or none.
+fn is_found(table: &NameTable, (name, index): &(&[u8], Option<usize>)) -> bool {
+    table.index(name) == *index && table.has(name) == index.is_some()
+}
+
+/// Whether the table has each name, and each first index.
+fn are_found(alloc: Global) -> Result<bool, NoMemory> {
+    let table = table(alloc)?;
+    Ok(table.len() == NAMES.len() && INDICES.iter().all(|row| is_found(&table, row)))
 }
 
 #[test]
 fn a_name_keeps_its_first_index(rt: HostRuntime) -> Result<(), Fail> {
-    let mut table = NameTable::new(rt.alloc());
-    for name in NAMES {
-        table.push(name)?;
-    }
-    assert!(rt; table.len() == NAMES.len());
-    for (name, index) in INDICES {
-        assert!(rt; table.index(name) == *index && table.has(name) == index.is_some());
-    }
+    assert!(rt; are_found(rt.alloc()) == Ok(true));
     Ok(())
 }
