@@ -1,9 +1,10 @@
+ghost use Rattle.std.specs.Prelude.{◌<◌, ◌^◌, length};
+
 use bspl_parser::{Document, parse};
 use bspl_types::{Bytes, NoMemory, Seq};
 use protocol_limits::{Survey, survey};
 use protocol_names::ProtocolTable;
 use std::alloc::Global;
-use std::test::Fail;
 
 /// Where a text comes from.
 #[derive(Clone, Copy)]
@@ -31,7 +32,9 @@ Q { roles A, B parameters in ID key A -> B: s[in ID] A -> B: m[in y] }",
 
 /// A text, the number of a protocol, and its survey, which is within the limits: the depth, and a
 /// mark for each protocol, first for messages and then for private parameters.
-const ROWS: &[(Source, u32, usize, &[u8], &[u8])] = &[
+type Row = (Source, u32, usize, &'static [u8], &'static [u8]);
+
+const ROWS: &[Row] = &[
     (
         Source::Chain(1, b"A -> B: m[in ID] "),
         0,
@@ -57,6 +60,13 @@ fn add_head(alloc: Global, out: &mut Bytes, number: u32) -> Result<(), NoMemory>
     out.append(b" { roles A, B parameters out ID key ")
 }
 
+/// Adds a reference to the protocol of that number.
+fn add_reference(alloc: Global, out: &mut Bytes, number: u32) -> Result<(), NoMemory> {
+    out.append(b"P")?;
+    add_number(alloc, out, number)?;
+    out.append(b"(A, B, in ID) ")
+}
+
 /// Adds `times` references to the protocol of that number.
 fn add_references(
     alloc: Global,
@@ -65,37 +75,51 @@ fn add_references(
     times: usize,
 ) -> Result<(), NoMemory> {
     for _time in 0..times {
-        out.append(b"P")?;
-        add_number(alloc, out, number)?;
-        out.append(b"(A, B, in ID) ")?;
+        add_reference(alloc, out, number)?;
     }
     Ok(())
+}
+
+/// Adds eight protocols, each with as many references to the next.
+fn add_links(alloc: Global, out: &mut Bytes, times: usize) -> Result<(), NoMemory> {
+    for number in 1..9 {
+        add_head(alloc, out, number)?;
+        add_references(alloc, out, number.saturating_add(1), times)?;
+        out.append(b"}")?;
+    }
+    Ok(())
+}
+
+/// Adds the ninth protocol, with the body.
+fn add_last(alloc: Global, out: &mut Bytes, body: &[u8]) -> Result<(), NoMemory> {
+    add_head(alloc, out, 9)?;
+    out.append(body)?;
+    out.append(b"}")
 }
 
 /// The text of nine protocols.
 fn chain(alloc: Global, times: usize, body: &[u8]) -> Result<Bytes, NoMemory> {
     let mut out = Seq::new(alloc);
-    for number in 1..9 {
-        add_head(alloc, &mut out, number)?;
-        add_references(alloc, &mut out, number.saturating_add(1), times)?;
-        out.append(b"}")?;
-    }
-    add_head(alloc, &mut out, 9)?;
-    out.append(body)?;
-    out.append(b"}")?;
+    add_links(alloc, &mut out, times)?;
+    add_last(alloc, &mut out, body)?;
     Ok(out)
+}
+
+/// Adds a protocol with as many messages.
+fn add_many(alloc: Global, out: &mut Bytes, count: u32) -> Result<(), NoMemory> {
+    out.append(b"Many { roles A, B parameters out ID key private x")?;
+    for number in 0..count {
+        out.append(b" A -> B: m")?;
+        add_number(alloc, out, number)?;
+        out.append(b"[in ID]")?;
+    }
+    out.append(b"}")
 }
 
 /// The text of a protocol with as many messages.
 fn many(alloc: Global, count: u32) -> Result<Bytes, NoMemory> {
     let mut out = Seq::new(alloc);
-    out.append(b"Many { roles A, B parameters out ID key private x")?;
-    for number in 0..count {
-        out.append(b" A -> B: m")?;
-        add_number(alloc, &mut out, number)?;
-        out.append(b"[in ID]")?;
-    }
-    out.append(b"}")?;
+    add_many(alloc, &mut out, count)?;
     Ok(out)
 }
 
@@ -114,42 +138,62 @@ fn are_marks(marks: &[bool], wanted: &[u8]) -> bool {
     marks.len() == wanted.len() && pairs.all(|(mark, byte)| *mark == (*byte == b'1'))
 }
 
-/// Whether the survey is within the limits, with that depth and those marks.
-fn is_within(found: &Survey, steps: usize, messages: &[u8], privates: &[u8]) -> bool {
+/// Whether the survey is within the limits, with the row's depth and marks.
+fn is_within(found: &Survey, (_, _, steps, messages, privates): &Row) -> bool {
     match found {
         Survey::Within {
             depth,
             messages: m,
             privates: p,
-        } => *depth == steps
+        } => *depth == *steps
             && are_marks(m.as_slice(), messages)
             && are_marks(p.as_slice(), privates),
         Survey::Cycle(_) | Survey::Over { .. } => false,
     }
 }
 
-/// The survey of the protocol of that number, if there is one.
-fn survey_at(alloc: Global, document: &Document, top: u32) -> Result<Option<Survey>, NoMemory> {
-    let protocols = document.protocols.as_slice();
-    if top as usize >= protocols.len() || protocols.len() > u32::MAX as usize {
-        return Ok(None);
+/// Whether the protocol of the row's number has the row's survey.
+fn is_surveyed(alloc: Global, table: &ProtocolTable, row: &Row) -> bool
+    requires declared { row.now.1 < length table.now.protocols.now }
+    requires few { length table.now.protocols.now < 2 ^ 32 }
+{
+    match survey(alloc, table, row.1) {
+        Ok(found) => is_within(&found, row),
+        Err(NoMemory) => false,
     }
-    let table = ProtocolTable::new(alloc, protocols)?;
-    Ok(Some(survey(alloc, &table, top)?))
 }
 
-/// The survey of the protocol of that number of the text.
-fn survey_of(alloc: Global, text: &[u8], top: u32) -> Result<Survey, Fail> {
-    let document = parse(alloc, text).ok().ok_or("this is a text")?;
-    Ok(survey_at(alloc, &document, top)?.ok_or("there is a protocol")?)
+/// Whether the document has the protocol of the row's number, and it has the row's survey.
+fn is_surveyed_in(alloc: Global, document: &Document, row: &Row) -> bool {
+    let protocols = document.protocols.as_slice();
+    if row.1 as usize >= protocols.len() || protocols.len() > u32::MAX as usize {
+        return false;
+    }
+    match ProtocolTable::new(alloc, protocols) {
+        Ok(table) => is_surveyed(alloc, &table, row),
+        Err(NoMemory) => false,
+    }
+}
+
+/// Whether the text spells a document that has the row's survey.
+fn is_surveyed_of(alloc: Global, text: &[u8], row: &Row) -> bool {
+    match parse(alloc, text) {
+        Ok(document) => is_surveyed_in(alloc, &document, row),
+        Err(_) => false,
+    }
+}
+
+/// Whether the row's text has the row's survey.
+fn is_passed(alloc: Global, row: &Row) -> bool {
+    match text_of(alloc, row.0) {
+        Ok(text) => is_surveyed_of(alloc, text.as_slice(), row),
+        Err(NoMemory) => false,
+    }
 }
 
 #[test]
-fn a_survey_within_the_limits_has_its_marks(rt: HostRuntime) -> Result<(), Fail> {
-    for (source, top, depth, messages, privates) in ROWS {
-        let text = text_of(rt.alloc(), *source)?;
-        let found = survey_of(rt.alloc(), text.as_slice(), *top)?;
-        assert!(rt; is_within(&found, *depth, messages, privates));
+fn a_survey_within_the_limits_has_its_marks(rt: HostRuntime) {
+    for row in ROWS {
+        assert!(rt; is_passed(rt.alloc(), row));
     }
-    Ok(())
 }

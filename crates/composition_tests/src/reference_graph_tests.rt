@@ -1,9 +1,9 @@
-ghost use Rattle.std.specs.Prelude.{◌≡◌, ◌<◌, length, IfOk};
+ghost use Rattle.std.specs.Prelude.{◌≡◌, ◌<◌, length, IfOk, IfSome};
+ghost use Rattle.reference_graph.specs.Order.{IsTopological};
 
 use list_base::{NoMemory, NumberList, Seq};
 use reference_graph::{Graph, WalkResult, depths, is_graph, walk, weights_below};
 use std::alloc::Global;
-use std::test::Fail;
 
 /// Where a graph comes from.
 #[derive(Clone, Copy)]
@@ -18,7 +18,9 @@ enum Source {
 const DIAMOND: Source = Source::Rows(&[&[1, 2], &[3], &[3], &[]]);
 
 /// Graphs, and the node where the first cycle from node 0 ends.
-const CYCLES: &[(Source, Option<u32>)] = &[
+type Cycle = (Source, Option<u32>);
+
+const CYCLES: &[Cycle] = &[
     (Source::Rows(&[&[0]]), Some(0)),
     (Source::Rows(&[&[1], &[2], &[1]]), Some(1)),
     (Source::Rows(&[&[1, 2], &[3], &[2], &[3, 0]]), Some(3)),
@@ -29,7 +31,9 @@ const CYCLES: &[(Source, Option<u32>)] = &[
 
 /// Graphs, the weight of each node but the last, whose weight is 1, the sum below node 0, and the
 /// depth there.
-const COUNTS: &[(Source, u64, u64, u64)] = &[
+type Counts = (Source, u64, u64, u64);
+
+const COUNTS: &[Counts] = &[
     (DIAMOND, 1, 5, 2),
     (DIAMOND, 0, 2, 2),
     (Source::Chain(24_000, 1, &[]), 1, 24_000, 23_999),
@@ -52,6 +56,12 @@ fn lists_of(alloc: Global, rows: &[&[u32]]) -> Result<Seq<NumberList>, NoMemory>
     Ok(lists)
 }
 
+/// The list that has the node so many times.
+fn repeated(alloc: Global, node: u32, times: usize) -> Result<NumberList, NoMemory> {
+    let row = vec![in alloc; node; times]?;
+    NumberList::from_slice(alloc, &row)
+}
+
 /// The lists of a chain.
 fn chain(
     alloc: Global,
@@ -61,39 +71,55 @@ fn chain(
 ) -> Result<Seq<NumberList>, NoMemory> {
     let mut lists = Seq::new(alloc);
     for node in 1..count {
-        let row = vec![in alloc; node; each]?;
-        lists.push(NumberList::from_slice(alloc, &row)?)?;
+        lists.push(repeated(alloc, node, each)?)?;
     }
     lists.push(NumberList::from_slice(alloc, last)?)?;
     Ok(lists)
 }
 
-/// The graph of the lists, if they are one with a node.
-fn graph_of(lists: Seq<NumberList>) -> Option<Graph> {
-    if is_graph(lists.as_slice()) && !lists.is_empty() {
+/// The lists of the graph.
+fn lists(alloc: Global, source: Source) -> Result<Seq<NumberList>, NoMemory> {
+    match source {
+        Source::Rows(rows) => lists_of(alloc, rows),
+        Source::Chain(count, each, last) => chain(alloc, count, each, last),
+    }
+}
+
+/// The graph, if it is one with a node.
+fn graph(alloc: Global, source: Source) -> Result<Option<Graph>, NoMemory>
+    ensures { IfOk result (λ graph. IfSome graph (λ g. 0 < length g)) }
+{
+    let lists = lists(alloc, source)?;
+    Ok(if is_graph(lists.as_slice()) && !lists.is_empty() {
         Some(Graph::of(lists))
     } else {
         None
+    })
+}
+
+/// Whether the first cycle from node 0 ends there, or there is none if none is wanted.
+fn has_cycle(alloc: Global, graph: &Graph, wanted: Option<u32>) -> bool
+    requires { 0 < length graph.now }
+{
+    match walk(alloc, graph, 0) {
+        Ok(WalkResult::Order(_)) => wanted.is_none(),
+        Ok(WalkResult::Cycle(node)) => wanted == Some(node),
+        Err(NoMemory) => false,
     }
 }
 
-/// The graph.
-fn graph(alloc: Global, source: Source) -> Result<Graph, Fail> {
-    let lists = match source {
-        Source::Rows(rows) => lists_of(alloc, rows)?,
-        Source::Chain(count, each, last) => chain(alloc, count, each, last)?,
-    };
-    Ok(graph_of(lists).ok_or("no graph")?)
+/// Whether the row's graph has its first cycle where it should.
+fn is_cyclic(alloc: Global, (source, wanted): &Cycle) -> bool {
+    match graph(alloc, *source) {
+        Ok(Some(graph)) => has_cycle(alloc, &graph, *wanted),
+        Ok(None) | Err(NoMemory) => false,
+    }
 }
 
-/// The node where the first cycle from node 0 ends.
-fn cycle_of(alloc: Global, graph: &Graph) -> Result<Option<u32>, NoMemory> {
-    if graph.len() == 0 {
-        return Ok(None);
-    }
-    match walk(alloc, graph, 0)? {
-        WalkResult::Order(_) => Ok(None),
-        WalkResult::Cycle(node) => Ok(Some(node)),
+#[test]
+fn the_first_cycle_is_named(rt: HostRuntime) {
+    for row in CYCLES {
+        assert!(rt; is_cyclic(rt.alloc(), row));
     }
 }
 
@@ -107,60 +133,87 @@ fn weights_of(alloc: Global, graph: &Graph, weight: u64) -> Result<Vec<u64>, NoM
     Ok(weights)
 }
 
-/// The order of the nodes below node 0, the sum of the weights there, and the depth of node 0.
-fn counts(
-    alloc: Global,
-    graph: &Graph,
-    weight: u64,
-) -> Result<Option<(NumberList, u64, u64)>, NoMemory> {
-    if graph.len() == 0 {
-        return Ok(None);
+/// Whether the sum of the weights below node 0 is the row's.
+fn has_sum(alloc: Global, graph: &Graph, order: &[u32], row: &Counts) -> Result<bool, NoMemory>
+    requires nodes { 0 < length graph.now }
+    requires order { IsTopological graph.now order.now }
+{
+    let weights = weights_of(alloc, graph, row.1)?;
+    let sums = weights_below(alloc, graph, order, &weights)?;
+    Ok(sums.as_slice().first() == Some(&row.2))
+}
+
+/// Whether the depth of node 0 is the row's.
+fn has_depth(alloc: Global, graph: &Graph, order: &[u32], row: &Counts) -> Result<bool, NoMemory>
+    requires { IsTopological graph.now order.now }
+{
+    let steps = depths(alloc, graph, order)?;
+    Ok(steps.as_slice().first() == Some(&row.3))
+}
+
+/// Whether the order has each node of the graph, and the sum and the depth are the row's.
+fn are_counts(alloc: Global, graph: &Graph, order: &[u32], row: &Counts) -> bool
+    requires nodes { 0 < length graph.now }
+    requires order { IsTopological graph.now order.now }
+{
+    order.len() == graph.len()
+        && has_sum(alloc, graph, order, row) == Ok(true)
+        && has_depth(alloc, graph, order, row) == Ok(true)
+}
+
+/// Whether the graph has an order from node 0, with the row's counts.
+fn is_counted(alloc: Global, graph: &Graph, row: &Counts) -> bool
+    requires { 0 < length graph.now }
+{
+    match walk(alloc, graph, 0) {
+        Ok(WalkResult::Order(order)) => are_counts(alloc, graph, order.as_slice(), row),
+        Ok(WalkResult::Cycle(_)) | Err(NoMemory) => false,
     }
-    let weights = weights_of(alloc, graph, weight)?;
-    let WalkResult::Order(order) = walk(alloc, graph, 0)? else {
-        return Ok(None);
-    };
-    let sums = weights_below(alloc, graph, order.as_slice(), &weights)?;
-    let steps = depths(alloc, graph, order.as_slice())?;
-    match (sums.as_slice(), steps.as_slice()) {
-        ([sum, ..], [depth, ..]) => Ok(Some((order, *sum, *depth))),
-        (_, _) => Ok(None),
+}
+
+/// Whether the row's graph has its counts.
+fn is_passed(alloc: Global, row: &Counts) -> bool {
+    match graph(alloc, row.0) {
+        Ok(Some(graph)) => is_counted(alloc, &graph, row),
+        Ok(None) | Err(NoMemory) => false,
     }
 }
 
 #[test]
-fn the_first_cycle_is_named(rt: HostRuntime) -> Result<(), Fail> {
-    for (source, wanted) in CYCLES {
-        let graph = graph(rt.alloc(), *source)?;
-        assert!(rt; cycle_of(rt.alloc(), &graph)? == *wanted);
-    }
-    Ok(())
-}
-
-/// Whether the order has each node of the graph, and the sum and the depth are these.
-fn are_counts(
-    alloc: Global,
-    (source, weight, below, steps): (Source, u64, u64, u64),
-) -> Result<bool, Fail> {
-    let graph = graph(alloc, source)?;
-    let (order, sum, depth) = counts(alloc, &graph, weight)?.ok_or("no order")?;
-    Ok(order.len() == graph.len() && sum == below && depth == steps)
-}
-
-#[test]
-fn weights_and_steps_are_counted(rt: HostRuntime) -> Result<(), Fail> {
+fn weights_and_steps_are_counted(rt: HostRuntime) {
     for row in COUNTS {
-        assert!(rt; are_counts(rt.alloc(), *row)?);
+        assert!(rt; is_passed(rt.alloc(), row));
     }
-    Ok(())
+}
+
+/// Whether the order from node 0 is this one.
+fn has_order(alloc: Global, graph: &Graph, wanted: &[u32]) -> bool
+    requires { 0 < length graph.now }
+{
+    match walk(alloc, graph, 0) {
+        Ok(WalkResult::Order(order)) => order.as_slice() == wanted,
+        Ok(WalkResult::Cycle(_)) | Err(NoMemory) => false,
+    }
+}
+
+/// Whether the order from node 0 of the diamond is its order.
+fn is_diamond_ordered(alloc: Global) -> bool {
+    match graph(alloc, DIAMOND) {
+        Ok(Some(diamond)) => has_order(alloc, &diamond, DIAMOND_ORDER),
+        Ok(None) | Err(NoMemory) => false,
+    }
+}
+
+/// Whether the rows that are no graph are told from one.
+fn is_astray_refused(alloc: Global) -> bool {
+    match lists_of(alloc, ASTRAY) {
+        Ok(lists) => !is_graph(lists.as_slice()),
+        Err(NoMemory) => false,
+    }
 }
 
 #[test]
-fn a_node_comes_after_those_that_it_leads_to(rt: HostRuntime) -> Result<(), Fail> {
-    let diamond = graph(rt.alloc(), DIAMOND)?;
-    let (order, _, _) = counts(rt.alloc(), &diamond, 1)?.ok_or("no order")?;
-    assert!(rt; order.as_slice() == DIAMOND_ORDER);
-    let astray = lists_of(rt.alloc(), ASTRAY)?;
-    assert!(rt; !is_graph(astray.as_slice()));
-    Ok(())
+fn a_node_comes_after_those_that_it_leads_to(rt: HostRuntime) {
+    assert!(rt; is_diamond_ordered(rt.alloc()));
+    assert!(rt; is_astray_refused(rt.alloc()));
 }
