@@ -1,7 +1,8 @@
-ghost use Rattle.std.specs.Prelude.{◌≡◌, OnOk};
+ghost use Rattle.std.specs.Prelude.{◌≡◌, ◌<◌, length};
 
 use super::formulas::{clause, formula, lit};
 use clause_core::Formula;
+use list_base::NoMemory;
 use sat_trail::Trail;
 use std::alloc::Global;
 use std::test::Fail;
@@ -92,57 +93,78 @@ const ROWS: &[Row] = &[
     ),
 ];
 
-/// Decides on the literal, if the trail allows it.
-fn decide(trail: &mut Trail, vars: u32, number: i32) -> Result<(), Fail>
+/// Decides on the literal; whether the trail allows it.
+fn decides(trail: &mut Trail, vars: u32, number: i32) -> bool
     requires { trail.old.vars ≡ vars }
-    ensures { OnOk result (trail.new.vars ≡ vars) }
+    ensures { trail.new.vars ≡ vars }
 {
     let lit = lit(number);
     if !trail.ready() || lit.var == 0 || lit.var > vars || trail.value(lit.var).is_some() {
-        return Err("no decision".into());
+        return false;
     }
     trail.decide(lit);
-    Ok(())
+    true
 }
 
-/// Adds the clause of one literal, if the trail allows it.
-fn add(alloc: Global, trail: &mut Trail, vars: u32, number: i32) -> Result<u32, Fail>
-    requires { trail.old.vars ≡ vars }
-    ensures { OnOk result (trail.new.vars ≡ vars) }
+/// Goes back to the level; whether the trail allows it.
+fn goes_back(trail: &mut Trail, level: u32) -> bool
+    ensures { trail.new.vars ≡ trail.old.vars }
 {
-    let learned = clause(alloc, &[number])?;
+    if level > trail.level() {
+        return false;
+    }
+    trail.back_to(level);
+    true
+}
+
+/// Removes the clause of the number; whether the trail allows it.
+fn removes(trail: &mut Trail, number: u32) -> bool
+    ensures { trail.new.vars ≡ trail.old.vars }
+{
+    if trail.len() > 0 || !trail.has_clause(number) {
+        return false;
+    }
+    trail.remove(number);
+    true
+}
+
+/// The number under which the clause of one literal is added; nothing if the trail does not allow
+/// it or memory runs out.
+fn add(alloc: Global, trail: &mut Trail, vars: u32, number: i32) -> Option<u32>
+    requires { trail.old.vars ≡ vars }
+    ensures { trail.new.vars ≡ vars }
+{
+    let learned = clause(alloc, &[number]).ok()?;
     if !learned.is_over(vars) || trail.level() > 0 || trail.last_number() >= 10 {
-        return Err("no clause".into());
+        return None;
     }
-    let given = trail.add(learned)?;
-    if trail.clause(given).lits() != [lit(number)].as_slice() {
-        return Err("another clause".into());
-    }
-    Ok(given)
+    trail.add(learned).ok()
 }
 
-/// Makes the call, and gives the number that it gives.
-fn make(
-    alloc: Global,
-    trail: &mut Trail,
-    vars: u32,
-    call: char,
-    number: i32,
-) -> Result<Option<u32>, Fail>
+/// Whether the clause of one literal is added under the number.
+fn adds(alloc: Global, trail: &mut Trail, vars: u32, number: i32, given: u32) -> bool
     requires { trail.old.vars ≡ vars }
-    ensures { OnOk result (trail.new.vars ≡ vars) }
+    ensures { trail.new.vars ≡ vars }
 {
-    match call {
-        'p' => return Ok(trail.propagate()),
-        'd' => decide(trail, vars, number)?,
-        'b' if number.unsigned_abs() <= trail.level() => trail.back_to(number.unsigned_abs()),
-        'a' => return Ok(Some(add(alloc, trail, vars, number)?)),
-        'r' if trail.len() == 0 && trail.has_clause(number.unsigned_abs()) => {
-            trail.remove(number.unsigned_abs());
-        }
-        _ => return Err("no such call".into()),
+    add(alloc, trail, vars, number) == Some(given)
+        && trail.has_clause(given)
+        && trail.clause(given).lits() == [lit(number)].as_slice()
+}
+
+/// Makes the call; whether the trail allows it, and gives what it should.
+fn makes(alloc: Global, trail: &mut Trail, vars: u32, call: &Call) -> bool
+    requires { trail.old.vars ≡ vars }
+    ensures { trail.new.vars ≡ vars }
+{
+    let number = call.1;
+    match (call.0, call.2) {
+        ('p', given) => trail.propagate() == given,
+        ('d', None) => decides(trail, vars, number),
+        ('b', None) => goes_back(trail, number.unsigned_abs()),
+        ('a', Some(given)) => adds(alloc, trail, vars, number, given),
+        ('r', None) => removes(trail, number.unsigned_abs()),
+        (_, _) => false,
     }
-    Ok(None)
 }
 
 /// Whether exactly the clauses of these numbers are live.
@@ -150,16 +172,23 @@ fn has_clauses(trail: &Trail, live: &[u32]) -> bool {
     (0..10).all(|number| trail.has_clause(number) == live.contains(&number))
 }
 
+/// Whether the literal at the position is the wanted one, with its level and its reason.
+fn is_entry(trail: &Trail, position: u32, wanted: (i32, u32, u32)) -> bool
+    requires { position < length trail.now.entries }
+{
+    let set = trail.at(position);
+    set == lit(wanted.0)
+        && trail.level_of(set.var) == Some(wanted.1)
+        && trail.reason(set.var).unwrap_or(0) == wanted.2
+}
+
 /// Whether exactly these literals are set, in this order.
 fn has_entries(trail: &Trail, wanted: &[(i32, u32, u32)]) -> bool {
     if trail.len() as usize != wanted.len() {
         return false;
     }
-    for (position, (number, level, reason)) in wanted.iter().enumerate() {
-        let set = trail.at(position as u32);
-        let is_level = trail.level_of(set.var) == Some(*level);
-        let is_reason = trail.reason(set.var).unwrap_or(0) == *reason;
-        if set != lit(*number) || !is_level || !is_reason {
+    for (position, entry) in wanted.iter().enumerate() {
+        if !is_entry(trail, position as u32, *entry) {
             return false;
         }
     }
@@ -167,56 +196,45 @@ fn has_entries(trail: &Trail, wanted: &[(i32, u32, u32)]) -> bool {
 }
 
 /// Whether the trail is after the call as it should be.
-fn is_as_wanted(trail: &Trail, answer: Option<u32>, call: &Call) -> bool {
-    let (_, _, given, ready, live, entries) = call;
-    answer == *given
-        && trail.ready() == *ready
-        && has_clauses(trail, live)
-        && has_entries(trail, entries)
+fn is_as_wanted(trail: &Trail, (_, _, _, ready, live, entries): &Call) -> bool {
+    trail.ready() == *ready && has_clauses(trail, live) && has_entries(trail, entries)
 }
 
-/// Whether the call leaves the trail as it should be.
-fn is_made(alloc: Global, trail: &mut Trail, vars: u32, call: &Call) -> Result<bool, Fail>
-    requires { trail.old.vars ≡ vars }
-    ensures { OnOk result (trail.new.vars ≡ vars) }
-{
-    let answer = make(alloc, trail, vars, call.0, call.1)?;
-    Ok(is_as_wanted(trail, answer, call))
-}
-
-/// Whether each of the calls leaves the trail as it should be.
-fn are_made(alloc: Global, trail: &mut Trail, vars: u32, calls: &[Call]) -> Result<bool, Fail>
+/// Whether each of the calls gives what it should, and leaves the trail as it should be.
+fn are_made(alloc: Global, trail: &mut Trail, vars: u32, calls: &[Call]) -> bool
     requires { trail.old.vars ≡ vars }
 {
     for call in calls {
-        if !is_made(alloc, trail, vars, call)? {
-            return Ok(false);
+        if !makes(alloc, trail, vars, call) || !is_as_wanted(trail, call) {
+            return false;
         }
     }
-    Ok(true)
+    true
 }
 
 /// Whether the formula is small, and each of the calls leaves its trail as it should be.
-fn are_made_on(alloc: Global, f: &Formula, calls: &[Call]) -> Result<bool, Fail> {
+fn are_made_on(alloc: Global, f: &Formula, calls: &[Call]) -> bool {
     if f.clauses.len() >= 10 {
-        return Ok(false);
+        return false;
     }
-    let mut trail = Trail::new(alloc, f)?;
-    are_made(alloc, &mut trail, f.vars, calls)
+    match Trail::new(alloc, f) {
+        Ok(mut trail) => are_made(alloc, &mut trail, f.vars, calls),
+        Err(NoMemory) => false,
+    }
 }
 
 /// Whether the row is a formula, and each of its calls leaves the trail as it should be.
-fn is_passed(alloc: Global, (vars, clauses, calls): &Row) -> Result<bool, Fail> {
-    match formula(alloc, *vars, clauses)? {
-        Some(f) => are_made_on(alloc, &f, calls),
-        None => Ok(false),
+fn is_passed(alloc: Global, (vars, clauses, calls): &Row) -> bool {
+    match formula(alloc, *vars, clauses) {
+        Ok(Some(f)) => are_made_on(alloc, &f, calls),
+        Ok(None) | Err(NoMemory) => false,
     }
 }
 
 #[test]
 fn each_call_leaves_its_trail(rt: HostRuntime) -> Result<(), Fail> {
     for row in ROWS {
-        assert!(rt; is_passed(rt.alloc(), row)?);
+        assert!(rt; is_passed(rt.alloc(), row));
     }
     Ok(())
 }
