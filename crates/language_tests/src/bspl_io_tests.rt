@@ -1,10 +1,11 @@
+ghost use Rattle.std.specs.Prelude.{◌<◌};
+
 use bspl_io::{
     MemSink, MemSource, PlainSink, PlainSource, ReadRefusal, StdSink, StdSource, WriteRefusal,
     read_all, write_all,
 };
 use list_base::{Bytes, NoMemory, NumberList};
 use std::alloc::Global;
-use std::test::Fail;
 
 const TEXT: &[u8] = b"protocol Ping\nsafe yes\nlive no";
 
@@ -13,7 +14,9 @@ type Answer = Result<&'static [u8], ReadRefusal>;
 
 /// The length of a source's pieces, the numbers of its calls that fail, the limit, and the answers
 /// to a first and to a second call.
-const READS: &[(usize, &[u32], u64, Answer, Answer)] = &[
+type Reading = (usize, &'static [u32], u64, Answer, Answer);
+
+const READS: &[Reading] = &[
     (1, &[99], 30, Ok(TEXT), Ok(b"")),
     (4, &[99], 30, Ok(TEXT), Ok(b"")),
     (7, &[99], 30, Ok(TEXT), Ok(b"")),
@@ -28,11 +31,15 @@ const READS: &[(usize, &[u32], u64, Answer, Answer)] = &[
 ];
 
 /// The limit, and why a text of five bytes is not read.
-const LIMITS: &[(u64, Option<ReadRefusal>)] = &[(4, Some(ReadRefusal::TooLong)), (5, None)];
+type Limit = (u64, Option<ReadRefusal>);
+
+const LIMITS: &[Limit] = &[(4, Some(ReadRefusal::TooLong)), (5, None)];
 
 /// The numbers of a sink's calls that fail, whether the text is written, and what is written when
 /// one byte more has followed. A sink's pieces have eight bytes.
-const WRITES: &[(&[u32], Result<(), WriteRefusal>, &[u8])] = &[
+type Writing = (&'static [u32], Result<(), WriteRefusal>, &'static [u8]);
+
+const WRITES: &[Writing] = &[
     (&[], Ok(()), b"protocol Ping\nsafe yes\nlive no!"),
     (&[3], Err(WriteRefusal::WriteFault), b"protocol Ping\nsa!"),
 ];
@@ -51,56 +58,71 @@ fn is_read(alloc: Global, source: &mut MemSource, limit: u64, wanted: Answer) ->
     is_answer(read_all(alloc, source, limit), wanted)
 }
 
-/// Whether a source of the row gives its answers; not if its pieces are empty.
-fn reads(
-    alloc: Global,
-    (piece, fails, limit, first, second): (usize, &[u32], u64, Answer, Answer),
-) -> Result<bool, NoMemory> {
-    if piece == 0 {
-        return Ok(false);
-    }
+/// The text in a source whose calls of these numbers fail.
+fn source(alloc: Global, piece: usize, fails: &[u32]) -> Result<MemSource, NoMemory>
+    requires { 0 < piece }
+{
     let fails = NumberList::from_slice(alloc, fails)?;
     let text = Bytes::from_slice(alloc, TEXT)?;
-    let mut source = MemSource::new(text, piece, fails);
-    Ok(is_read(alloc, &mut source, limit, first) && is_read(alloc, &mut source, limit, second))
+    Ok(MemSource::new(text, piece, fails))
+}
+
+/// Whether a source of the row gives its answers; not if its pieces are empty.
+fn reads(alloc: Global, (piece, fails, limit, first, second): &Reading) -> bool {
+    if *piece == 0 {
+        return false;
+    }
+    match source(alloc, *piece, fails) {
+        Ok(mut source) => {
+            is_read(alloc, &mut source, *limit, *first)
+                && is_read(alloc, &mut source, *limit, *second)
+        }
+        Err(NoMemory) => false,
+    }
 }
 
 #[test]
-fn reads_pieces_to_the_end_or_a_fault(rt: HostRuntime) -> Result<(), Fail> {
+fn reads_pieces_to_the_end_or_a_fault(rt: HostRuntime) {
     for row in READS {
-        assert!(rt; reads(rt.alloc(), *row) == Ok(true));
+        assert!(rt; reads(rt.alloc(), row));
     }
-    Ok(())
+}
+
+/// Whether a text of five bytes is read, or not, as the row says.
+fn is_limited(alloc: Global, (limit, wanted): &Limit) -> bool {
+    match Bytes::from_slice(alloc, b"hello") {
+        Ok(text) => read_all(alloc, &mut PlainSource::new(text), *limit).err() == *wanted,
+        Err(NoMemory) => false,
+    }
 }
 
 #[test]
-fn refuses_a_long_text(rt: HostRuntime) -> Result<(), Fail> {
-    for (limit, wanted) in LIMITS {
-        let mut source = PlainSource::new(Bytes::from_slice(rt.alloc(), b"hello")?);
-        assert!(rt; read_all(rt.alloc(), &mut source, *limit).err() == *wanted);
+fn refuses_a_long_text(rt: HostRuntime) {
+    for row in LIMITS {
+        assert!(rt; is_limited(rt.alloc(), row));
     }
-    Ok(())
 }
 
-/// Whether a sink whose calls of these numbers fail gives the answer, and what it has then.
-fn writes(
-    alloc: Global,
-    fails: &[u32],
-    wanted: Result<(), WriteRefusal>,
-    written: &[u8],
-) -> Result<bool, NoMemory> {
-    let mut sink = MemSink::new(alloc, 8, NumberList::from_slice(alloc, fails)?);
+/// Whether the sink gives the answer, takes one byte more, and has then these bytes.
+fn is_written(mut sink: MemSink, wanted: Result<(), WriteRefusal>, written: &[u8]) -> bool {
     let answer = write_all(&mut sink, TEXT);
     let more = write_all(&mut sink, b"!");
-    Ok(answer == wanted && more.is_ok() && sink.written() == written)
+    answer == wanted && more.is_ok() && sink.written() == written
+}
+
+/// Whether a sink of the row gives its answer.
+fn writes(alloc: Global, (fails, wanted, written): &Writing) -> bool {
+    match NumberList::from_slice(alloc, fails) {
+        Ok(fails) => is_written(MemSink::new(alloc, 8, fails), *wanted, written),
+        Err(NoMemory) => false,
+    }
 }
 
 #[test]
-fn writes_pieces_until_a_fault(rt: HostRuntime) -> Result<(), Fail> {
-    for (fails, wanted, written) in WRITES {
-        assert!(rt; writes(rt.alloc(), fails, *wanted, written) == Ok(true));
+fn writes_pieces_until_a_fault(rt: HostRuntime) {
+    for row in WRITES {
+        assert!(rt; writes(rt.alloc(), row));
     }
-    Ok(())
 }
 
 /// Whether a plain sink has what it is given.
