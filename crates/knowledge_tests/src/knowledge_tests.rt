@@ -2,57 +2,15 @@ ghost use Rattle.std.specs.Prelude.{◌↔◌, IsTrue};
 ghost use Rattle.bspl_types.specs.History.{instance_of, IsRun};
 ghost use Rattle.bspl_types.specs.Instance.{Fits};
 
+use super::protocols::listed;
 use super::rows::{
-    Act, Emission, Known, OFFER, OFFER_EMISSIONS, OUT, PAIR, PAIR_EMISSIONS, PAIR_KNOWN, PURCHASE,
+    Act, Emission, Known, OFFER, OFFER_EMISSIONS, PAIR, PAIR_EMISSIONS, PAIR_KNOWN, PURCHASE,
     PURCHASE_EMISSIONS, Protocol, Want,
 };
-use bspl_types::{
-    Adornment, Carried, CarriedList, Event, Expanded, Instance, Key, Message, NoMemory, ParamInfo,
-    Run, Seq, Value, Values,
-};
+use bspl_types::{Event, Expanded, Instance, Key, NoMemory, Run, Seq, Value, Values};
 use role_knowledge::{Block, enabled, knows};
 use std::alloc::Global;
 use std::test::Fail;
-
-/// What the message carries.
-fn carried(alloc: Global, pairs: &[(u32, Adornment)]) -> Result<CarriedList, NoMemory> {
-    let mut carried = Seq::new(alloc);
-    for (param, adornment) in pairs {
-        carried.push(Carried {
-            param: *param,
-            adornment: *adornment,
-        })?;
-    }
-    Ok(carried)
-}
-
-/// The protocol, if it is well formed.
-pub(crate) fn assemble(alloc: Global, protocol: Protocol) -> Result<Option<Expanded>, NoMemory> {
-    let mut roles = Seq::new(alloc);
-    for role in [b"A", b"B", b"C"] {
-        roles.push(Seq::from_slice(alloc, role)?)?;
-    }
-    let mut params = Seq::new(alloc);
-    for (index, text) in protocol.2.iter().enumerate() {
-        let is_public = index < protocol.1 as usize;
-        params.push(ParamInfo {
-            name: Seq::from_slice(alloc, text)?,
-            adornment: if is_public { Some(OUT) } else { None },
-            key: index < protocol.0 as usize,
-        })?;
-    }
-    let mut messages = Seq::new(alloc);
-    for (text, sender, receiver, pairs) in protocol.3 {
-        messages.push(Message {
-            name: Seq::from_slice(alloc, text)?,
-            sender: *sender,
-            receiver: *receiver,
-            carried: carried(alloc, pairs)?,
-        })?;
-    }
-    let name = Seq::from_slice(alloc, b"P")?;
-    Expanded::assemble(alloc, name, roles, params, protocol.1, messages)
-}
 
 /// The numbers as values, if there are at most five.
 fn cells(numbers: &[u64]) -> Option<[Value; 5]> {
@@ -172,10 +130,39 @@ fn known(alloc: Global, x: &Expanded, row: Known) -> Result<Option<Option<Value>
 }
 
 /// Whether each row has the answer that is wanted.
-fn are_answered(alloc: Global, protocol: Protocol, rows: &[Emission]) -> Result<bool, Fail> {
-    let x = assemble(alloc, protocol)?.ok_or("the protocol is not well formed")?;
+fn are_answered(alloc: Global, x: &Expanded, rows: &[Emission]) -> Result<bool, NoMemory> {
     for row in rows {
-        if emits(alloc, &x, *row)? != Some(true) {
+        if emits(alloc, x, *row)? != Some(true) {
+            return Ok(false);
+        }
+    }
+    Ok(true)
+}
+
+/// The same for the protocol.
+fn is_answered(alloc: Global, protocol: Protocol, rows: &[Emission]) -> Result<bool, Fail> {
+    let protocols = listed(alloc, protocol)?;
+    Ok(are_answered(alloc, protocols.at(0), rows)?)
+}
+
+#[test]
+fn emissions_are_enabled_or_blocked(rt: HostRuntime) -> Result<(), Fail> {
+    assert!(rt; is_answered(rt.alloc(), PAIR, PAIR_EMISSIONS)?);
+    assert!(rt; is_answered(rt.alloc(), PURCHASE, PURCHASE_EMISSIONS)?);
+    assert!(rt; is_answered(rt.alloc(), OFFER, OFFER_EMISSIONS)?);
+    Ok(())
+}
+
+/// Whether the number that the row wants is known.
+fn is_known(alloc: Global, x: &Expanded, row: Known) -> Result<bool, NoMemory> {
+    let want = row.4.map(|number| Value::Number(number));
+    Ok(known(alloc, x, row)? == Some(want))
+}
+
+/// Whether that is so of each row.
+fn are_known(alloc: Global, x: &Expanded, rows: &[Known]) -> Result<bool, NoMemory> {
+    for row in rows {
+        if !is_known(alloc, x, *row)? {
             return Ok(false);
         }
     }
@@ -183,19 +170,8 @@ fn are_answered(alloc: Global, protocol: Protocol, rows: &[Emission]) -> Result<
 }
 
 #[test]
-fn emissions_are_enabled_or_blocked(rt: HostRuntime) -> Result<(), Fail> {
-    assert!(rt; are_answered(rt.alloc(), PAIR, PAIR_EMISSIONS)?);
-    assert!(rt; are_answered(rt.alloc(), PURCHASE, PURCHASE_EMISSIONS)?);
-    assert!(rt; are_answered(rt.alloc(), OFFER, OFFER_EMISSIONS)?);
-    Ok(())
-}
-
-#[test]
 fn the_first_value_is_known(rt: HostRuntime) -> Result<(), Fail> {
-    let x = assemble(rt.alloc(), PAIR)?.ok_or("the protocol is not well formed")?;
-    for row in PAIR_KNOWN {
-        let want = row.4.map(|number| Value::Number(number));
-        assert!(rt; known(rt.alloc(), &x, *row)? == Some(want));
-    }
+    let pairs = listed(rt.alloc(), PAIR)?;
+    assert!(rt; are_known(rt.alloc(), pairs.at(0), PAIR_KNOWN)?);
     Ok(())
 }

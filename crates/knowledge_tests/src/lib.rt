@@ -6,6 +6,8 @@ mod knowledge_tests;
 #[cfg(test)]
 mod liveness_tests;
 #[cfg(test)]
+mod protocols;
+#[cfg(test)]
 mod rows;
 #[cfg(test)]
 mod run_rows;

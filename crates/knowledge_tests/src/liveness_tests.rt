@@ -1,4 +1,4 @@
-use super::knowledge_tests::assemble;
+use super::protocols::{alone, well_formed};
 use super::rows::{OUT, Protocol};
 use adornment_check::admit;
 use bspl_types::Admitted;
@@ -24,9 +24,12 @@ fn answer(alloc: Global, protocol: &Admitted, text: &[u8]) -> Option<Result<(), 
     }
 }
 
+/// The text of a log, and the answer.
+type Row<'a> = (&'a [u8], Result<(), Reject>);
+
 /// Logs for the liveness formula of Ping, and the answers. Its clauses 5 to 7 say that the message
 /// is sent, that a message that is sent binds the key, and that the key is unbound.
-const ROWS: &[(&[u8], Result<(), Reject>)] = &[
+const ROWS: &[Row] = &[
     (b"log 1 liveness\nstep 5 1 6 -3 7\nend\n", Ok(())),
     (
         b"log 1 liveness\nstep 5 1 6 3 7\nend\n",
@@ -43,17 +46,23 @@ const ROWS: &[(&[u8], Result<(), Reject>)] = &[
     ),
 ];
 
+/// Whether the log of the row has its answer.
+fn is_answered(alloc: Global, ping: &Admitted, row: &Row) -> bool {
+    answer(alloc, ping, row.0) == Some(row.1)
+}
+
 /// The protocol Ping.
 fn ping(alloc: Global) -> Result<Admitted, Fail> {
-    let x = assemble(alloc, PING)?.ok_or("the protocol is not well formed")?;
+    let x = well_formed(alloc, PING)?;
     Ok(admit(x).ok().ok_or("the protocol is not admitted")?)
 }
 
 #[test]
 fn logs_of_the_liveness_of_ping(rt: HostRuntime) -> Result<(), Fail> {
-    let ping = ping(rt.alloc())?;
-    for (text, wanted) in ROWS {
-        assert!(rt; answer(rt.alloc(), &ping, text) == Some(*wanted));
+    let pings = alone(rt.alloc(), ping(rt.alloc())?)?;
+    let ping = pings.at(0);
+    for row in ROWS {
+        assert!(rt; is_answered(rt.alloc(), ping, row));
     }
     Ok(())
 }

@@ -1,4 +1,5 @@
-use super::knowledge_tests::{are_fit, assemble, key, run};
+use super::knowledge_tests::{are_fit, key, run};
+use super::protocols::listed;
 use super::rows::{PAIR, Protocol};
 use super::run_rows::{PAIR_RUNS, RACE, RACE_RUNS, RunRow, Verdict};
 use bspl_types::{Event, Expanded, Key, NoMemory, Value};
@@ -55,19 +56,24 @@ fn is_judged(alloc: Global, x: &Expanded, row: RunRow) -> Result<bool, NoMemory>
 }
 
 /// Whether each row has the answers that are wanted.
-fn are_judged(alloc: Global, protocol: Protocol, rows: &[RunRow]) -> Result<bool, Fail> {
-    let x = assemble(alloc, protocol)?.ok_or("the protocol is not well formed")?;
+fn are_judged(alloc: Global, x: &Expanded, rows: &[RunRow]) -> Result<bool, NoMemory> {
     for row in rows {
-        if !is_judged(alloc, &x, *row)? {
+        if !is_judged(alloc, x, *row)? {
             return Ok(false);
         }
     }
     Ok(true)
 }
 
+/// The same for the protocol.
+fn judges(alloc: Global, protocol: Protocol, rows: &[RunRow]) -> Result<bool, Fail> {
+    let protocols = listed(alloc, protocol)?;
+    Ok(are_judged(alloc, protocols.at(0), rows)?)
+}
+
 #[test]
 fn runs_are_judged(rt: HostRuntime) -> Result<(), Fail> {
-    assert!(rt; are_judged(rt.alloc(), PAIR, PAIR_RUNS)?);
-    assert!(rt; are_judged(rt.alloc(), RACE, RACE_RUNS)?);
+    assert!(rt; judges(rt.alloc(), PAIR, PAIR_RUNS)?);
+    assert!(rt; judges(rt.alloc(), RACE, RACE_RUNS)?);
     Ok(())
 }
