@@ -2,7 +2,7 @@ ghost use Rattle.std.specs.Prelude.{◌≡◌, ◌==◌, length};
 ghost use Rattle.std.specs.List.{filter, list_any};
 ghost use Rattle.bspl_types.specs.Choice.{is_chosen};
 
-use super::fixtures::{has_room, hold, key, number, store};
+use super::fixtures::{alone, has_room, hold, key, make_room, number, store};
 use super::protocols::{IN, OUT, Protocol};
 use bspl_types::{Adornment, Carried, Key, Value};
 use local_store::Store;
@@ -75,6 +75,14 @@ const PURCHASE: Protocol = (
 /// The row of `quote`: no request for a quote has come.
 const PURCHASE_ROWS: &[Row] = &[(&[1], 9, Outcome::Missing(0))];
 
+/// A protocol, a role, its message, the rows, and how many events its store has in the end.
+type Case<'a> = (Protocol<'a>, u32, u32, &'a [Row<'a>], u32);
+
+const CASES: &[Case] = &[
+    (PAIR, 0, 0, PAIR_ROWS, 2),
+    (PURCHASE, 1, 1, PURCHASE_ROWS, 0),
+];
+
 /// How many values the sender chooses.
 fn count_chosen(keys: &[u32], carried: &[Carried]) -> usize
     ensures { result ≡ length (filter (is_chosen keys.now) carried.now) }
@@ -131,22 +139,23 @@ fn first_wrong(store: &mut Store, message: u32, rows: &[Row]) -> Result<Option<u
     Ok(None)
 }
 
-/// That index in a new store of the role, and how many events the store has in the end.
-fn answers(
-    alloc: Global,
-    (protocol, role): (Protocol, u32),
-    message: u32,
-    rows: &[Row],
-) -> Result<(Option<usize>, u32), Fail> {
-    let mut store = store(alloc, protocol, role)?;
-    let wrong = first_wrong(&mut store, message, rows)?;
+/// That index in a store without room, and how many events the store has in the end.
+fn answers(store: &mut Store, message: u32, rows: &[Row]) -> Result<(Option<usize>, u32), Fail> {
+    make_room(store)?;
+    let wrong = first_wrong(store, message, rows)?;
     Ok((wrong, store.len()))
 }
 
-/// No row is answered otherwise than is wanted.
+/// Whether no row of the case is answered otherwise than is wanted in a new store.
+fn is_answered(alloc: Global, case: &Case) -> Result<bool, Fail> {
+    let mut stores = alone(alloc, store(alloc, case.0, case.1)?)?;
+    Ok(answers(stores.at_mut(0), case.2, case.3)? == (None, case.4))
+}
+
 #[test]
 fn a_store_emits_or_says_why_not(rt: HostRuntime) -> Result<(), Fail> {
-    assert!(rt; answers(rt.alloc(), (PAIR, 0), 0, PAIR_ROWS)? == (None, 2));
-    assert!(rt; answers(rt.alloc(), (PURCHASE, 1), 1, PURCHASE_ROWS)? == (None, 0));
+    for case in CASES {
+        assert!(rt; is_answered(rt.alloc(), case)?);
+    }
     Ok(())
 }

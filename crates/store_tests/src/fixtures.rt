@@ -1,9 +1,9 @@
-ghost use Rattle.std.specs.Prelude.{◌<◌, IsTrue};
+ghost use Rattle.std.specs.Prelude.{◌≡◌, ◌<◌, [], ◌∷◌, IsTrue, IfOk};
 ghost use Rattle.std.specs.List.{Contains};
 ghost use Rattle.stamped_history.specs.Entries.{last_stamp};
 
 use super::protocols::{Protocol, admitted};
-use bspl_types::{Key, Value};
+use bspl_types::{Admitted, Key, NoMemory, Seq, Value};
 use local_store::Store;
 use std::alloc::Global;
 use std::test::Fail;
@@ -25,15 +25,36 @@ pub(crate) fn number(value: Value) -> Option<u64> {
     }
 }
 
-/// A store of the role, with room for ten events.
-pub(crate) fn store(alloc: Global, protocol: Protocol, role: u32) -> Result<Store, Fail> {
-    let protocol = admitted(alloc, protocol)?;
+/// A list of the item alone: it is one value to drop, where the item may have many.
+pub(crate) fn alone<T: Drop>(alloc: Global, item: T) -> Result<Seq<T>, NoMemory>
+    ensures { IfOk result (λ list. list ≡ item ∷ []) }
+{
+    let mut list = Seq::new(alloc);
+    list.push(item)?;
+    Ok(list)
+}
+
+/// A store of the role, if the protocol has it.
+fn store_of(alloc: Global, protocol: &Admitted, role: u32) -> Result<Store, Fail> {
     if role as usize >= protocol.expanded().roles.len() {
         return Err("the protocol has no such role".into());
     }
-    let mut store = Store::new(alloc, &protocol, role)?;
+    Ok(Store::new(alloc, protocol, role)?)
+}
+
+/// A store of the role.
+pub(crate) fn store(alloc: Global, protocol: Protocol, role: u32) -> Result<Store, Fail> {
+    let protocols = alone(alloc, admitted(alloc, protocol)?)?;
+    store_of(alloc, protocols.at(0), role)
+}
+
+/// Makes room for ten events in a store with few events.
+pub(crate) fn make_room(store: &mut Store) -> Result<(), Fail> {
+    if store.len() > 10 {
+        return Err("the store has many events".into());
+    }
     store.reserve(10)?;
-    Ok(store)
+    Ok(())
 }
 
 /// Makes the key of these numbers held.

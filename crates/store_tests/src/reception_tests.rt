@@ -1,4 +1,4 @@
-use super::fixtures::{has_room, hold, key, number, store};
+use super::fixtures::{alone, has_room, hold, key, make_room, number, store};
 use super::protocols::{OUT, Protocol};
 use bspl_types::{Instance, Key, Stamped, Value, Values};
 use local_store::{Receipt, Store};
@@ -90,18 +90,19 @@ fn first_wrong(store: &mut Store, key: Key) -> Option<usize> {
     None
 }
 
-/// That index, and what the store has in the end.
+/// That index in a store without room, and what the store has in the end.
 fn answers(store: &mut Store) -> Result<(Option<usize>, Ending), Fail> {
+    make_room(store)?;
     hold(store, &[1])?;
     let key = key(&[1]).ok_or("this is a key")?;
     let wrong = first_wrong(store, key);
     Ok((wrong, end_of(store, &key)))
 }
 
-/// The same for a new store of C.
+/// The same in a new store of C.
 fn new_answers(alloc: Global) -> Result<(Option<usize>, Ending), Fail> {
-    let mut receiver = store(alloc, CLASH, 2)?;
-    answers(&mut receiver)
+    let mut stores = alone(alloc, store(alloc, CLASH, 2)?)?;
+    answers(stores.at_mut(0))
 }
 
 /// No row is answered otherwise than is wanted.

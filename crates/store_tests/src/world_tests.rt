@@ -3,6 +3,7 @@ ghost use Rattle.bspl_types.specs.History.{instance_of, IsRun};
 ghost use Rattle.bspl_types.specs.Instance.{Fits};
 ghost use Rattle.enactment_model.specs.Safety.{SafeProtocol};
 
+use super::fixtures::alone;
 use super::protocols::{IN, OUT, Protocol, admitted};
 use agent_scripts::Job;
 use bspl_types::{Event, Expanded, NoMemory, Run};
@@ -78,8 +79,8 @@ fn judged_run(alloc: Global, job: &Job) -> Result<(usize, bool), Fail> {
 
 /// The same of the agents of the text.
 fn judged_text(alloc: Global, text: &[u8]) -> Result<(usize, bool), Fail> {
-    let job = relay_job(alloc, text)?;
-    judged_run(alloc, &job)
+    let jobs = alone(alloc, relay_job(alloc, text)?)?;
+    judged_run(alloc, jobs.at(0))
 }
 
 /// Each of the three messages is lost at one of the eight keys, and nothing follows what is lost:
