@@ -1,7 +1,8 @@
+use super::args::args_of;
 use bspl_io::{MemSink, MemSource};
 use bspl_tool::{Status, bspl};
-use bspl_types::{Bytes, NumberList};
-use std::alloc::{AllocError, Global};
+use bspl_types::{Bytes, NoMemory, NumberList};
+use std::alloc::Global;
 use std::test::Fail;
 
 const PING: &[u8] = b"Ping { roles A, B parameters out ID key A -> B: ping[out ID] }";
@@ -28,24 +29,34 @@ const ROWS: &[Row] = &[
     ),
 ];
 
-/// The arguments of a row, with blanks between them.
-fn args_of(alloc: Global, text: &str) -> Result<Vec<String>, AllocError> {
-    let mut args = Vec::new(alloc);
-    for arg in text.split_whitespace() {
-        args.push(arg.to_string(alloc)?)?;
-    }
-    Ok(args)
+/// The source of the text, at whose calls of these numbers there is a fault.
+fn source(alloc: Global, faults: &[u32]) -> Result<MemSource, NoMemory> {
+    let faults = NumberList::from_slice(alloc, faults)?;
+    Ok(MemSource::new(Bytes::from_slice(alloc, PING)?, 16, faults))
+}
+
+/// The sink, at whose calls of these numbers there is a fault.
+fn sink(alloc: Global, faults: &[u32]) -> Result<MemSink, NoMemory> {
+    Ok(MemSink::new(alloc, 8, NumberList::from_slice(alloc, faults)?))
+}
+
+/// Whether a call with the arguments and the source has the status of the row, and writes its text.
+fn is_status(
+    alloc: Global,
+    args: &[String],
+    source: &mut MemSource,
+    row: Row,
+) -> Result<bool, NoMemory> {
+    let mut sink = sink(alloc, row.2)?;
+    let status = bspl(alloc, args, source, &mut sink);
+    Ok(status == row.3 && sink.written() == row.4)
 }
 
 /// Whether a call has the status of the row, and writes its text.
-fn is_answered(alloc: Global, row: Row) -> Result<bool, Fail> {
+fn is_answered(alloc: Global, row: Row) -> Result<bool, NoMemory> {
     let args = args_of(alloc, row.0)?;
-    let reads = NumberList::from_slice(alloc, row.1)?;
-    let writes = NumberList::from_slice(alloc, row.2)?;
-    let mut source = MemSource::new(Bytes::from_slice(alloc, PING)?, 16, reads);
-    let mut sink = MemSink::new(alloc, 8, writes);
-    let status = bspl(alloc, args.as_slice(), &mut source, &mut sink);
-    Ok(status == row.3 && sink.written() == row.4)
+    let mut source = source(alloc, row.1)?;
+    is_status(alloc, args.as_slice(), &mut source, row)
 }
 
 #[test]

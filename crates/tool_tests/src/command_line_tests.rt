@@ -1,7 +1,9 @@
+use super::args::args_of;
+use bspl_types::NoMemory;
 use command_line::Command::{Check, Expand, Generate, Replay, Run, Verify};
 use command_line::Subject::{Protocol, Size};
 use command_line::{Command, CommandLine, Subject, command_line};
-use std::alloc::{AllocError, Global};
+use std::alloc::Global;
 use std::test::Fail;
 
 const P: Subject<'static> = Protocol(b"P");
@@ -10,7 +12,9 @@ const LONG: Subject<'static> = Protocol(b"P#12.Q#3.R_");
 
 /// The arguments, with one blank between two of them, and what they ask for: the command, its
 /// subject, whether it is brief, the conflicts and the threads.
-const ROWS: &[(&str, Command, Subject<'static>, bool, u32, u32)] = &[
+type Row = (&'static str, Command, Subject<'static>, bool, u32, u32);
+
+const ROWS: &[Row] = &[
     ("verify P", Verify, P, false, 10_000, 1),
     ("check P", Check, P, false, 10_000, 1),
     ("replay P", Replay, P, false, 10_000, 1),
@@ -99,32 +103,27 @@ const ROWS: &[(&str, Command, Subject<'static>, bool, u32, u32)] = &[
     ),
 ];
 
-/// The arguments of a row.
-fn args_of(alloc: Global, text: &str) -> Result<Vec<String>, AllocError> {
-    let mut args = Vec::new(alloc);
-    for arg in text.split(' ') {
-        args.push(arg.to_string(alloc)?)?;
+/// What the row asks for.
+fn wanted(row: &Row) -> CommandLine<'static> {
+    CommandLine {
+        command: row.1,
+        subject: row.2,
+        brief: row.3,
+        conflicts: row.4,
+        threads: row.5,
     }
-    Ok(args)
 }
 
-/// Whether the arguments are that command line.
-fn is_line(alloc: Global, text: &str, wanted: CommandLine<'_>) -> Result<bool, Fail> {
-    let args = args_of(alloc, text)?;
-    Ok(command_line(alloc, args.as_slice())? == Some(wanted))
+/// Whether the arguments of the row are its command line.
+fn is_line(alloc: Global, row: &Row) -> Result<bool, NoMemory> {
+    let args = args_of(alloc, row.0)?;
+    Ok(command_line(alloc, args.as_slice())? == Some(wanted(row)))
 }
 
 #[test]
 fn reads_command_lines(rt: HostRuntime) -> Result<(), Fail> {
-    for (text, command, subject, brief, conflicts, threads) in ROWS {
-        let wanted = CommandLine {
-            command: *command,
-            subject: *subject,
-            brief: *brief,
-            conflicts: *conflicts,
-            threads: *threads,
-        };
-        assert!(rt; is_line(rt.alloc(), text, wanted)?);
+    for row in ROWS {
+        assert!(rt; is_line(rt.alloc(), row)?);
     }
     Ok(())
 }

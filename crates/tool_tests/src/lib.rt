@@ -2,6 +2,8 @@
 #![tactic(auto)]
 
 #[cfg(test)]
+mod args;
+#[cfg(test)]
 mod call_tests;
 #[cfg(test)]
 mod command_line_tests;
