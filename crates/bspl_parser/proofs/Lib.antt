@@ -20,12 +20,14 @@ pub mod PrintsBackTokens
 pub mod LastEnds
 pub mod Listed
 pub mod Lists
+pub mod MessageParts
 pub mod NameLemmas
 pub mod NameLengthLemmas
 pub mod PackedTokens
 pub mod PlainNames
 pub mod Primitives
 pub mod Printed
+pub mod ReservedWords
 pub mod ScanSteps
 pub mod Scanned
 pub mod Scans

@@ -3,6 +3,7 @@
 
 mod document;
 mod grammar;
+mod item_parser;
 mod laws;
 mod layout;
 mod list_kind;

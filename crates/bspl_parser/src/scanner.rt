@@ -1,8 +1,9 @@
 ghost use Rattle.std.specs.Prelude.{◌≡◌, ◌≤◌, ◌<◌, ◌==◌, length, drop, position, IfSome};
 ghost use Rattle.bspl_parser.specs.Tokens.{is_blank_byte};
 ghost use Rattle.bspl_parser.specs.inner.Scan.{scan_from, rest_from, IsAhead};
-ghost use Rattle.bspl_parser.specs.inner.Scanner.{comment_len, gap_len, word_symbol};
+ghost use Rattle.bspl_parser.specs.inner.Scanner.{comment_len, gap_len, word_among, word_symbol};
 ghost use Rattle.bspl_parser.specs.inner.Scanner.{word_kind, mark_at, first_token};
+ghost use Rattle.bspl_parser.specs.inner.SymbolTable.{long_words, short_words};
 
 use super::name_length::name_len;
 use super::packed_token::{Kind, PackedToken};
@@ -49,9 +50,9 @@ fn gap_len(bytes: &[u8]) -> usize
     }
 }
 
-/// The reserved word that the text is.
-fn word_symbol(text: &[u8]) -> Option<Symbol>
-    ensures { result ≡ word_symbol text.now }
+/// The reserved word of four bytes or more that the text is.
+fn long_word(text: &[u8]) -> Option<Symbol>
+    ensures { result ≡ word_among long_words text.now }
 {
     match text {
         b"roles" => Some(Symbol::Roles),
@@ -59,6 +60,15 @@ fn word_symbol(text: &[u8]) -> Option<Symbol>
         b"parameters" => Some(Symbol::Parameters),
         b"parameter" => Some(Symbol::Parameter),
         b"private" => Some(Symbol::Private),
+        _ => None,
+    }
+}
+
+/// The reserved word of two or three bytes that the text is.
+fn short_word(text: &[u8]) -> Option<Symbol>
+    ensures { result ≡ word_among short_words text.now }
+{
+    match text {
         b"in" => Some(Symbol::In),
         b"out" => Some(Symbol::Out),
         b"nil" => Some(Symbol::Nil),
@@ -66,6 +76,18 @@ fn word_symbol(text: &[u8]) -> Option<Symbol>
         b"opt" => Some(Symbol::Opt),
         b"key" => Some(Symbol::Key),
         _ => None,
+    }
+}
+
+/// The reserved word that the text is.
+#[tactic(auto, using(crate::proofs::ReservedWords::short_is_word, crate::proofs::ReservedWords::long_is_word))]
+fn word_symbol(text: &[u8]) -> Option<Symbol>
+    ensures { result ≡ word_symbol text.now }
+{
+    if text.len() < 4 {
+        short_word(text)
+    } else {
+        long_word(text)
     }
 }
 

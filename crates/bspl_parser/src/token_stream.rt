@@ -2,7 +2,7 @@ ghost use Rattle.std.specs.Prelude.{◌≡◌, ◌==◌, ◌<◌, ◌≤◌, [],
 ghost use Rattle.bspl_parser.specs.inner.ParseResult.{Returns, ReturnsRest};
 ghost use Rattle.bspl_parser.specs.inner.Scan.{scan_from, with_token};
 ghost use Rattle.bspl_parser.specs.inner.TokenParsers.{begins_with, begins_with_name, parse_word};
-ghost use Rattle.bspl_parser.specs.inner.TokenParsers.{parse_symbol};
+ghost use Rattle.bspl_parser.specs.inner.TokenParsers.{parse_symbol, parse_word_after};
 ghost use Rattle.bspl_parser.specs.inner.TokenParsers.{parse_either, adorn_of, parse_adorn};
 ghost use Rattle.bspl_parser.specs.inner.TokenParsers.{parse_key};
 ghost use Rattle.bspl_parser.specs.inner.GrammarParsers.{has_more, parse_separator};
@@ -163,6 +163,17 @@ impl<'t> TokenStream<'t> {
                 }
             }
         }
+    }
+
+    /// Takes that symbol, and a name after it.
+    #[tactic(auto, unfolding(crate::specs::inner::TokenParsers::parse_word_after))]
+    pub fn word_after(&mut self, wanted: Symbol) -> Result<Word<'t>, ErrorPosition>
+        ensures gives { Returns result self.new.tokens (parse_word_after wanted self.old.tokens) }
+        ensures same { self.new.bad_byte ≡ self.old.bad_byte }
+        ensures shorter { OnOk result (length self.new.tokens < length self.old.tokens) }
+    {
+        let _offset = self.symbol(wanted)?;
+        self.word()
     }
 
     /// Takes one of two symbols, and returns its offset.

@@ -20,7 +20,7 @@ use Rattle.bspl_parser.specs.declared.token.Token.{Token}
 use Rattle.bspl_parser.specs.declared.word.Word.{Word}
 use Rattle.bspl_parser.specs.inner.ParseResult.{ParseResult, ◌>>=◌}
 use Rattle.bspl_parser.specs.inner.TokenParsers.{begins_with, begins_with_name, parse_word}
-use Rattle.bspl_parser.specs.inner.TokenParsers.{parse_symbol}
+use Rattle.bspl_parser.specs.inner.TokenParsers.{parse_symbol, parse_word_after}
 use Rattle.bspl_parser.specs.inner.TokenParsers.{parse_either, parse_adorn, parse_key}
 
 -- a further item of the list comes
@@ -75,6 +75,14 @@ parse_formal ts = do
   key ← parse_key adorned.0.0 name.1
   Ok (record { adorn = adorned.0.0; offset = adorned.0.1; name = name.0; key = key.0 }, key.1)
 
+-- parameters in brackets
+unfoldable pub parse_bracketed : List Token → ParseResult (List Formal)
+parse_bracketed ts = do
+  open_bracket ← parse_symbol OpenBracket ts
+  params ← parse_list parse_formal open_bracket.1
+  close ← parse_symbol CloseBracket params.1
+  Ok (params.0, close.1)
+
 -- a message, after its sender
 unfoldable pub parse_message : Word → List Token → ParseResult Schema
 parse_message sender ts = do
@@ -87,15 +95,28 @@ parse_message sender ts = do
   close ← parse_symbol CloseBracket params.1
   Ok (record { sender = sender; receiver = receiver.0; name = name.0; params = params.0 }, close.1)
 
+-- the same, by its parts
+abbrev pub parse_message_parts : Word → List Token → ParseResult Schema
+parse_message_parts sender ts = do
+  receiver ← parse_word_after Arrow ts
+  name ← parse_word_after Colon receiver.1
+  params ← parse_bracketed name.1
+  Ok (record { sender = sender; receiver = receiver.0; name = name.0; params = params.0 }, params.1)
+
+-- a reference, after its roles
+abbrev pub parse_from_given : Word → List Word → List Token → ParseResult Reference
+parse_from_given protocol roles ts = do
+  params ← parse_many list_kind.Comma parse_formal ts
+  close ← parse_symbol CloseParen params.1
+  Ok (record { protocol = protocol; roles = roles; params = params.0 }, close.1)
+
 -- a reference, after its protocol's name
 unfoldable pub parse_reference : Word → List Token → ParseResult Reference
 parse_reference protocol ts = do
   open_paren ← parse_symbol OpenParen ts
   first ← parse_word open_paren.1
   roles ← with_prefix (first.0 ∷ []) (parse_many list_kind.CommaName parse_word first.1)
-  params ← parse_many list_kind.Comma parse_formal roles.1
-  close ← parse_symbol CloseParen params.1
-  Ok (record { protocol = protocol; roles = roles.0; params = params.0 }, close.1)
+  parse_from_given protocol roles.0 roles.1
 
 -- a reference if `(` follows the name, and otherwise a message
 unfoldable pub parse_item : List Token → ParseResult Item
@@ -112,28 +133,44 @@ parse_private ts =
     then (parse_symbol Private ts >>= λ word. parse_list parse_word word.1)
     else Ok ([], ts)
 
+-- a protocol, after its private parameters
+abbrev pub parse_from_body : Word → List Word → List Formal → List Word
+    → List Token → ParseResult Declaration
+parse_from_body name roles public private ts = do
+  body ← parse_many list_kind.Name parse_item ts
+  close ← parse_symbol CloseBrace body.1
+  Ok (
+    record {
+      name = name;
+      roles = roles;
+      public = public;
+      private = private;
+      body = body.0;
+    },
+    close.1,
+  )
+
+-- a protocol, after its roles
+abbrev pub parse_from_public : Word → List Word → List Token → ParseResult Declaration
+parse_from_public name roles ts = do
+  public_word ← parse_either Parameters Parameter ts
+  public ← parse_list parse_formal public_word.1
+  private ← parse_private public.1
+  parse_from_body name roles public.0 private.0 private.1
+
+-- a protocol, after its `{`
+abbrev pub parse_from_roles : Word → List Token → ParseResult Declaration
+parse_from_roles name ts = do
+  roles_word ← parse_either Roles Role ts
+  roles ← parse_list parse_word roles_word.1
+  parse_from_public name roles.0 roles.1
+
 -- a protocol
 unfoldable pub parse_declaration : List Token → ParseResult Declaration
 parse_declaration ts = do
   name ← parse_word ts
   open_brace ← parse_symbol OpenBrace name.1
-  roles_word ← parse_either Roles Role open_brace.1
-  roles ← parse_list parse_word roles_word.1
-  public_word ← parse_either Parameters Parameter roles.1
-  public ← parse_list parse_formal public_word.1
-  private ← parse_private public.1
-  body ← parse_many list_kind.Name parse_item private.1
-  close ← parse_symbol CloseBrace body.1
-  Ok (
-    record {
-      name = name.0;
-      roles = roles.0;
-      public = public.0;
-      private = private.0;
-      body = body.0;
-    },
-    close.1,
-  )
+  parse_from_roles name.0 open_brace.1
 
 -- protocols up to the end
 unfoldable pub parse_document : List Token → ParseResult Document

@@ -30,9 +30,13 @@ unfoldable pub gap_len : List ℕ → ℕ
 gap_len bytes =
     if starts_with nat_eq bytes (codes "//") then comment_len bytes else blank_len bytes
 
+-- the word among these that the text is
+abbrev pub word_among : List Symbol → List ℕ → Option Symbol
+word_among symbols text = find (λ s. bytes_eq text (spelling s)) symbols
+
 -- the reserved word that the text is
 abbrev pub word_symbol : List ℕ → Option Symbol
-word_symbol text = find (λ s. bytes_eq text (spelling s)) words
+word_symbol text = word_among words text
 
 -- a reserved word, or else a name
 abbrev pub word_kind : List ℕ → Kind

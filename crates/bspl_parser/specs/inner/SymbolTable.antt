@@ -1,5 +1,5 @@
 -- The lists of the symbols, and a test whether two are one.
-use Rattle.std.specs.Prelude.{ℕ, Bool, ◌==◌, List, [], ◌∷◌}
+use Rattle.std.specs.Prelude.{ℕ, Bool, ◌==◌, List, [], ◌∷◌, ◌++◌}
 use Rattle.bspl_parser.specs.declared.symbol.Symbol.{Symbol}
 use Rattle.bspl_parser.specs.declared.symbol.Symbol.TheVariants.{Roles, Role, Parameters, Parameter}
 use Rattle.bspl_parser.specs.declared.symbol.Symbol.TheVariants.{Private, In, Out, Nil, Any, Opt}
@@ -35,11 +35,17 @@ symbol_index Colon = 19
 abbrev pub same_symbol : Symbol → Symbol → Bool
 same_symbol a b = symbol_index a == symbol_index b
 
+-- the reserved words of four bytes and more
+abbrev pub long_words : List Symbol
+long_words = Roles ∷ Role ∷ Parameters ∷ Parameter ∷ Private ∷ []
+
+-- those of fewer bytes
+abbrev pub short_words : List Symbol
+short_words = In ∷ Out ∷ Nil ∷ Any ∷ Opt ∷ Key ∷ []
+
 -- the reserved words
 abbrev pub words : List Symbol
-words =
-    Roles ∷ Role ∷ Parameters ∷ Parameter ∷ Private ∷
-    In ∷ Out ∷ Nil ∷ Any ∷ Opt ∷ Key ∷ []
+words = long_words ++ short_words
 
 -- the marks
 abbrev pub marks : List Symbol

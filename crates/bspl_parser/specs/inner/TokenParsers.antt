@@ -38,6 +38,10 @@ parse_symbol symbol (Name word ∷ ts) = Err (At word.offset)
 parse_symbol symbol (Fixed other offset ∷ ts) =
     if same_symbol other symbol then Ok (offset, ts) else Err (At offset)
 
+-- that symbol, and a name after it
+unfoldable pub parse_word_after : Symbol → List Token → ParseResult Word
+parse_word_after symbol ts = parse_symbol symbol ts >>= λ before. parse_word before.1
+
 -- one of two symbols
 abbrev pub parse_either : Symbol → Symbol → List Token → ParseResult ℕ
 parse_either one other ts =

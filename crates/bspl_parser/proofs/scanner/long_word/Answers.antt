@@ -3,7 +3,7 @@ use Rattle.std.proofs.Common.{rules, ◌≡◌, refl}
 use Rattle.std.proofs.lemmas.Slice.Eq.{text_from_reads}
 use Rattle.bspl_parser.specs.declared.symbol.Symbol.TheVariants.{Private, Parameter, Parameters}
 use Rattle.bspl_parser.specs.Symbol.{spelling}
-use Rattle.bspl_parser.proofs.scanner.word_symbol.Goals as goal
+use Rattle.bspl_parser.proofs.scanner.long_word.Goals as goal
 
 pub returns-in-private : goal.returns-in-private
 returns-in-private c =
