@@ -4,10 +4,11 @@ ghost use Rattle.bspl_types.specs.Name.{is_name};
 ghost use Rattle.bspl_parser.specs.Alike.{key_without_offset};
 ghost use Rattle.bspl_parser.specs.Spelling.{IsDeclaration};
 ghost use Rattle.flat_expansion.specs.Expansion.{adornment_of, IsExpansionOf};
-ghost use Rattle.flat_expansion.specs.Canonical.{IsCanonical, IsPrivateOf, IsPublicOf, IsWordOf};
+ghost use Rattle.flat_expansion.specs.Canonical.{IsCanonical, IsItemOf, IsPrivateOf, IsPublicOf};
+ghost use Rattle.flat_expansion.specs.Canonical.{IsWordOf};
 
 use super::schemas::items_of;
-use bspl_parser::{Adorn, Declaration, Formal, FormalList, Text, Word, WordList};
+use bspl_parser::{Adorn, Declaration, Formal, FormalList, ItemList, Text, Word, WordList};
 use bspl_types::{Adornment, Expanded, Name, NoMemory, ParamInfo, Seq};
 use std::alloc::Global;
 
@@ -18,14 +19,34 @@ pub fn declaration_of(alloc: Global, x: &Expanded) -> Result<Declaration<'_>, No
     ensures formed { IfOk result IsDeclaration }
     ensures bare { IfOk result IsCanonical }
 {
+    let roles = role_words(alloc, x.roles.as_slice())?;
     let params = x.params.as_slice();
-    let (public, private) = params.split_at(x.public as usize);
+    let body = items_of(alloc, x.roles.as_slice(), params, x.messages.as_slice())?;
+    with_params(alloc, x, roles, body)
+}
+
+/// The protocol of these roles and of this body, with the parameters of the expansion.
+fn with_params<'x>(
+    alloc: Global,
+    x: &'x Expanded,
+    roles: WordList<'x>,
+    body: ItemList<'x>,
+) -> Result<Declaration<'x>, NoMemory>
+    requires roles { AllZip IsWordOf x.now.roles roles }
+    requires body { AllZip (IsItemOf x.now.roles x.now.params) x.now.messages body }
+    ensures flat { IfOk result (λ d. IsExpansionOf d x.now) }
+    ensures formed { IfOk result IsDeclaration }
+    ensures bare { IfOk result IsCanonical }
+{
+    let (public, private) = x.params.as_slice().split_at(x.public as usize);
+    let public = public_formals(alloc, public)?;
+    let private = private_words(alloc, private)?;
     Ok(Declaration {
         name: word_of(&x.name),
-        roles: role_words(alloc, x.roles.as_slice())?,
-        public: public_formals(alloc, public)?,
-        private: private_words(alloc, private)?,
-        body: items_of(alloc, x.roles.as_slice(), params, x.messages.as_slice())?,
+        roles,
+        public,
+        private,
+        body,
     })
 }
 
