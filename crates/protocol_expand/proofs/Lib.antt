@@ -1,5 +1,6 @@
 mod Requested
 mod RequestLemmas
+mod FlatAnswers
 mod Gathered
 mod Faultless
 mod PathPlaces

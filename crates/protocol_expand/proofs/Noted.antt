@@ -3,13 +3,12 @@ use Rattle.std.proofs.Common.{◌≡◌, ◌≢◌, Bool, true, false, cond, Res
 use Rattle.std.specs.Prelude.{◌↔◌, IsTrue, IfOk, OnOk}
 use Rattle.std.specs.List.{Contains, flat_map}
 use Rattle.std.proofs.lemmas.Bool.{false≢true}
-use Rattle.std.proofs.lemmas.List.{get_or-map, length-map, map-append, take-append-drop}
+use Rattle.std.proofs.lemmas.List.{get_or-map, length-map, map-append, take-append-drop, take_more}
 use Rattle.std.proofs.lemmas.List.Quantifiers.{all_pairs_push}
 use Rattle.std.proofs.Math.Seq.{drop-cons}
 use Rattle.list_base.specs.declared.memory.NoMemory.{NoMemory}
 use Rattle.bspl_parser.specs.declared.document.Item.TheVariants.{Message}
 use Rattle.bspl_parser.specs.declared.document.Schema.{Schema}
-use Rattle.bspl_parser.specs.declared.document.Formal.{Formal}
 use Rattle.bspl_parser.specs.declared.word.Word.{Word}
 use Rattle.protocol_names.specs.Names.{declared_word, texts}
 use Rattle.protocol_expand.specs.inner.Flat.{AreNoted}
@@ -46,13 +45,12 @@ cut {X} xs i x within stands =
 repeated_at : (words front back : List Word) (w : Word) (names : List (List ℕ)) → words ≡ front ++ w ∷ back → AreNoted front names → Contains (texts front) w.text → RepeatsFirst words w.offset
 repeated_at words front back w names parts noted again = record { before = front; word = w; after = back; parts = parts; distinct = noted.distinct; repeats = again; located = refl }
 
--- the name of a message
-pub message_repeated : (messages : List Schema) (i : ℕ) (s : Schema) (names : List (List ℕ)) → i < length messages → s ≡ get_or messages i s →
-    AreNoted (map (λ m. m.name) (take i messages)) names → Contains (texts (map (λ m. m.name) (take i messages))) s.name.text → RepeatsFirst (map (λ m. m.name) messages) s.name.offset
-message_repeated messages i s names within stands noted again =
-    let word = λ (m : Schema). m.name in
-    repeated_at (map word messages) (map word (take i messages)) (map word (drop (i + 1) messages)) s.name names
-    (ap (map word) (cut messages i s within stands) ∙ map-append word (take i messages) (s ∷ drop (i + 1) messages))
+-- the name of an item
+pub item_repeated : {X : Type 0} (word : X → Word) (items : List X) (i : ℕ) (x : X) (names : List (List ℕ)) → i < length items → x ≡ get_or items i x →
+    AreNoted (map word (take i items)) names → Contains (texts (map word (take i items))) (word x).text → RepeatsFirst (map word items) (word x).offset
+item_repeated {X} word items i x names within stands noted again =
+    repeated_at (map word items) (map word (take i items)) (map word (drop (i + 1) items)) (word x) names
+    (ap (map word) (cut items i x within stands) ∙ map-append word (take i items) (x ∷ drop (i + 1) items))
     noted again
 
 -- the names of a body are those of its messages
@@ -60,15 +58,17 @@ pub names_of_messages : (messages : List Schema) → flat_map declared_word (map
 names_of_messages [] = refl
 names_of_messages (m ∷ ms) = ap (λ (ws : List Word). m.name ∷ ws) (names_of_messages ms)
 
--- the name of a public parameter
-pub public_repeated : (public : List Formal) (private : List Word) (i : ℕ) (f : Formal) (names : List (List ℕ)) → i < length public → f ≡ get_or public i f →
-    AreNoted (map (λ g. g.name) (take i public)) names → Contains (texts (map (λ g. g.name) (take i public))) f.name.text → RepeatsFirst (map (λ g. g.name) public ++ private) f.name.offset
-public_repeated public private i f names within stands noted again =
-    let word = λ (g : Formal). g.name in
-    repeated_at (map word public ++ private) (map word (take i public)) (map word (drop (i + 1) public) ++ private) f.name names
-    (ap (λ (fs : List Formal). map word fs ++ private) (cut public i f within stands) ∙ ap (λ (ws : List Word). ws ++ private) (map-append word (take i public) (f ∷ drop (i + 1) public))
-    ∙ append_assoc (map word (take i public)) (f.name ∷ map word (drop (i + 1) public)) private)
-    noted again
+-- a name that is repeated is so before more words
+pub still_repeated : (words more : List Word) (offset : ℕ) → RepeatsFirst words offset → RepeatsFirst (words ++ more) offset
+still_repeated words more offset is = record {
+  before = is.before;
+  word = is.word;
+  after = is.after ++ more;
+  parts = ap (λ (ws : List Word). ws ++ more) is.parts ∙ append_assoc is.before (is.word ∷ is.after) more;
+  distinct = is.distinct;
+  repeats = is.repeats;
+  located = is.located;
+}
 
 -- the name of a private parameter
 pub private_repeated : (front private : List Word) (i : ℕ) (w : Word) (names : List (List ℕ)) → i < length private → w ≡ get_or private i w →
@@ -77,3 +77,10 @@ private_repeated front private i w names within stands noted again =
     repeated_at (front ++ private) (front ++ take i private) (drop (i + 1) private) w names
     (ap (λ (ws : List Word). front ++ ws) (cut private i w within stands) ∙ sym (append_assoc front (take i private) (w ∷ drop (i + 1) private)))
     noted again
+
+-- one word more is noted
+pub noted_more : (front private : List Word) (i : ℕ) (w : Word) (names : List (List ℕ)) → i < length private → w ≡ get_or private i w →
+    AreNoted ((front ++ take i private) ++ w ∷ []) names → AreNoted (front ++ take (i + 1) private) names
+noted_more front private i w names within stands noted =
+    let further : take (i + 1) private ≡ take i private ++ w ∷ [] = take_more private i w within ∙ (λ j. take i private ++ sym stands j ∷ []) in
+    subst (λ (ws : List Word). AreNoted ws names) (append_assoc front (take i private) (w ∷ []) ∙ ap (λ (ws : List Word). front ++ ws) (sym further)) noted

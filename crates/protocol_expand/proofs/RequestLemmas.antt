@@ -23,10 +23,10 @@ use Rattle.protocol_limits.specs.Graph.{graph_of, protocol_number}
 use Rattle.protocol_limits.specs.Survey.{IsSurvey}
 use Rattle.protocol_paths.specs.ReferencePath.{IsWithinDepth}
 use Rattle.protocol_limits.specs.Laws.{NumbersAreOfProtocols, ReferencesAreAGraph}
-use Rattle.flat_expansion.specs.Expansion.{IsExpansionOf}
 use Rattle.protocol_expand.specs.Expansion.{Expands}
-use Rattle.protocol_expand.specs.Refusals.{HasCycle, HasTooMany, IsNotExpanded}
-use Rattle.protocol_expand.specs.inner.Flat.{RefusesFlat}
+use Rattle.protocol_expand.specs.Refusals.{HasCycle, HasEqualNames, HasTooMany, IsNotExpanded}
+use Rattle.protocol_expand.specs.Repeats.{RepeatsName}
+use Rattle.protocol_expand.specs.inner.Flat.{ExpandsFlat, RefusesTop}
 use Rattle.protocol_expand.proofs.Requested.{IsFlatRequest, IsRequested, declared, flattening_of, limits_of}
 
 -- the test for a name
@@ -43,12 +43,12 @@ pub record IsSurveyed (d : Document) (name : List ℕ) (number : ℕ) (s : Surve
   pub found : protocol_number d.protocols name ≡ Some number
   pub survey : IsSurvey d.protocols number s
 
--- what the directory found was surveyed
-pub surveyed : NumbersAreOfProtocols → (d : Document) (name : List ℕ) (lent : List Declaration) (names : List (List ℕ)) (found : Option ℕ) (number : ℕ) (s t : Survey) → HasNoFault d → lent ≡ d.protocols → names ≡ texts (protocol_words lent) → found ≡ position (named name) names → found ≡ Some number →
+-- what was found was surveyed
+pub surveyed : (d : Document) (name : List ℕ) (lent : List Declaration) (number : ℕ) (s t : Survey) → HasNoFault d → lent ≡ d.protocols → protocol_number d.protocols name ≡ Some number →
     s ≡ t → IsSurvey lent number s → IsSurveyed d name number t
-surveyed numbers d name lent names found number s t faultless same in_order is_found is_number is_t is_survey = record {
+surveyed d name lent number s t faultless same found is_t is_survey = record {
   faultless = faultless;
-  found = sym (number_found numbers d.protocols lent name names found same in_order is_found) ∙ is_number;
+  found = found;
   survey = subst (λ ps. IsSurvey ps number t) same (subst (IsSurvey lent number) is_t is_survey);
 }
 
@@ -115,21 +115,26 @@ flat_for numbers d name number depth top flat lent items messages privates surve
 }
 
 -- the expansion of the flat protocol is that of the protocol of the name
-pub expands_for : (d : Document) (name : List ℕ) (flat : Declaration) (result : Result Expanded Refusal) → IsFlatRequest d name flat → IfOk result (IsExpansionOf flat) → IfOk result (Expands d name)
-expands_for d name flat (Ok x) is expands = record {
-  faultless = is.requested.faultless;
-  within = limits_of d name flat is;
-  expansion = record { flat = flat; flattens = flattening_of d name flat is; expands = expands };
-}
-expands_for d name flat (Err r) is expands = tt
+pub expands_for : NumbersAreOfProtocols → (d : Document) (name : List ℕ) (number depth : ℕ) (top : Declaration) (lent items : List Declaration) (messages privates : List Bool) (result : Result Expanded Refusal) → IsSurveyed d name number (Within depth messages privates) →
+    lent ≡ items → items ≡ d.protocols → top ≡ get_or items number top → IfOk result (ExpandsFlat lent top) → IfOk result (Expands d name)
+expands_for numbers d name number depth top lent items messages privates (Ok x) surveyed same_lent same stands made =
+    let is = flat_for numbers d name number depth top made.flat lent items messages privates surveyed same_lent same stands made.is_flat in
+    record {
+      faultless = is.requested.faultless;
+      within = limits_of d name made.flat is;
+      expansion = record { flat = made.flat; flattens = flattening_of d name made.flat is; expands = made.expands };
+    }
+expands_for numbers d name number depth top lent items messages privates (Err r) surveyed same_lent same stands made = tt
 
 -- and if two of its names are equal, that is why there is none
-refuses : (d : Document) (name : List ℕ) (flat : Declaration) (r : Refusal) → IsFlatRequest d name flat → RefusesFlat flat r → IsNotExpanded d name r
-refuses d name flat (refusal.Duplicate offset) is repeats = inr (record { faultless = is.requested.faultless; within = limits_of d name flat is; flat = flat; flattens = flattening_of d name flat is; repeats = repeats })
-refuses d name flat refusal.NoMemory is refused = tt
-refuses d name flat r is refused = absurd refused
+equal_names : (d : Document) (name : List ℕ) (flat : Declaration) (offset : ℕ) → IsFlatRequest d name flat → RepeatsName flat offset → HasEqualNames d name offset
+equal_names d name flat offset is repeats = record { faultless = is.requested.faultless; within = limits_of d name flat is; flat = flat; flattens = flattening_of d name flat is; repeats = repeats }
 
 -- the same of what was answered
-pub refuses_for : (d : Document) (name : List ℕ) (flat : Declaration) (result : Result Expanded Refusal) → IsFlatRequest d name flat → IfErr result (RefusesFlat flat) → IfErr result (IsNotExpanded d name)
-refuses_for d name flat (Ok x) stands refused = tt
-refuses_for d name flat (Err r) stands refused = refuses d name flat r stands refused
+pub refuses_for : NumbersAreOfProtocols → (d : Document) (name : List ℕ) (number depth : ℕ) (top : Declaration) (lent items : List Declaration) (messages privates : List Bool) (result : Result Expanded Refusal) → IsSurveyed d name number (Within depth messages privates) →
+    lent ≡ items → items ≡ d.protocols → top ≡ get_or items number top → IfErr result (RefusesTop lent top) → IfErr result (IsNotExpanded d name)
+refuses_for numbers d name number depth top lent items messages privates (Ok x) surveyed same_lent same stands refused = tt
+refuses_for numbers d name number depth top lent items messages privates (Err (refusal.Duplicate offset)) surveyed same_lent same stands refused =
+    inr (equal_names d name refused.0 offset (flat_for numbers d name number depth top refused.0 lent items messages privates surveyed same_lent same stands refused.1) refused.2)
+refuses_for numbers d name number depth top lent items messages privates (Err refusal.NoMemory) surveyed same_lent same stands refused = tt
+refuses_for numbers d name number depth top lent items messages privates (Err r) surveyed same_lent same stands refused = absurd refused

@@ -1,18 +1,20 @@
-ghost use Rattle.std.specs.Prelude.{◌≡◌, IfOk, IfErr};
+ghost use Rattle.std.specs.Prelude.{◌≡◌, ◌<◌, ℕ, List, length, Some, IfOk, IfErr};
+ghost use Rattle.bspl_parser.specs.declared.document.Document.{Document as SpecDocument};
 ghost use Rattle.bspl_parser.specs.Spelling.{IsDocument};
 ghost use Rattle.protocol_names.specs.Fault.{HasNoFault};
+ghost use Rattle.protocol_limits.specs.Graph.{protocol_number};
 ghost use Rattle.protocol_expand.specs.Expansion.{Expands};
-ghost use Rattle.protocol_expand.specs.Refusals.{IsNotExpanded, refusal_at};
+ghost use Rattle.protocol_expand.specs.Refusals.{HasCycle, IsMissing, IsNotExpanded, refusal_at};
 
-use super::flat::expand_flat;
-use bspl_parser::Document;
+use super::flat::expand_top;
+use bspl_parser::{Declaration, Document};
 use bspl_types::{Expanded, Refusal, Seq};
 use protocol_limits::{
     Survey, messages_are_counted, numbers_are_of_protocols, privates_are_counted,
     references_are_a_graph, survey,
 };
 use protocol_names::{DocumentFault, FaultKind, ProtocolTable, first_fault};
-use protocol_paths::{Skippable, flatten, paths_by_items};
+use protocol_paths::{Skippable, paths_by_items};
 use std::alloc::Global;
 
 /// The expansion of the protocol of that name (Singh 2011), or why it has none: the document's
@@ -43,8 +45,28 @@ fn refusal_of(fault: DocumentFault) -> Refusal
     }
 }
 
-/// Why a document without fault expands or does not. Documents of more than 2^32 protocols are out
-/// of memory: their protocols have no numbers.
+/// The refusal of a name that no protocol has.
+fn missing(alloc: Global, name: &[u8]) -> Refusal
+    ensures { (d : SpecDocument) → IsMissing d name.now → IsNotExpanded d name.now result }
+{
+    match Seq::from_slice(alloc, name) {
+        Ok(name) => Refusal::NoProtocol { name },
+        Err(_) => Refusal::NoMemory,
+    }
+}
+
+/// The refusal of a cycle of references that ends at the protocol.
+fn recursion(alloc: Global, protocol: &Declaration) -> Refusal
+    ensures { (d : SpecDocument) (name : List ℕ) → HasCycle d name protocol.now.name.text →
+        IsNotExpanded d name result }
+{
+    match Seq::from_slice(alloc, protocol.name.text.as_slice()) {
+        Ok(name) => Refusal::Recursion { name },
+        Err(_) => Refusal::NoMemory,
+    }
+}
+
+/// Why a document without fault expands or does not.
 fn expand_faultless(alloc: Global, document: &Document, name: &[u8]) -> Result<Expanded, Refusal>
     requires formed { IsDocument document.now }
     requires faultless { HasNoFault document.now }
@@ -53,6 +75,32 @@ fn expand_faultless(alloc: Global, document: &Document, name: &[u8]) -> Result<E
 {
     // law: the number of a name is that of its first protocol
     numbers_are_of_protocols();
+    let table = ProtocolTable::new(alloc, document.protocols.as_slice())?;
+    match table.names.index(name) {
+        Some(number) => expand_found(alloc, document, name, &table, number),
+        None => Err(missing(alloc, name)),
+    }
+}
+
+/// Why the protocol of that number, the first of the name, expands or does not. Documents of more
+/// than 2^32 protocols are out of memory: their protocols have no numbers.
+fn expand_found<'d>(
+    alloc: Global,
+    document: &Document,
+    name: &[u8],
+    table: &ProtocolTable<'d>,
+    number: usize,
+) -> Result<Expanded, Refusal>
+    requires formed { IsDocument document.now }
+    requires faultless { HasNoFault document.now }
+    requires same { table.now.protocols.now ≡ document.now.protocols }
+    requires found { protocol_number document.now.protocols name.now ≡ Some number }
+    requires within { number < length table.now.protocols.now }
+    ensures ok { IfOk result (Expands document.now name.now) }
+    ensures refused { IfErr result (IsNotExpanded document.now name.now) }
+{
+    // law: a number of a name is that of a protocol
+    numbers_are_of_protocols();
     // law: the references of a document are a graph
     references_are_a_graph();
     // law: messages and private parameters are counted along all paths
@@ -60,20 +108,12 @@ fn expand_faultless(alloc: Global, document: &Document, name: &[u8]) -> Result<E
     privates_are_counted();
     // law: what each item of a body leads to
     paths_by_items();
-    let protocols = document.protocols.as_slice();
-    let table = ProtocolTable::new(alloc, protocols)?;
-    let Some(number) = table.names.index(name) else {
-        return Err(Refusal::NoProtocol {
-            name: Seq::from_slice(alloc, name)?,
-        });
-    };
+    let protocols = table.protocols;
     if protocols.len() > u32::MAX as usize {
         return Err(Refusal::NoMemory);
     }
-    match survey(alloc, &table, number as u32)? {
-        Survey::Cycle(node) => Err(Refusal::Recursion {
-            name: Seq::from_slice(alloc, protocols[node as usize].name.text.as_slice())?,
-        }),
+    match survey(alloc, table, number as u32)? {
+        Survey::Cycle(node) => Err(recursion(alloc, &protocols[node as usize])),
         Survey::Over { what, count } => Err(Refusal::Limit { what, count }),
         Survey::Within {
             depth,
@@ -84,8 +124,7 @@ fn expand_faultless(alloc: Global, document: &Document, name: &[u8]) -> Result<E
                 messages: messages.as_slice(),
                 privates: privates.as_slice(),
             };
-            let flat = flatten(alloc, &table, &protocols[number], depth, &skippable)?;
-            expand_flat(alloc, &flat)
+            expand_top(alloc, table, &protocols[number], depth, &skippable)
         }
     }
 }

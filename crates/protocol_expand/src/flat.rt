@@ -3,16 +3,42 @@ ghost use Rattle.protocol_names.specs.Plain.{as_declaration};
 ghost use Rattle.flat_expansion.specs.Expansion.{IsExpansionOf};
 ghost use Rattle.flat_expansion.specs.WellScoped.{IsWellScoped};
 ghost use Rattle.protocol_expand.specs.Repeats.{AreNamesDistinct};
-ghost use Rattle.protocol_expand.specs.inner.Flat.{RefusesFlat};
+ghost use Rattle.bspl_parser.specs.declared.document.Declaration.{Declaration as SpecDeclaration};
+ghost use Rattle.protocol_paths.specs.Flat.{IsFlat};
+ghost use Rattle.protocol_paths.specs.ReferencePath.{IsWithinDepth};
+ghost use Rattle.protocol_paths.specs.Skippable.{AreSkippable};
+ghost use Rattle.protocol_expand.specs.inner.Flat.{ExpandsFlat, RefusesFlat, RefusesTop};
 
 use super::repeats::repeated_name;
+use bspl_parser::Declaration;
 use bspl_types::{Expanded, Refusal};
 use flat_expansion::expansion_of_well_scoped;
-use protocol_names::FlatProtocol;
+use protocol_names::{FlatProtocol, ProtocolTable};
+use protocol_paths::{Skippable, flatten};
 use std::alloc::Global;
 
+/// The expansion of the top protocol, unless two names of what it stands for are equal. No path
+/// from it has more than `depth` references.
+pub fn expand_top<'d, 's>(
+    alloc: Global,
+    table: &'s ProtocolTable<'d>,
+    top: &'d Declaration<'d>,
+    depth: usize,
+    skippable: &'s Skippable<'s>,
+) -> Result<Expanded, Refusal>
+    requires skippable { AreSkippable table.now.protocols.now skippable.now }
+    requires within_depth { IsWithinDepth table.now.protocols.now top.now depth }
+    requires ready { (flat : SpecDeclaration) → IsFlat table.now.protocols.now top.now flat →
+        AreNamesDistinct flat → IsWellScoped flat }
+    ensures ok { IfOk result (ExpandsFlat table.now.protocols.now top.now) }
+    ensures refused { IfErr result (RefusesTop table.now.protocols.now top.now) }
+{
+    let flat = flatten(alloc, table, top, depth, skippable)?;
+    expand_flat(alloc, &flat)
+}
+
 /// The expansion of a flat protocol, unless two of its names are equal.
-pub fn expand_flat(alloc: Global, flat: &FlatProtocol) -> Result<Expanded, Refusal>
+fn expand_flat(alloc: Global, flat: &FlatProtocol) -> Result<Expanded, Refusal>
     requires { AreNamesDistinct (as_declaration flat.now) →
         IsWellScoped (as_declaration flat.now) }
     ensures ok { IfOk result (IsExpansionOf (as_declaration flat.now)) }

@@ -41,23 +41,53 @@ fn repeated_message(alloc: Global, messages: &[Schema]) -> Result<Option<u64>, N
 }
 
 /// The offset of the first parameter that has the name of one before it.
-fn repeated_param(
+fn repeated_param<'n>(
     alloc: Global,
-    public: &[Formal],
-    private: &[Word],
+    public: &'n [Formal<'n>],
+    private: &'n [Word<'n>],
 ) -> Result<Option<u64>, NoMemory>
     ensures { IfOk result (λ found. MatchOption found
         (AreDistinct (map (λ f. f.name) public.now ++ private.now))
         (RepeatsFirst (map (λ f. f.name) public.now ++ private.now))) }
 {
     let mut names = NameTable::new(alloc);
+    if let Some(offset) = repeated_public(&mut names, public)? {
+        return Ok(Some(offset));
+    }
+    repeated_private(&mut names, private)
+}
+
+/// The offset of the first public parameter that has the name of one before it. The names are
+/// noted.
+fn repeated_public<'n>(
+    names: &mut NameTable<'n>,
+    public: &'n [Formal<'n>],
+) -> Result<Option<u64>, NoMemory>
+    requires { AreNoted [] names.old }
+    ensures { IfOk result (λ found. MatchOption found
+        (AreNoted (map (λ f. f.name) public.now) names.new)
+        (RepeatsFirst (map (λ f. f.name) public.now))) }
+{
     for formal in public {
-        if note_name(&mut names, &formal.name)? {
+        if note_name(names, &formal.name)? {
             return Ok(Some(formal.name.offset));
         }
     }
+    Ok(None)
+}
+
+/// The offset of the first private parameter that has the name of one before it, or of a name that
+/// was noted.
+fn repeated_private<'n>(
+    names: &mut NameTable<'n>,
+    private: &'n [Word<'n>],
+) -> Result<Option<u64>, NoMemory>
+    ensures { (words : List SpecWord) → AreNoted words names.old → IfOk result (λ found.
+        MatchOption found (AreDistinct (words ++ private.now))
+        (RepeatsFirst (words ++ private.now))) }
+{
     for word in private {
-        if note_name(&mut names, word)? {
+        if note_name(names, word)? {
             return Ok(Some(word.offset));
         }
     }
