@@ -31,6 +31,12 @@ last_cases {X} (z ∷ links) (y ∷ outer) rest x l same =
       | inr (before, parts) ↦ inr (before, λ i. first i ∷ parts i)
     ]
 
+-- where there is no link, each has its words
+pub own_none : (top : Declaration) → HaveOwnWords top []
+own_none top = record {
+  each = λ outer rest l none. absurd (omega (arith, ap length none, length-append outer (l ∷ rest)));
+}
+
 -- the links but the last have theirs
 pub own_outer : (top : Declaration) (links outer : List PathLink) (l : PathLink) → links ≡ outer ++ l ∷ [] → HaveOwnWords top links → HaveOwnWords top outer
 own_outer top links outer l parts have = record {

@@ -11,21 +11,21 @@ use protocol_names::{ProtocolTable, names_find_protocols};
 use std::alloc::Global;
 
 /// What is the same for all paths.
-#[derive(Drop)]
-pub(crate) struct Context<'d, 's, 'a> {
+#[derive(Clone, Copy)]
+pub(crate) struct Context<'d, 'a> {
     /// Where memory comes from.
     pub alloc: Global,
     /// The protocols, by name.
-    pub table: &'s ProtocolTable<'d>,
+    pub table: &'a ProtocolTable<'d>,
     /// The names that each protocol declares, or nothing where no reference is followed.
     pub names: &'a [NameTables<'d>],
     /// The protocols that need not be followed.
-    pub skippable: &'s Skippable<'s>,
+    pub skippable: &'a Skippable<'a>,
 }
 
 /// The link of the reference at the position, unless the protocol that it leads to is skipped.
 pub(crate) fn kept_link<'d, 'a>(
-    context: &Context<'d, '_, 'a>,
+    context: &Context<'d, 'a>,
     flags: &[bool],
     position: usize,
     reference: &'d Reference<'d>,

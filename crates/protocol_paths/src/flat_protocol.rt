@@ -1,9 +1,10 @@
-ghost use Rattle.std.specs.Prelude.{◌<◌, ◌≤◌, length, IfOk};
+ghost use Rattle.std.specs.Prelude.{◌≡◌, ◌<◌, ◌≤◌, length, IfOk, OnOk};
 ghost use Rattle.std.specs.List.{AllZip};
 ghost use Rattle.protocol_names.specs.Plain.{as_declaration};
 ghost use Rattle.protocol_paths.specs.Flat.{IsFlat, IsFlatTo};
 ghost use Rattle.protocol_paths.specs.ReferencePath.{IsWithinDepth};
 ghost use Rattle.protocol_paths.specs.Skippable.{AreSkippable};
+ghost use Rattle.protocol_paths.specs.inner.Header.{header};
 ghost use Rattle.protocol_paths.specs.inner.ScopeOf.{HasTables, protocols_of};
 ghost use Rattle.protocol_paths.specs.inner.Tables.{AreTablesOf};
 
@@ -34,11 +35,12 @@ pub fn flatten<'d, 's>(
 {
     let limit = depth.min(table.protocols.len());
     let names = tables_for(alloc, limit, table.protocols)?;
+    // both are lent again, for as long as the names live
     let context = Context {
         alloc,
-        table,
+        table: &*table,
         names: names.as_slice(),
-        skippable,
+        skippable: &*skippable,
     };
     flat_to(&context, limit, top)
 }
@@ -58,8 +60,8 @@ fn tables_for<'d>(
 }
 
 /// The top protocol with what is at the ends of the paths of at most `limit` references.
-fn flat_to<'d, 'a>(
-    context: &Context<'d, '_, 'a>,
+fn flat_to<'d>(
+    context: &Context<'d, '_>,
     limit: usize,
     top: &'d Declaration<'d>,
 ) -> Result<FlatProtocol<'d>, NoMemory>
@@ -69,16 +71,41 @@ fn flat_to<'d, 'a>(
     ensures { IfOk result (λ p.
         IsFlatTo limit (protocols_of context.now) top.now (as_declaration p)) }
 {
-    let scope = top_scope(context.alloc, top);
-    let mut private = Seq::new(context.alloc);
-    add_privates(context, limit, &scope, &mut private)?;
-    let mut messages = Seq::new(context.alloc);
-    add_messages(context, limit, &scope, &mut messages)?;
+    let mut flat = header_of(context.alloc, top)?;
+    add_ends(context, limit, top, &mut flat)?;
+    Ok(flat)
+}
+
+/// The top protocol's name, roles and public parameters.
+fn header_of<'d>(alloc: Global, top: &'d Declaration<'d>) -> Result<FlatProtocol<'d>, NoMemory>
+    ensures { IfOk result (λ p. p ≡ header top.now) }
+{
+    let roles = copied_words(alloc, top.roles.as_slice())?;
+    let public = copied_formals(alloc, top.public.as_slice())?;
     Ok(FlatProtocol {
         name: copied_word(&top.name),
-        roles: copied_words(context.alloc, top.roles.as_slice())?,
-        public: copied_formals(context.alloc, top.public.as_slice())?,
-        private,
-        messages,
+        roles,
+        public,
+        private: Seq::new(alloc),
+        messages: Seq::new(alloc),
     })
+}
+
+/// Adds to the header what is at the ends of the paths of at most `limit` references.
+fn add_ends<'d>(
+    context: &Context<'d, '_>,
+    limit: usize,
+    top: &'d Declaration<'d>,
+    flat: &mut FlatProtocol<'d>,
+) -> Result<(), NoMemory>
+    requires header { flat.old ≡ header top.now }
+    requires within { limit ≤ length (protocols_of context.now) }
+    requires skippable { AreSkippable (protocols_of context.now) context.now.skippable.now }
+    requires tables { 0 < limit → HasTables context.now }
+    ensures { OnOk result
+        (IsFlatTo limit (protocols_of context.now) top.now (as_declaration flat.new)) }
+{
+    let scope = top_scope(top);
+    add_privates(context, limit, &scope, &mut flat.private)?;
+    add_messages(context, limit, &scope, &mut flat.messages)
 }

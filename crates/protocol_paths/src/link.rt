@@ -21,9 +21,9 @@ pub(crate) struct Link<'d, 'a> {
 
 /// One reference of a path.
 #[derive(Clone, Copy)]
-pub(crate) struct PathLink<'d, 'a, 'o> {
+pub(crate) struct PathLink<'d, 'o> {
     /// The reference, and where it leads.
-    pub link: Link<'d, 'a>,
+    pub link: Link<'d, 'o>,
     /// The private parameters of the protocol there, under the prefix of the path up to it. They
     /// are made once for the link, and what uses them shares their texts.
     pub own: &'o [Word<'d>],

@@ -16,7 +16,7 @@ use std::alloc::Global;
 /// after it. Where there are none, no prefix is made.
 pub(crate) fn link_words<'d>(
     alloc: Global,
-    scope: &Scope<'d, '_, '_>,
+    scope: &Scope<'d, '_>,
     link: &Link<'d, '_>,
 ) -> Result<WordList<'d>, NoMemory>
     ensures { IfOk result (AreOwnWords (after (scope_of scope.now) (step_of link.now))) }
@@ -47,10 +47,10 @@ fn prefixed_words<'d>(
 
 /// The private parameters of the scope's protocol, under its prefix: those of the last link, or of
 /// the top protocol as they are.
-pub(crate) fn scope_words<'d, 'o>(scope: &Scope<'d, '_, 'o>) -> &'o [Word<'d>]
+pub(crate) fn scope_words<'d, 'o>(scope: &Scope<'d, 'o>) -> &'o [Word<'d>]
     ensures { AreOwnWords (scope_of scope.now) result.now }
 {
-    let Some((last, _)) = scope.links.as_slice().split_last() else {
+    let Some((last, _)) = scope.links.split_last() else {
         return scope.top.private.as_slice();
     };
     last.own

@@ -1,4 +1,4 @@
-ghost use Rattle.std.specs.Prelude.{◌≡◌, ◌<◌, ◌++◌, [], IfOk};
+ghost use Rattle.std.specs.Prelude.{◌≡◌, ◌<◌, ◌++◌, [], codes, IfOk, OnOk};
 ghost use Rattle.bspl_parser.specs.declared.document.Declaration.{Declaration as SpecDeclaration};
 ghost use Rattle.protocol_paths.specs.Prefix.{IsPrefix, numbered_name};
 ghost use Rattle.protocol_paths.specs.Scope.{prefix_after};
@@ -39,10 +39,7 @@ impl Prefix {
     {
         let number = position.to_string(alloc)?;
         let mut text = self.text;
-        text.append(target.text.as_slice())?;
-        text.append(b"#")?;
-        text.append(number.as_bytes())?;
-        text.append(b".")?;
+        add_numbered(&mut text, target.text.as_slice(), number.as_bytes())?;
         Ok(Prefix { text })
     }
 
@@ -80,11 +77,22 @@ impl Prefix {
     }
 }
 
+/// Adds the name with the number: NAME#NUMBER.
+fn add_numbered(text: &mut Bytes, name: &[u8], number: &[u8]) -> Result<(), NoMemory>
+    ensures { OnOk result
+        (text.new ≡ (((text.old ++ name.now) ++ codes "#") ++ number.now) ++ codes ".") }
+{
+    text.append(name)?;
+    text.append(b"#")?;
+    text.append(number)?;
+    text.append(b".")
+}
+
 /// The prefix of the scope.
 pub(crate) fn prefix_of(alloc: Global, scope: &Scope) -> Result<Prefix, NoMemory>
     ensures { IfOk result (λ p. p.text ≡ (scope_of scope.now).prefix) }
 {
-    prefix_along(alloc, scope.links.as_slice())
+    prefix_along(alloc, scope.links)
 }
 
 /// The prefix of the scope after the link.

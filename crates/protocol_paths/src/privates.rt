@@ -1,12 +1,15 @@
 ghost use Rattle.std.specs.Prelude.{◌≡◌, ◌<◌, ◌≤◌, ◌++◌, length, map, OnOk};
 ghost use Rattle.protocol_paths.specs.Flat.{entry, private_entries, privates_at};
 ghost use Rattle.protocol_paths.specs.Skippable.{AreSkippable};
+ghost use Rattle.protocol_paths.specs.Scope.{after};
 ghost use Rattle.protocol_paths.specs.inner.AddsEach.{entries_after};
+ghost use Rattle.protocol_paths.specs.inner.Links.{step_of};
 ghost use Rattle.protocol_paths.specs.inner.ScopeOf.{HasTables, protocols_of, scope_of};
 
 use super::context::{Context, kept_link};
 use super::copies::shared_word;
-use super::descent::next_scope;
+use super::descent::{next_links, next_scope};
+use super::link::{Link, PathLink};
 use super::own_words::{link_words, scope_words};
 use super::scope::Scope;
 use bspl_parser::{Item, WordList};
@@ -14,10 +17,10 @@ use bspl_types::NoMemory;
 
 /// Adds the private parameters at the ends of the paths of at most `limit` references.
 #[cycle(privates)]
-pub(crate) fn add_privates<'d, 'a>(
-    context: &Context<'d, '_, 'a>,
+pub(crate) fn add_privates<'d>(
+    context: &Context<'d, '_>,
     limit: usize,
-    scope: &Scope<'d, 'a, '_>,
+    scope: &Scope<'d, '_>,
     private: &mut WordList<'d>,
 ) -> Result<(), NoMemory>
     requires within { limit ≤ length (protocols_of context.now) }
@@ -39,10 +42,10 @@ pub(crate) fn add_privates<'d, 'a>(
 
 /// Adds the private parameters to which a reference leads, by at most `limit` further references.
 #[cycle(privates)]
-fn add_after<'d, 'a>(
-    context: &Context<'d, '_, 'a>,
+fn add_after<'d>(
+    context: &Context<'d, '_>,
     limit: usize,
-    scope: &Scope<'d, 'a, '_>,
+    scope: &Scope<'d, '_>,
     position: usize,
     item: &'d Item<'d>,
     private: &mut WordList<'d>,
@@ -62,14 +65,38 @@ fn add_after<'d, 'a>(
     let Some(link) = kept_link(context, flags, position, reference) else {
         return Ok(());
     };
-    let own = link_words(context.alloc, scope, &link)?;
-    // the scope is lent again, for as long as the words live
-    let next = next_scope(context.alloc, &*scope, &link, own.as_slice())?;
+    add_linked(context, limit, scope, &link, private)
+}
+
+/// Adds the private parameters to which the link leads, by at most `limit` further references.
+#[cycle(privates)]
+fn add_linked<'d>(
+    context: &Context<'d, '_>,
+    limit: usize,
+    scope: &Scope<'d, '_>,
+    link: &Link<'d, '_>,
+    private: &mut WordList<'d>,
+) -> Result<(), NoMemory>
+    requires within { limit ≤ length (protocols_of context.now) }
+    requires skippable { AreSkippable (protocols_of context.now) context.now.skippable.now }
+    requires tables { HasTables context.now }
+    ensures { OnOk result (map entry private.new ≡ map entry private.old
+        ++ private_entries limit (protocols_of context.now)
+        (after (scope_of scope.now) (step_of link.now))) }
+{
+    let own = link_words(context.alloc, scope, link)?;
+    // both are lent again, for as long as the words live
+    let last = PathLink {
+        link: *link,
+        own: own.as_slice(),
+    };
+    let links = next_links(context.alloc, &*scope, last)?;
+    let next = next_scope(scope, &last, links.as_slice());
     add_privates(context, limit, &next, private)
 }
 
 /// Adds the private parameters of the scope's protocol.
-fn add_own<'d>(scope: &Scope<'d, '_, '_>, private: &mut WordList<'d>) -> Result<(), NoMemory>
+fn add_own<'d>(scope: &Scope<'d, '_>, private: &mut WordList<'d>) -> Result<(), NoMemory>
     ensures { OnOk result (map entry private.new ≡ map entry private.old
         ++ privates_at (scope_of scope.now)) }
 {

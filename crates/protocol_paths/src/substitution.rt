@@ -12,10 +12,10 @@ use bspl_parser::{Text, Word};
 use bspl_types::NoMemory;
 
 /// The role's word, under the name that is substituted for it in the scope.
-pub(crate) fn role_word<'d>(scope: &Scope<'d, '_, '_>, role: &'d Word<'d>) -> Word<'d>
+pub(crate) fn role_word<'d>(scope: &Scope<'d, '_>, role: &'d Word<'d>) -> Word<'d>
     ensures { IsSubstituted (role_at (scope_of scope.now) role.now.text) role.now result }
 {
-    let given = given_role(scope.links.as_slice(), role);
+    let given = given_role(scope.links, role);
     Word {
         text: Text::lent(given.text.as_slice()),
         offset: role.offset,
@@ -23,7 +23,7 @@ pub(crate) fn role_word<'d>(scope: &Scope<'d, '_, '_>, role: &'d Word<'d>) -> Wo
 }
 
 /// The word that the references of a path give for a role.
-fn given_role<'d>(links: &[PathLink<'d, '_, '_>], role: &'d Word<'d>) -> &'d Word<'d>
+fn given_role<'d>(links: &[PathLink<'d, '_>], role: &'d Word<'d>) -> &'d Word<'d>
     ensures { (top : SpecDeclaration) →
         result.now.text ≡ role_at (scope_along top links.now) role.now.text }
 {
@@ -42,12 +42,12 @@ fn given_role<'d>(links: &[PathLink<'d, '_, '_>], role: &'d Word<'d>) -> &'d Wor
 /// The parameter's word, under the name that is substituted for it in the scope. It shares the text
 /// of that name.
 pub(crate) fn param_word<'d>(
-    scope: &Scope<'d, '_, '_>,
+    scope: &Scope<'d, '_>,
     param: &'d Word<'d>,
 ) -> Result<Word<'d>, NoMemory>
     ensures { IfOk result (IsSubstituted (param_at (scope_of scope.now) param.now.text) param.now) }
 {
-    let given = given_param(scope.links.as_slice(), param);
+    let given = given_param(scope.links, param);
     Ok(Word {
         text: given.text.share()?,
         offset: param.offset,
@@ -56,7 +56,7 @@ pub(crate) fn param_word<'d>(
 
 /// The word that the references of a path give for a parameter. A private one is that of the link
 /// to the protocol that declares it, with its prefix.
-fn given_param<'d, 'o>(links: &[PathLink<'d, '_, 'o>], param: &'o Word<'d>) -> &'o Word<'d>
+fn given_param<'d, 'o>(links: &[PathLink<'d, 'o>], param: &'o Word<'d>) -> &'o Word<'d>
     ensures { (top : SpecDeclaration) → HaveOwnWords top links.now →
         result.now.text ≡ param_at (scope_along top links.now) param.now.text }
 {

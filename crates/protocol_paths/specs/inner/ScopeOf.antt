@@ -10,7 +10,7 @@ use Rattle.protocol_paths.specs.inner.Tables.{AreTablesOf}
 
 -- the scope at the end of its links
 abbrev pub scope_of : Scope → SpecScope
-scope_of s = record (scope_along s.top.now s.links) { protocol = s.protocol.now }
+scope_of s = record (scope_along s.top.now s.links.now) { protocol = s.protocol.now }
 
 -- the protocols of the document
 abbrev pub protocols_of : Context → List Declaration

@@ -7,10 +7,13 @@ use Rattle.protocol_paths.specs.inner.ScopeOf.{protocols_of, scope_of}
 use Rattle.protocol_paths.proofs.messages.+messages.Given as goal
 
 abbrev pub decreases-add_messages : goal.decreases-add_messages
-decreases-add_messages l = 2 * l.limit + 1
+decreases-add_messages l = 3 * l.limit + 2
 
 abbrev pub decreases-add_item : goal.decreases-add_item
-decreases-add_item l = 2 * l.limit
+decreases-add_item l = 3 * l.limit + 1
+
+abbrev pub decreases-add_linked : goal.decreases-add_linked
+decreases-add_linked l = 3 * l.limit + 3
 
 -- the messages of the items so far
 abbrev pub invariant-add_messages-loop-index : goal.invariant-add_messages-loop-index

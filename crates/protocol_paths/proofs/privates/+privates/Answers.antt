@@ -1,8 +1,9 @@
 -- What has been added, item by item.
 use Rattle.std.proofs.Common.{◌-◌, ◌++◌, ◌∙◌, map, ap, arith}
 use Rattle.bspl_parser.specs.declared.document.Item.{Item}
-use Rattle.protocol_paths.specs.Flat.{entry, privates_at}
-use Rattle.protocol_paths.specs.Scope.{after}
+use Rattle.protocol_paths.specs.Flat.{entry, private_entries, privates_at}
+use Rattle.protocol_paths.specs.Scope.{Scope, after}
+use Rattle.protocol_paths.specs.inner.Links.{step_of}
 use Rattle.protocol_paths.specs.inner.ScopeOf.{protocols_of, scope_of}
 use Rattle.protocol_paths.specs.inner.AddsEach.{entries_after}
 use Rattle.protocol_paths.proofs.AddingLemmas.{on_ok}
@@ -22,9 +23,15 @@ add_after-returns t c =
     let protocols = protocols_of c.args.context.now in
     let scope = scope_of c.args.scope.now in
     let link = c.in-Some.link in
-    let leads = c.in_ok-next.ensures ∙ ap (after scope) (link_step protocols c.args.position c.in-Reference.reference link c.in-Some.ensures) in
+    let leads = ap (after scope) (link_step protocols c.args.position c.in-Reference.reference link c.in-Some.ensures) in
+    on_ok c.add_linked.result
+    (λ added. added ∙ ap (λ list. map entry c.args.private.now ++ list) (entries_through c.args.limit protocols scope (after scope (step_of link)) c.args.position c.in-Reference.reference link.target.now c.args.item.now c.in-Reference.is c.in-Some.ensures.leads leads))
+    c.add_linked.ensures
+
+pub add_linked-returns : goal.add_linked-returns
+add_linked-returns t c =
     on_ok c.add_privates.result
-    (λ added. added ∙ ap (λ list. map entry c.args.private.now ++ list) (entries_through c.args.limit protocols scope (scope_of c.in_ok-next.next) c.args.position c.in-Reference.reference link.target.now c.args.item.now c.in-Reference.is c.in-Some.ensures.leads leads))
+    (λ added. added ∙ ap (λ (s : Scope). map entry c.args.private.now ++ private_entries c.args.limit (protocols_of c.args.context.now) s) c.next_scope-next.ensures)
     c.add_privates.ensures
 
 pub add_privates-loop-index-preserved : goal.add_privates-loop-index-preserved

@@ -8,10 +8,13 @@ use Rattle.protocol_paths.specs.inner.AddsEach.{entries_after}
 use Rattle.protocol_paths.proofs.privates.+privates.Given as goal
 
 abbrev pub decreases-add_privates : goal.decreases-add_privates
-decreases-add_privates l = 2 * l.limit
+decreases-add_privates l = 3 * l.limit
 
 abbrev pub decreases-add_after : goal.decreases-add_after
-decreases-add_after l = 2 * l.limit + 1
+decreases-add_after l = 3 * l.limit + 2
+
+abbrev pub decreases-add_linked : goal.decreases-add_linked
+decreases-add_linked l = 3 * l.limit + 1
 
 -- those of the protocol itself, and those through the items so far
 abbrev pub invariant-add_privates-loop-index : goal.invariant-add_privates-loop-index

@@ -10,5 +10,5 @@ invariant_of-result c =
     let prefix = c.args.self.text in
     let name = c.args.target.now.text in
     let digits = decimal c.args.position in
-    let made : c.append-4.new.self ≡ (((prefix ++ name) ++ codes "#") ++ digits) ++ codes "." = cc (c.as_slice.ensures, c.in_ok-number.ensures.ok, c.as_bytes.ensures.value, c.in_ok-append.ensures.ok, c.in_ok-append-2.ensures.ok, c.in_ok-append-3.ensures.ok, c.in_ok-append-4.ensures.ok) in
+    let made : c.add_numbered.new.text ≡ (((prefix ++ name) ++ codes "#") ++ digits) ++ codes "." = cc (c.as_slice.ensures, c.in_ok-number.ensures.ok, c.as_bytes.ensures.value, c.in_ok-add_numbered.ensures) in
     record { before_names = subst IsPrefix (sym (made ∙ grown prefix name digits)) (longer_prefix prefix name c.args.position c.args.self.before_names c.args.target.now.named c.requires (omega arith)) }
