@@ -1,3 +1,4 @@
 -- What private functions alone cite.
 pub mod DeclaredNames
 pub mod IndexMap
+pub mod OtherFault

@@ -1,6 +1,8 @@
 ghost use Rattle.std.specs.Prelude.{◌≡◌, IfOk, MatchOption};
 ghost use Rattle.protocol_names.specs.Fault.{HasNoFault, IsFaultIn, IsFirstFault};
 ghost use Rattle.protocol_names.specs.FaultOrder.{FindsFirst, OfSome};
+ghost use Rattle.protocol_names.specs.Names.{param_words, texts};
+ghost use Rattle.protocol_names.specs.inner.OtherFault.{IsOtherFaultIn};
 
 use super::declared_names::{
     key_names, named_messages, named_params, named_protocols, named_roles,
@@ -8,6 +10,7 @@ use super::declared_names::{
 use super::fault::DocumentFault;
 use super::fault_order::earlier;
 use super::items::body_fault;
+use super::name_table::NameTable;
 use super::names::Names;
 use super::params::public_fault;
 use super::protocol_table::ProtocolTable;
@@ -54,16 +57,34 @@ fn fault_in(
 ) -> Result<Option<DocumentFault>, NoMemory>
     ensures { IfOk result (FindsFirst (IsFaultIn table.now.protocols.now p.now)) }
 {
+    let messages = named_messages(alloc, p.body.as_slice())?.first;
     let roles = named_roles(alloc, p.roles.as_slice())?;
     let params = named_params(alloc, p.public.as_slice(), p.private.as_slice())?;
-    let messages = named_messages(alloc, p.body.as_slice())?;
-    let duplicate = earlier(roles.first, earlier(params.first, messages.first));
+    let duplicate = earlier(roles.first, earlier(params.first, messages));
+    let other = other_fault(alloc, table, p, roles.names, params.names)?;
+    Ok(earlier(duplicate, other))
+}
+
+/// The first fault within one protocol but for duplicates, if its roles and its parameters have
+/// these names.
+fn other_fault<'n>(
+    alloc: Global,
+    table: &ProtocolTable,
+    p: &'n Declaration<'n>,
+    roles: NameTable<'n>,
+    params: NameTable<'n>,
+) -> Result<Option<DocumentFault>, NoMemory>
+    requires roles { roles ≡ texts p.now.roles }
+    requires params { params ≡ texts (param_words p.now) }
+    ensures { IfOk result (FindsFirst (IsOtherFaultIn table.now.protocols.now p.now)) }
+{
+    let keys = key_names(alloc, p.public.as_slice())?;
     let names = Names {
-        roles: roles.names,
-        params: params.names,
-        keys: key_names(alloc, p.public.as_slice())?,
+        roles,
+        params,
+        keys,
     };
     let public = public_fault(p.public.as_slice());
     let body = body_fault(table, &names, p.body.as_slice());
-    Ok(earlier(duplicate, earlier(public, body)))
+    Ok(earlier(public, body))
 }
