@@ -30,9 +30,9 @@ fn open_desk(alloc: Global, job: &Job, role: u32) -> Result<Desk, NoMemory>
     requires { role < length job.now.protocol.roles }
     ensures { IfOk result (IsOpened job.now role) }
 {
+    let inbox = open_inbox(alloc, job, role)?;
     let store = open_store(alloc, job, role)?;
     prove!(store.len() == 0);
-    let inbox = open_inbox(alloc, job, role)?;
     Ok(Desk::of(store, inbox))
 }
 
@@ -41,11 +41,18 @@ fn open_store(alloc: Global, job: &Job, role: u32) -> Result<Store, NoMemory>
     requires { role < length job.now.protocol.roles }
     ensures { IfOk result (λ s. s ≡ opened_store job.now role) }
 {
-    let room = event_room(job, role);
     let mut store = Store::new(alloc, job.admitted(), role)?;
-    hold_keys(&mut store, job)?;
-    store.reserve(room)?;
+    fill(&mut store, job, role)?;
     Ok(store)
+}
+
+/// Makes all workload keys held, and room for the events of the run.
+fn fill(store: &mut Store, job: &Job, role: u32) -> Result<(), NoMemory>
+    requires { store.old ≡ new_store job.now.protocol role }
+    ensures { OnOk result (store.new ≡ opened_store job.now role) }
+{
+    hold_keys(store, job)?;
+    store.reserve(event_room(job, role))
 }
 
 /// An inbox for the role.
