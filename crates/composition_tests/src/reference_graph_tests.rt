@@ -204,7 +204,7 @@ fn is_diamond_ordered(alloc: Global) -> bool {
     }
 }
 
-/// Whether the rows that are no graph are told from one.
+/// Whether lists that lead to no node are no graph.
 fn is_astray_refused(alloc: Global) -> bool {
     match lists_of(alloc, ASTRAY) {
         Ok(lists) => !is_graph(lists.as_slice()),

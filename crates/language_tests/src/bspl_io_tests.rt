@@ -132,7 +132,7 @@ fn writes_plainly(alloc: Global) -> bool {
     answer.is_ok() && sink.written() == TEXT
 }
 
-/// Whether a buffer of sixteen bytes takes the first ones of the text, and then a fault is told.
+/// Whether a buffer of sixteen bytes takes as many of the text, and the rest is a write fault.
 fn fills_a_buffer() -> bool {
     let mut kept = [0; 16];
     let mut sink = StdSink::new(kept.as_mut_slice());
