@@ -5,14 +5,12 @@ pub mod LineLemmas
 pub mod Links
 pub mod LogLemmas
 pub mod NumberFields
-pub mod Numerals
 pub mod OneAnswer
 pub mod Pivots
 pub mod Readings
 pub mod ResolutionLemmas
 pub mod RightLines
 pub mod RunLemmas
-pub mod Separators
 pub mod Spellings
 pub mod StepCount
 pub mod WritingLemmas

@@ -2,7 +2,7 @@
 use Rattle.std.proofs.Common.{◌≡◌, ℕ, Bool, true, false, cond, List, ◌∷◌, drop, sym, ap, ◌∙◌, arith}
 use Rattle.clause_core.specs.declared.literal.Lit.{Lit}
 use Rattle.refutation_log.specs.LogText.{IsInRange, numeral, pivot_text}
-use Rattle.refutation_log.proofs.Numerals.{has_digits}
+use Rattle.text_lines.proofs.Numerals.{has_digits}
 use Rattle.refutation_log.proofs.Readings.{IsPartOf}
 
 abbrev pub PivotInRange : Lit → Type 0

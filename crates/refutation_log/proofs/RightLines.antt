@@ -12,7 +12,7 @@ use Rattle.refutation_log.specs.declared.refutation.Version.TheVariants.{One, Tw
 use Rattle.refutation_log.specs.LogText.{EntryInRange, entry_fields, entry_line, header_line, end_line}
 use Rattle.refutation_log.specs.Refusal.{Line, lines_of, HasNoEnd, MayStand, HasForm, HasBadNumber, AreRight}
 use Rattle.refutation_log.specs.LineParts.{EntryStands}
-use Rattle.refutation_log.proofs.Separators.{Lacks, lines-then}
+use Rattle.text_lines.proofs.Separators.{Lacks, lines-then}
 use Rattle.refutation_log.proofs.Fields.{entry_body, entry_lacks}
 use Rattle.refutation_log.proofs.Spellings.{same_from_entry_line, same_from_header_line, header_no_entry, entry_no_end}
 

@@ -13,7 +13,7 @@ use Rattle.refutation_log.specs.declared.refutation.Entry.TheVariants.{Step, Dro
 use Rattle.refutation_log.specs.declared.refutation.Version.{Version}
 use Rattle.refutation_log.specs.declared.refutation.Version.TheVariants.{One, Two}
 use Rattle.refutation_log.specs.LogText.{numeral, pivot_text, link_fields, step_fields, entry_fields, entry_line, header_line, end_line}
-use Rattle.refutation_log.proofs.Numerals.{same_from_numeral}
+use Rattle.text_lines.proofs.Numerals.{same_from_numeral}
 use Rattle.refutation_log.proofs.Pivots.{no_minus}
 use Rattle.refutation_log.proofs.Fields.{entry_body, parts-entry}
 

@@ -1,6 +1,6 @@
 -- What is learnt by reading a part of a text.
-use Rattle.std.specs.Prelude.{◌≡◌, ◌≢◌, ℕ, ◌≤◌, All, List, [], ◌==◌, Option, Some, None, Result, Ok, Err, codes}
-use Rattle.std.specs.List.{slice_split, join_with_byte}
+use Rattle.std.specs.Prelude.{◌≡◌, ◌≢◌, ℕ, List, [], Result, Ok, Err, codes}
+use Rattle.std.specs.List.{join_with_byte}
 use Rattle.refutation_log.specs.declared.line_error.LineError.{LineError}
 use Rattle.refutation_log.specs.declared.line_error.LineError.TheVariants as errors
 use Rattle.refutation_log.specs.declared.refusal.LogRefusal.{LogRefusal}
@@ -12,10 +12,7 @@ use Rattle.refutation_log.specs.declared.refutation.Entry.TheVariants.{Step, Dro
 use Rattle.refutation_log.specs.declared.refutation.Version.{Version}
 use Rattle.refutation_log.specs.declared.refutation.Version.TheVariants.{Two}
 use Rattle.refutation_log.specs.LogText.{EntryInRange, entry_fields}
-
--- each byte is a decimal digit
-abbrev pub AreDigits : List ℕ → Type 0
-AreDigits bytes = All (λ byte. (48 ≤ byte) × (byte ≤ 57)) bytes
+pub use Rattle.text_lines.specs.Lines.{parts_in}
 
 -- the part spells the value read, which is in range; or it spells none; or one out of range
 abbrev pub IsReading : {A X : Type 0} → (A → X) → (A → Type 0) → X → Result A LineError → Type 0
@@ -41,11 +38,6 @@ abbrev pub refusal_of_line : LineError → ℕ → LogRefusal
 refusal_of_line errors.Form line = refusals.Form line
 refusal_of_line errors.Number line = refusals.Number line
 refusal_of_line errors.NoMemory line = refusals.NoMemory
-
--- the parts between separators of what follows, if anything does
-abbrev pub parts_in : ℕ → Option (List ℕ) → List (List ℕ)
-parts_in separator None = []
-parts_in separator (Some bytes) = slice_split (λ byte. byte == separator) bytes
 
 -- a line after the header, without its LF
 abbrev pub body_of : BodyLine → List ℕ

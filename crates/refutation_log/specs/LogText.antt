@@ -1,7 +1,6 @@
 -- The text of a log.
-use Rattle.std.specs.Prelude.{◌≡◌, ℕ, ◌+◌, List, [], ◌∷◌, ◌++◌, map, ◌==◌, if◌then◌else◌, codes}
-use Rattle.std.specs.List.{flat_map, join_with_byte}
-use Rattle.std.specs.Int.Digits.{digits_of}
+use Rattle.std.specs.Prelude.{◌≡◌, ℕ, List, [], ◌∷◌, ◌++◌, map, if◌then◌else◌, codes}
+use Rattle.std.specs.List.{flat_map}
 use Rattle.clause_core.specs.declared.literal.Lit.{Lit}
 use Rattle.refutation_log.specs.declared.refutation.Kind.{Kind}
 use Rattle.refutation_log.specs.declared.refutation.Kind.TheVariants.{Safety, Liveness}
@@ -14,19 +13,13 @@ use Rattle.refutation_log.specs.declared.refutation.Entry.TheVariants.{Step, Dro
 use Rattle.refutation_log.specs.declared.refutation.Version.{Version}
 use Rattle.refutation_log.specs.declared.refutation.Version.TheVariants.{One, Two}
 use Rattle.refutation_log.specs.Entries.{entries}
+pub use Rattle.text_lines.specs.Decimal.{numeral}
+pub use Rattle.text_lines.specs.Lines.{line_of, end_line}
 pub use Rattle.refutation_log.specs.NumberRange.{IsInRange, LinkInRange, StepInRange, EntryInRange, LogInRange}
-
--- a number in decimal: `0`, or its digits from the first that is not 0
-unfoldable pub numeral : ℕ → List ℕ
-numeral n = if n == 0 then codes "0" else map (λ digit. 48 + digit) (digits_of 10 n)
 
 -- a pivot is its variable, after a minus sign where it is the negation
 abbrev pub pivot_text : Lit → List ℕ
 pivot_text pivot = if pivot.positive then numeral pivot.var else codes "-" ++ numeral pivot.var
-
--- a line has one space between its fields, and ends with LF
-abbrev pub line_of : List (List ℕ) → List ℕ
-line_of fields = join_with_byte 32 fields ++ codes "\n"
 
 -- the name of a kind
 abbrev pub kind_name : Kind → List ℕ
@@ -63,10 +56,6 @@ entry_fields (Drop numbers) = drop_fields numbers
 -- the line of an entry
 abbrev pub entry_line : Entry → List ℕ
 entry_line entry = line_of (entry_fields entry)
-
--- the last line
-abbrev pub end_line : List ℕ
-end_line = line_of (codes "end" ∷ [])
 
 -- the text of this version and kind
 abbrev pub versioned_text : Version → Kind → Log → List ℕ

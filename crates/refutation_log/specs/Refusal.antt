@@ -1,6 +1,5 @@
 -- Which line of a text is the first bad one, and in what way it is bad.
-use Rattle.std.specs.Prelude.{◌≡◌, ◌≢◌, ℕ, ◌+◌, List, [], ◌∷◌, ◌++◌, length, ◌==◌, if◌then◌else◌, All, ◌⊎◌, Result, Err}
-use Rattle.std.specs.List.{onto_first}
+use Rattle.std.specs.Prelude.{◌≡◌, ◌≢◌, ℕ, ◌+◌, List, [], ◌∷◌, ◌++◌, length, ◌⊎◌, Result, Err}
 use Rattle.refutation_log.specs.declared.refutation.Kind.{Kind}
 use Rattle.refutation_log.specs.declared.refutation.Entry.{Entry}
 use Rattle.refutation_log.specs.declared.refutation.Entry.TheVariants.{Step, Drop}
@@ -9,17 +8,9 @@ use Rattle.refutation_log.specs.declared.refutation.Version.TheVariants.{Two}
 use Rattle.refutation_log.specs.declared.refutation.Log.{Log}
 use Rattle.refutation_log.specs.declared.refusal.LogRefusal.{LogRefusal}
 use Rattle.refutation_log.specs.declared.refusal.LogRefusal.TheVariants.{Form, Number, NoMemory}
-use Rattle.refutation_log.specs.LogText.{EntryInRange, header_line, entry_line, end_line}
-
--- a line, with its LF
-abbrev pub Line : Type 0
-Line = List ℕ
-
--- the lines of a text; only the last one may lack its LF
-abbrev pub lines_of : List ℕ → List Line
-lines_of [] = []
-lines_of (byte ∷ bytes) =
-    if byte == 10 then (byte ∷ []) ∷ lines_of bytes else onto_first byte (lines_of bytes)
+use Rattle.refutation_log.specs.LogText.{EntryInRange, header_line, entry_line}
+use Rattle.text_lines.specs.Lines.{end_line}
+pub use Rattle.text_lines.specs.Lines.{Line, lines_of, HasNoEnd}
 
 -- after this header: a removal names a clause, and needs version 2
 abbrev pub MayStand : Line → Entry → Type 0
@@ -30,10 +21,6 @@ MayStand header (Drop numbers) =
 -- the line is that of an entry which may stand after the header, whatever its numbers
 abbrev pub IsEntry : Line → Line → Type 0
 IsEntry header line = (entry : Entry) × MayStand header entry × (line ≡ entry_line entry)
-
--- none of the lines is `end`
-abbrev pub HasNoEnd : List Line → Type 0
-HasNoEnd lines = All (λ line. line ≢ end_line) lines
 
 -- the line has the form wanted after these: first a header, then entries, `end`, and nothing
 abbrev pub HasForm : List Line → Line → Type 0

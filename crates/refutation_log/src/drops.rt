@@ -1,13 +1,15 @@
 ghost use Rattle.std.specs.Prelude.{◌≡◌, ◌≢◌, ◌∷◌, [], All, Some, map};
 ghost use Rattle.std.specs.List.{join_with_byte};
-ghost use Rattle.refutation_log.specs.LogText.{IsInRange, numeral, drop_fields};
-ghost use Rattle.refutation_log.specs.LineParts.{IsReading, IsReadingAmong, parts_in};
+ghost use Rattle.refutation_log.specs.LogText.{IsInRange, drop_fields};
+ghost use Rattle.refutation_log.specs.LineParts.{IsReading, IsReadingAmong};
+ghost use Rattle.text_lines.specs.Decimal.{numeral};
+ghost use Rattle.text_lines.specs.Lines.{parts_in};
 
 use super::line_error::LineError;
 use super::numbers::number_of;
-use super::parts::split_once;
 use list_base::{NumberList, Seq};
 use std::alloc::Global;
+use text_lines::split_once;
 
 /// The numbers of the removal that the line spells.
 pub fn drop_of(alloc: Global, line: &[u8]) -> Result<NumberList, LineError>

@@ -1,4 +1,4 @@
-//! Logs of a refutation by resolution, and their texts.
+//! Logs of resolution with removals, and their texts.
 #![tactic(auto)]
 
 mod body;
@@ -10,7 +10,6 @@ mod line_error;
 mod log_cursor;
 mod log_entries;
 mod numbers;
-mod parts;
 mod reader;
 mod refusal;
 mod refutation;
@@ -24,10 +23,10 @@ pub use laws::{
 pub use line_error::LineError;
 pub use log_cursor::{Entries, EntryRef};
 pub use numbers::{number_of, pivot_of};
-pub use parts::split_once;
 pub use reader::read_log;
 pub use refusal::LogRefusal;
 pub use refutation::{
     Chain, ChainList, Entry, Kind, Link, LinkList, Log, Removal, RemovalList, Version,
 };
+pub use text_lines::split_once;
 pub use writer::{push_number, push_pivot, write_log};

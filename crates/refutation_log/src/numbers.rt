@@ -1,60 +1,24 @@
-ghost use Rattle.std.specs.Prelude.{◌≡◌, ℕ, ◌+◌, ◌↔◌, IsTrue, IsErrOf, min};
-ghost use Rattle.std.specs.Str.Parse.{digits_value};
-ghost use Rattle.refutation_log.specs.LogText.{IsInRange, numeral, pivot_text};
-ghost use Rattle.refutation_log.specs.LineParts.{AreDigits, IsReading};
+ghost use Rattle.std.specs.Prelude.{IsErrOf};
+ghost use Rattle.refutation_log.specs.LogText.{IsInRange, pivot_text};
+ghost use Rattle.refutation_log.specs.LineParts.{IsReading};
+ghost use Rattle.text_lines.specs.Decimal.{numeral};
 
 use super::line_error::LineError;
 use clause_core::Lit;
+use text_lines::{DecimalError, read_decimal};
 
 /// The largest number of a text.
 const LARGEST: u64 = 2_147_483_647;
-
-/// Whether each byte is a decimal digit.
-fn are_digits(bytes: &[u8]) -> bool
-    ensures { IsTrue result ↔ AreDigits bytes.now }
-{
-    bytes.iter().all(|byte| byte.is_ascii_digit())
-}
-
-/// Whether the bytes are `0`, or digits of which the first is not 0.
-fn is_numeral(bytes: &[u8]) -> bool
-    ensures { IsTrue result ↔ ((n : ℕ) × (bytes.now ≡ numeral n)) }
-{
-    if !are_digits(bytes) {
-        return false;
-    }
-    match bytes.len() {
-        0 => false,
-        1 => true,
-        _ => bytes[0] != b'0',
-    }
-}
-
-/// The value of the digits, or `LARGEST + 1` where it is more.
-fn value_of(digits: &[u8]) -> u64
-    requires { AreDigits digits.now }
-    ensures { result ≡ min (digits_value 10 digits.now) (LARGEST + 1) }
-{
-    let mut value = 0;
-    for digit in digits {
-        value = (value * 10 + u64::from(*digit - b'0')).min(LARGEST + 1);
-    }
-    value
-}
 
 /// The number that the digits spell, if it is in range. It takes no memory.
 pub fn number_of(digits: &[u8]) -> Result<u32, LineError>
     ensures reading { IsReading numeral IsInRange digits.now result }
     ensures memory { ¬ IsErrOf result LineError.NoMemory }
 {
-    if !is_numeral(digits) {
-        return Err(LineError::Form);
-    }
-    let value = value_of(digits);
-    if 0 < value && value <= LARGEST {
-        Ok(value as u32)
-    } else {
-        Err(LineError::Number)
+    match read_decimal(digits, LARGEST) {
+        Err(DecimalError::Form) => Err(LineError::Form),
+        Ok(0) | Err(DecimalError::TooLarge) => Err(LineError::Number),
+        Ok(number) => Ok(number as u32),
     }
 }
 

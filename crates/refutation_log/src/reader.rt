@@ -4,16 +4,17 @@ ghost use Rattle.refutation_log.specs.declared.refutation.Kind.{Kind};
 ghost use Rattle.refutation_log.specs.declared.refutation.Log.{Log};
 ghost use Rattle.refutation_log.specs.Entries.{entries};
 ghost use Rattle.refutation_log.specs.declared.refusal.LogRefusal.{LogRefusal};
-ghost use Rattle.refutation_log.specs.LogText.{LogInRange, IsTextOf, header_line, entry_line, end_line};
+ghost use Rattle.refutation_log.specs.LogText.{LogInRange, IsTextOf, header_line, entry_line};
 ghost use Rattle.refutation_log.specs.Refusal.{IsRefusedLog, Answers};
+ghost use Rattle.text_lines.specs.Lines.{end_line};
 
 use super::body::{BodyLine, body_line};
 use super::header::header_of;
-use super::parts::split_once;
 use super::refusal::LogRefusal;
 use super::refutation::{Kind, Log, Version};
 use list_base::Seq;
 use std::alloc::Global;
+use text_lines::split_once;
 
 /// The kind and the log whose text this is. Memory counts as run out where more than 4,294,967,295
 /// steps stand before a removal.

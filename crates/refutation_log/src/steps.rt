@@ -1,15 +1,17 @@
 ghost use Rattle.std.specs.Prelude.{◌≡◌, ◌≢◌, [], ◌∷◌, All, Some, map};
 ghost use Rattle.std.specs.List.{flat_map, join_with_byte};
 ghost use Rattle.std.specs.Option.{option_copied};
-ghost use Rattle.refutation_log.specs.LogText.{IsInRange, LinkInRange, StepInRange, numeral, link_fields, step_fields};
-ghost use Rattle.refutation_log.specs.LineParts.{IsReading, parts_in};
+ghost use Rattle.refutation_log.specs.LogText.{IsInRange, LinkInRange, StepInRange, link_fields, step_fields};
+ghost use Rattle.refutation_log.specs.LineParts.{IsReading};
+ghost use Rattle.text_lines.specs.Decimal.{numeral};
+ghost use Rattle.text_lines.specs.Lines.{parts_in};
 
 use super::line_error::LineError;
 use super::numbers::{number_of, pivot_of};
-use super::parts::split_once;
 use super::refutation::{Chain, Link, LinkList};
 use list_base::Seq;
 use std::alloc::Global;
+use text_lines::split_once;
 
 /// The step that the line spells.
 pub fn step_of(alloc: Global, line: &[u8]) -> Result<Chain, LineError>

@@ -1,8 +1,10 @@
 ghost use Rattle.std.specs.Prelude.{◌≡◌, ◌+◌, ◌∷◌, ◌++◌, IfOk, OnOk};
 ghost use Rattle.refutation_log.specs.Cursor.{lent_entry};
-ghost use Rattle.refutation_log.specs.LogText.{LogInRange, log_text, numeral, pivot_text, link_fields};
-ghost use Rattle.refutation_log.specs.LogText.{line_of, step_fields, drop_fields, entry_line};
+ghost use Rattle.refutation_log.specs.LogText.{LogInRange, log_text, pivot_text, link_fields};
+ghost use Rattle.refutation_log.specs.LogText.{step_fields, drop_fields, entry_line};
 ghost use Rattle.refutation_log.specs.inner.LineFields.{spaced};
+ghost use Rattle.text_lines.specs.Decimal.{numeral};
+ghost use Rattle.text_lines.specs.Lines.{line_of};
 
 use super::header::title;
 use super::log_cursor::EntryRef;
@@ -10,6 +12,7 @@ use super::refutation::{Chain, Kind, Link, Log};
 use clause_core::Lit;
 use list_base::{Bytes, NoMemory};
 use std::alloc::Global;
+use text_lines::push_decimal;
 
 /// The text of the log, of which `read_log` gives this kind and log again. Its version is 1 exactly
 /// if the log removes nothing.
@@ -86,9 +89,5 @@ pub fn push_pivot(text: &mut Bytes, pivot: Lit) -> Result<(), NoMemory>
 pub fn push_number(text: &mut Bytes, number: u32) -> Result<(), NoMemory>
     ensures { OnOk result (text.new ≡ text.old ++ numeral number) }
 {
-    if number < 10 {
-        return text.push(b'0' + number as u8);
-    }
-    push_number(text, number / 10)?;
-    text.push(b'0' + (number % 10) as u8)
+    push_decimal(text, u64::from(number))
 }

@@ -1,20 +1,15 @@
--- The lines of a text, and the first field of a line.
-use Rattle.std.proofs.Common.{◌≡◌, ◌≢◌, ℕ, Bor, true, false, eqb, List, [], ◌∷◌, ◌++◌, drop, All, Option, Some, None, refl, sym, ap, ◌∙◌, ◌⊎◌, inl, inr}
+-- The first field of a line.
+use Rattle.std.proofs.Common.{◌≡◌, ◌≢◌, ℕ, Bor, true, false, eqb, List, [], ◌∷◌, ◌++◌, drop, Option, Some, None, refl, sym, ap, ◌∙◌, ◌⊎◌, inl, inr}
 use Rattle.std.specs.Prelude.{MatchOption}
 use Rattle.std.specs.Option.{option_copied}
-use Rattle.std.specs.List.{onto_first, AllByRecursion}
 use lib.Pointwise.{pointwise}
-use Rattle.std.proofs.lemmas.Bool.{both_ways, ne_eqb, cond-false}
+use Rattle.std.proofs.lemmas.Bool.{both_ways}
 use Rattle.std.proofs.lemmas.Bool.Decides.{Decides-eqb}
 use Rattle.std.proofs.lemmas.Slice.Eq.{slice_eq-Decides}
 use Rattle.std.proofs.lemmas.List.{append-nil}
-use Rattle.std.proofs.lemmas.List.Elements.{All-head, All-tail, recursion_from_All}
-use Rattle.refutation_log.specs.Refusal.{lines_of}
+use Rattle.std.proofs.lemmas.List.Elements.{All-head, All-tail}
+use Rattle.text_lines.proofs.Separators.{Lacks}
 use Rattle.run_text.specs.inner.LineFields.{spaced_fields, tail_of}
-
--- none of the bytes is c
-abbrev pub Lacks : ℕ → List ℕ → Type 0
-Lacks c bytes = All (λ byte. byte ≢ c) bytes
 
 -- bytes that pass the test are the word
 pub same_word : (line word : List ℕ) → pointwise eqb line word ≡ true → line ≡ word
@@ -23,25 +18,6 @@ same_word line word is = (slice_eq-Decides Decides-eqb line word (pointwise eqb 
 -- bytes that fail it are not
 pub other_word : (line word : List ℕ) → pointwise eqb line word ≡ false → line ≢ word
 other_word line word other is = both_ways _ other ((slice_eq-Decides Decides-eqb line word (pointwise eqb line word) refl).1 is)
-
--- a line with its LF, and the lines after it, byte by byte
-line_then : (xs rest : List ℕ) → AllByRecursion (λ byte. byte ≢ 10) xs → lines_of (xs ++ 10 ∷ rest) ≡ (xs ++ 10 ∷ []) ∷ lines_of rest
-line_then [] rest lacks = refl
-line_then (x ∷ xs) rest lacks =
-    cond-false (eqb x 10) _ _ (ne_eqb x 10 lacks.0) ∙ ap (onto_first x) (line_then xs rest lacks.1)
-
--- a line with its LF, and the lines after it
-pub lines-then : (xs rest : List ℕ) → Lacks 10 xs → lines_of (xs ++ 10 ∷ rest) ≡ (xs ++ 10 ∷ []) ∷ lines_of rest
-lines-then xs rest lacks = line_then xs rest (recursion_from_All _ xs lacks)
-
--- bytes without an LF, byte by byte
-open_line : (x : ℕ) (xs : List ℕ) → AllByRecursion (λ byte. byte ≢ 10) (x ∷ xs) → lines_of (x ∷ xs) ≡ (x ∷ xs) ∷ []
-open_line x [] lacks = cond-false (eqb x 10) _ _ (ne_eqb x 10 lacks.0)
-open_line x (y ∷ ys) lacks = cond-false (eqb x 10) _ _ (ne_eqb x 10 lacks.0) ∙ ap (onto_first x) (open_line y ys lacks.1)
-
--- bytes without an LF are one line, or none if there are none
-pub lines-open : (x : ℕ) (xs : List ℕ) → Lacks 10 (x ∷ xs) → lines_of (x ∷ xs) ≡ (x ∷ xs) ∷ []
-lines-open x xs lacks = open_line x xs (recursion_from_All _ (x ∷ xs) lacks)
 
 -- nothing, or something after a space
 abbrev pub IsTail : List ℕ → Type 0

@@ -1,5 +1,5 @@
 -- The text of a run: a head, a line for each event, and `end`.
-use Rattle.std.specs.Prelude.{◌≡◌, ℕ, List, [], ◌∷◌, ◌++◌, codes, map, None, false, slice_index_or}
+use Rattle.std.specs.Prelude.{◌≡◌, ℕ, List, [], ◌∷◌, ◌++◌, codes, map, slice_index_or}
 use Rattle.std.specs.List.{All, flat_map}
 use Rattle.bspl_types.specs.declared.event.Event.{Event}
 use Rattle.bspl_types.specs.declared.event.Event.TheVariants.{Emit, Receive}
@@ -9,15 +9,12 @@ use Rattle.bspl_types.specs.declared.protocol.Carried.{Carried}
 use Rattle.bspl_types.specs.declared.protocol.ParamInfo.{ParamInfo}
 use Rattle.bspl_types.specs.declared.value.Value.{Value}
 use Rattle.bspl_types.specs.Expansion.{message_of}
+pub use Rattle.bspl_types.specs.Expansion.{no_param}
 use Rattle.bspl_types.specs.History.{IsRun, instance_of}
 use Rattle.bspl_types.specs.Instance.{Fits, pairs}
 use Rattle.bspl_types.specs.Value.{IsValue}
 use Rattle.bspl_types.specs.ValueSpelling.{value_spelling}
-use Rattle.refutation_log.specs.LogText.{line_of, end_line}
-
--- the parameter of an index past the last one: it has no name
-abbrev pub no_param : ParamInfo
-no_param = record { name = []; adornment = None; key = false }
+use Rattle.text_lines.specs.Lines.{line_of, end_line}
 
 -- the field of a parameter and its value, as `item=7`
 abbrev pub value_field : List ParamInfo → Carried × Value → List ℕ

@@ -9,7 +9,7 @@ ghost use Rattle.run_text.specs.inner.LineFields.{event_body, instance_body};
 use super::fields::values_of;
 use super::key::key_of;
 use bspl_types::{Event, Expanded, Instance, index_of};
-use refutation_log::split_once;
+use text_lines::split_once;
 
 /// The event whose line this is, without its LF.
 pub fn event_of(x: &Expanded, line: &[u8]) -> Option<Event>

@@ -9,9 +9,8 @@ ghost use Rattle.bspl_types.specs.Value.{IsValue};
 ghost use Rattle.run_text.specs.RunText.{value_field};
 ghost use Rattle.run_text.specs.inner.LineFields.{SpellsValues, tail_of};
 
-use super::values::ValueList;
 use bspl_types::{Carried, ParamInfo, Value, Values, spells_once};
-use refutation_log::split_once;
+use text_lines::split_once;
 
 /// The values that the fields spell for the parameters that have one.
 pub fn values_of(params: &[ParamInfo], carried: &[Carried], fields: Option<&[u8]>) -> Option<Values>
@@ -24,7 +23,7 @@ pub fn values_of(params: &[ParamInfo], carried: &[Carried], fields: Option<&[u8]
         (SpellsValues params.now (valued carried.now) (tail_of (option_copied fields.entry))) }
 {
     spells_once(); // law: a field spells one value at most
-    let mut values = ValueList::new();
+    let mut values = Values::new();
     let mut left = fields;
     for c in carried {
         if c.adornment.has_value() {
@@ -42,7 +41,7 @@ pub fn values_of(params: &[ParamInfo], carried: &[Carried], fields: Option<&[u8]
     if left.is_some() {
         return None;
     }
-    Some(Values::of(values.as_slice()))
+    Some(values)
 }
 
 /// The value that the field spells for the parameter.

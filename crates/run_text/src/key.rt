@@ -4,8 +4,7 @@ ghost use Rattle.bspl_types.specs.Adornment.{valued};
 ghost use Rattle.bspl_types.specs.Limits.{key_limit};
 ghost use Rattle.run_text.specs.inner.LineFields.{value_at};
 
-use super::values::ValueList;
-use bspl_types::{Carried, Key, Value};
+use bspl_types::{Carried, Key, Value, Values};
 
 /// The key that the values of the key parameters make.
 pub fn key_of(keys: &[u32], carried: &[Carried], values: &[Value]) -> Key
@@ -13,7 +12,7 @@ pub fn key_of(keys: &[u32], carried: &[Carried], values: &[Value]) -> Key
     requires few { length keys.now ≤ key_limit }
     ensures { result ≡ map (λ p. value_at p (zip (valued carried.now) values.now)) keys.now }
 {
-    let mut key = ValueList::new();
+    let mut key = Values::new();
     for param in keys {
         key.push(value_at(*param, carried, values));
     }

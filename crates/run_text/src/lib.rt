@@ -7,7 +7,6 @@ mod key;
 mod laws;
 mod reader;
 mod refusal;
-mod values;
 mod writer;
 
 pub use laws::{events_are_fewer_than_bytes, reads_once};

@@ -9,8 +9,8 @@ use super::event::event_of;
 use super::refusal::RunRefusal;
 use bspl_types::{Admitted, Event, Expanded, Run, spells_once};
 use list_base::Seq;
-use refutation_log::split_once;
 use std::alloc::Global;
+use text_lines::split_once;
 
 /// The run whose text this is.
 pub fn read_run(alloc: Global, a: &Admitted, text: &[u8]) -> Result<Run, RunRefusal>

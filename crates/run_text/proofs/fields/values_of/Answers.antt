@@ -49,5 +49,4 @@ returns-then-is_some c = more_left c.args.params.now c.args.carried.now (tail_of
 
 pub returns : goal.returns
 returns c =
-    let read = all_read c.args.params.now c.args.carried.now (tail_of (option_copied c.args.fields)) c.loop-c.values c.loop-c.c-index c.loop-c.left c.loop-c.invariant.read c.loop-c-test.false (sym c.is_some.ensures ∙ c.if-is_some.false) in
-    rw (c.of.ensures, c.as_slice.ensures.values) read
+    all_read c.args.params.now c.args.carried.now (tail_of (option_copied c.args.fields)) c.loop-c.values c.loop-c.c-index c.loop-c.left c.loop-c.invariant.read c.loop-c-test.false (sym c.is_some.ensures ∙ c.if-is_some.false)

@@ -1,0 +1,5 @@
+-- A number has fewer digits without its last.
+use Rattle.text_lines.proofs.decimal.+push_decimal.Given as goal
+
+abbrev pub decreases-push_decimal : goal.decreases-push_decimal
+decreases-push_decimal l = l.number

@@ -1,0 +1,6 @@
+-- A numeral has one value.
+use Rattle.text_lines.proofs.Numerals.{same_from_numeral}
+use Rattle.text_lines.proofs.laws.numerals_differ.Goals as goal
+
+pub returns : goal.returns
+returns c = same_from_numeral
