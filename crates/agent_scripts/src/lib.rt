@@ -1,4 +1,4 @@
-//! The text that says what scripted agents do, read into a script and a plan.
+//! What an agents text means: its script and its plan.
 #![tactic(auto)]
 
 mod job;
@@ -8,7 +8,6 @@ mod refusal;
 mod rules;
 mod script;
 mod statement;
-mod value_list;
 mod values;
 
 pub use job::{Agents, Job, Scene};

@@ -7,7 +7,6 @@ ghost use Rattle.agent_scripts.specs.Script.{rule_of, value_at, given_values};
 
 use super::rules::ValueRule;
 use super::statement::Rule;
-use super::value_list::ValueList;
 use bspl_types::{Adornment, Carried, Expanded, Value, Values};
 
 /// The values that the message gives at the workload number.
@@ -35,14 +34,14 @@ fn chosen_values(
     ensures { result ≡ map (λ c. value_at (rule_of rules.now message c.param) n)
         (filter (is_chosen keys.now) carried.now) }
 {
-    let mut values = ValueList::new();
+    let mut values = Values::new();
     for c in carried {
         if is_chosen(keys, *c) {
             let rule = rule_of(rules, message, c.param, n);
             values.push(value_at(rule, n));
         }
     }
-    Values::of(values.as_slice())
+    values
 }
 
 /// Whether the parameter is adorned `out` and is no key.

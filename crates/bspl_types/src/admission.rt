@@ -39,6 +39,13 @@ impl Admitted {
         &self.expanded
     }
 
+    /// A law: what was sealed is admitted.
+    pub fn is_admitted(&self)
+        ensures { IsAdmitted self.now }
+    {
+        let _admitted = &self.expanded;
+    }
+
     /// An equal value with memory of its own.
     pub fn copy(&self) -> Result<Admitted, NoMemory>
         ensures { IfOk result (λ other. other ≡ self.now) }

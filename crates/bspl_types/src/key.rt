@@ -1,4 +1,5 @@
-ghost use Rattle.std.specs.Prelude.{◌≡◌, ◌<◌, ◌≤◌, ◌↔◌, length, slice_get, Some, IsTrue};
+ghost use Rattle.std.specs.Prelude.{◌≡◌, ◌<◌, ◌≤◌, ◌↔◌, [], ◌∷◌, ◌++◌, length, slice_get, Some};
+ghost use Rattle.std.specs.Prelude.{IsTrue};
 ghost use Rattle.std.specs.Cmp.{partial_equiv_from_equiv};
 ghost use Rattle.bspl_types.specs.Limits.{key_limit, carried_limit};
 ghost use Rattle.bspl_types.specs.Value.{equal_values};
@@ -145,6 +146,16 @@ impl Model for Values {
 }
 
 impl Values {
+    /// No values.
+    pub fn new() -> Values
+        ensures { result ≡ [] }
+    {
+        Values {
+            cells: [BLANK; CARRIED_LIMIT],
+            len: 0,
+        }
+    }
+
     /// These values, in place.
     pub fn of(values: &[Value]) -> Values
         requires { length values.now ≤ carried_limit }
@@ -154,6 +165,15 @@ impl Values {
         let mut cells = [BLANK; CARRIED_LIMIT];
         cells[..len].copy_from_slice(values);
         Values { cells, len }
+    }
+
+    /// Puts a value at the end. There is no room after as many as a message carries.
+    pub fn push(&mut self, value: Value)
+        requires { length self.old < carried_limit }
+        ensures { self.new ≡ self.old ++ value ∷ [] }
+    {
+        self.cells[self.len] = value;
+        self.len += 1;
     }
 
     /// The values, in order.

@@ -1,4 +1,4 @@
-//! The values that protocols are made of, and the definitions that speak of them.
+//! Values, keys, events and expansions, and what knowledge means.
 #![tactic(auto)]
 
 mod admission;
@@ -13,6 +13,7 @@ mod limits;
 mod named;
 mod names;
 mod pairs;
+mod property;
 mod protocol;
 mod refusals;
 mod shape;
@@ -30,6 +31,7 @@ pub use limits::{CARRIED_LIMIT, KEY_LIMIT, MESSAGE_LIMIT, PARAM_LIMIT, ROLE_LIMI
 pub use list_base::{Bytes, NoMemory, NumberList, Seq, TryClone};
 pub use named::{Named, are_named, index_of};
 pub use names::{begins_name, is_name, is_plain_name, is_reserved};
+pub use property::Property;
 pub use protocol::{
     Adornment, Carried, CarriedList, Message, MessageList, ParamInfo, ParamInfoList,
 };

@@ -15,7 +15,7 @@ use std::marker::Model;
 #[derive(Clone, Copy, Debug)]
 pub struct Text32 {
     cells: [u8; 32],
-    len: usize,
+    len: u8,
 }
 
 impl Model for Text32 {
@@ -52,7 +52,10 @@ impl Text32 {
         let len = bytes.len();
         let mut cells = [0; 32];
         cells[..len].copy_from_slice(bytes);
-        Text32 { cells, len }
+        Text32 {
+            cells,
+            len: len as u8,
+        }
     }
 
     /// The bytes, in order.
@@ -60,14 +63,14 @@ impl Text32 {
         ensures bytes { result.now ≡ self.now }
         ensures text { IsTextValue self.now }
     {
-        &self.cells[..self.len]
+        &self.cells[..usize::from(self.len)]
     }
 
     /// How many bytes there are.
     pub fn len(&self) -> usize
         ensures { result ≡ length self.now }
     {
-        self.len
+        usize::from(self.len)
     }
 
     /// The byte at the index, from 0.
