@@ -8,7 +8,8 @@ use Rattle.std.specs.Int.Digits.{digits_of}
 use Rattle.std.specs.List.{flat_map}
 use Rattle.clause_core.specs.declared.literal.Lit.{Lit}
 use Rattle.clause_core.specs.Clause.{VariablesExist}
-use Rattle.refutation_log.specs.LogText.{numeral, pivot_text}
+use Rattle.refutation_log.specs.LogText.{pivot_text}
+use Rattle.text_lines.specs.Decimal.{numeral}
 use Rattle.dimacs.specs.declared.token.Token.{Token}
 use Rattle.dimacs.specs.declared.token.Token.TheVariants.{Literal, End}
 use Rattle.dimacs.specs.Dimacs.{HasHeader, IsDimacs, IsNoFormula, clause_words, header_words, line_words, text_lines}

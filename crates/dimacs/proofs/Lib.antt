@@ -1,6 +1,5 @@
 pub mod Appended
 pub mod ArgumentLemmas
-pub mod CallLemmas
 pub mod Causes
 pub mod FormulaLemmas
 pub mod ReadingLemmas

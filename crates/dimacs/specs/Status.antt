@@ -11,13 +11,10 @@ status_of (Satisfiable assignment stats) = status.Satisfiable
 status_of (Unsatisfiable stats) = status.Unsatisfiable
 status_of (Unknown stats) = status.Unknown
 
--- what the program ends with: as at the competitions of solvers, and as `bspl` does
+-- what the program ends with after an answer: as at the competitions of solvers, and as `bspl` does
 abbrev pub exit_number : Status → ℕ
 exit_number status.Satisfiable = 10
 exit_number status.Unsatisfiable = 20
 exit_number status.Unknown = 0
 exit_number status.Usage = 3
 exit_number status.Refused = 4
-exit_number status.ReadFault = 5
-exit_number status.WriteFault = 6
-exit_number status.NoMemory = 7

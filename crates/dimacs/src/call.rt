@@ -1,10 +1,11 @@
-ghost use Rattle.std.specs.Prelude.{◌≡◌, ◌≢◌, map, string_bytes};
-ghost use Rattle.bspl_io.specs.Faults.{HasCounted};
+ghost use Rattle.std.specs.Prelude.{map, string_bytes};
+ghost use Rattle.program_frame.specs.Call.{AreCounted};
 ghost use Rattle.dimacs.specs.Call.{IsDimacsCall};
 
-use super::reply::{Aborted, reply_to};
+use super::request::Request;
 use super::status::Status;
-use bspl_io::{Sink, Source, WriteRefusal, write_all};
+use bspl_io::{Sink, Source};
+use program_frame::{Ending, serve};
 use std::alloc::Global;
 
 /// Reads a formula, decides it with the budget that the arguments give, and writes the answer.
@@ -13,29 +14,19 @@ pub fn run<R: Source, W: Sink>(
     args: &[String],
     input: &mut R,
     output: &mut W,
-) -> Status
+) -> Ending<Status>
     ensures call { IsDimacsCall (map string_bytes args.now) (record {
       remaining = R.remaining input.old;
       remaining_after = R.remaining input.new;
       contents = W.contents output.old;
       contents_after = W.contents output.new;
     }) result }
-    ensures read_fault { result ≡ Status.ReadFault →
-        HasCounted (R.faults input.old) (R.faults input.new) }
-    ensures no_read_fault { result ≢ Status.ReadFault → R.faults input.new ≡ R.faults input.old }
-    ensures write_fault { result ≡ Status.WriteFault →
-        HasCounted (W.faults output.old) (W.faults output.new) }
-    ensures no_write_fault { result ≢ Status.WriteFault →
-        W.faults output.new ≡ W.faults output.old }
+    ensures faults { AreCounted (record {
+      reads = R.faults input.old;
+      reads_after = R.faults input.new;
+      writes = W.faults output.old;
+      writes_after = W.faults output.new;
+    }) result }
 {
-    let reply = match reply_to(alloc, args, input) {
-        Ok(reply) => reply,
-        Err(Aborted::ReadFault) => return Status::ReadFault,
-        Err(Aborted::NoMemory) => return Status::NoMemory,
-    };
-    match write_all(output, reply.text.as_slice()) {
-        Ok(()) => reply.status,
-        Err(WriteRefusal::WriteFault) => Status::WriteFault,
-        Err(WriteRefusal::NoMemory) => Status::NoMemory,
-    }
+    serve::<Request, R, W>(alloc, args, input, output)
 }

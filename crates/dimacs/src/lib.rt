@@ -1,4 +1,4 @@
-//! Formulas in DIMACS form: read, decided, and answered as at the competitions of solvers.
+//! Formulas in DIMACS form, read and decided.
 #![tactic(auto)]
 
 mod answer_text;
@@ -10,6 +10,7 @@ mod header;
 mod lines;
 mod refusal;
 mod reply;
+mod request;
 mod status;
 mod token;
 mod verdict;
@@ -18,5 +19,6 @@ mod words;
 pub use call::run;
 pub use decision::decide;
 pub use refusal::Refusal;
+pub use request::Request;
 pub use status::Status;
 pub use verdict::Verdict;

@@ -1,0 +1,54 @@
+ghost use Rattle.dimacs.specs.Output.{DimacsOutput, dimacs_input_limit};
+ghost use Rattle.dimacs.specs.Call.{AsksForInput};
+ghost use Rattle.dimacs.specs.inner.Request.{IsRequest};
+
+use super::arguments::budget_of;
+use super::reply::{decided, too_long, usage};
+use super::status::Status;
+use list_base::NoMemory;
+use program_frame::{Program, Reply};
+use std::alloc::Global;
+
+/// What the arguments request: a formula decided with their budget. Invalid ones give none.
+#[derive(Clone, Copy, Debug)]
+pub struct Request {
+    budget: Option<u32>,
+}
+
+impl<'a> Program<'a> for Request {
+    type Status = Status;
+
+    ghost requests = { λ args request. IsRequest args request.budget };
+
+    ghost asks = { AsksForInput };
+
+    ghost answers = { DimacsOutput };
+
+    ghost LIMIT = { dimacs_input_limit };
+
+    const LIMIT: u64 = 536_870_912;
+
+    fn request(alloc: Global, args: &'a [String]) -> Result<Request, NoMemory> {
+        Ok(Request {
+            budget: budget_of(args)?,
+        })
+    }
+
+    fn unread(&self, alloc: Global) -> Result<Option<Reply<Status>>, NoMemory> {
+        match self.budget {
+            Some(_) => Ok(None),
+            None => Ok(Some(usage(alloc)?)),
+        }
+    }
+
+    fn read(&self, alloc: Global, input: &[u8]) -> Result<Reply<Status>, NoMemory> {
+        match self.budget {
+            Some(budget) => decided(alloc, budget, input),
+            None => usage(alloc),
+        }
+    }
+
+    fn too_long(&self, alloc: Global) -> Result<Reply<Status>, NoMemory> {
+        too_long(alloc)
+    }
+}

@@ -1,0 +1,55 @@
+ghost use Rattle.std.specs.Prelude.{List, ℕ, ◌≤◌, ◌<◌, length, map, string_bytes, IfOk, MatchOption};
+ghost use Rattle.program_frame.specs.Program.{IsRequested};
+
+use super::ending::ExitStatus;
+use super::reply::Reply;
+use list_base::NoMemory;
+use std::alloc::Global;
+
+/// A program, as what its arguments request: whether it wants the input, and what it answers.
+pub trait Program<'a>: Drop {
+    ghost use Rattle.std.specs.Prelude.{List, ℕ};
+
+    /// How an answer ends.
+    type Status: ExitStatus;
+
+    // The arguments request this.
+    ghost requests: { List (List ℕ) → Self → Type 0 };
+
+    // The arguments ask for the input.
+    ghost asks: { List (List ℕ) → Type 0 };
+
+    // The output and its status are right for the arguments and the bytes of the input.
+    ghost answers: { List (List ℕ) → List ℕ → List ℕ → Self.Status → Type 0 };
+
+    // The most bytes of an input that are read.
+    ghost LIMIT: { ℕ };
+
+    /// The most bytes of an input that are read.
+    const LIMIT: u64;
+
+    /// Reads what the arguments request.
+    fn request(alloc: Global, args: &'a [String]) -> Result<Self, NoMemory>
+        ensures { IfOk result (requests (map string_bytes args.now)) };
+
+    /// The reply that needs no input, if the arguments ask for none.
+    fn unread(&self, alloc: Global) -> Result<Option<Reply<Self::Status>>, NoMemory>
+        requires known { IsRequested requests self.now }
+        ensures { (args : List (List ℕ)) → requests args self.now → IfOk result (λ found.
+            MatchOption found (asks args) (λ reply. (¬ asks args)
+            × ((bytes : List ℕ) → answers args bytes reply.text reply.status))) };
+
+    /// The reply to the whole input.
+    fn read(&self, alloc: Global, input: &[u8]) -> Result<Reply<Self::Status>, NoMemory>
+        requires known { IsRequested requests self.now }
+        requires short { length input.now ≤ LIMIT }
+        ensures { (args : List (List ℕ)) → requests args self.now → asks args →
+            IfOk result (λ reply. answers args input.now reply.text reply.status) };
+
+    /// The reply to an input that is too long.
+    fn too_long(&self, alloc: Global) -> Result<Reply<Self::Status>, NoMemory>
+        requires known { IsRequested requests self.now }
+        ensures { (args : List (List ℕ)) → requests args self.now → asks args →
+            IfOk result (λ reply. (bytes : List ℕ) → LIMIT < length bytes
+            → answers args bytes reply.text reply.status) };
+}
