@@ -11,8 +11,9 @@ use Rattle.bspl_tool.specs.declared.claim.Claim.{Claim}
 use Rattle.bspl_tool.specs.declared.status.Status.TheVariants.{Done, Refuted}
 use Rattle.bspl_tool.specs.CheckAnswer.{Fails, IsAccepted, IsCheckAnswer, IsCheckRefused}
 use Rattle.bspl_tool.specs.Claims.{claim_line}
-use Rattle.bspl_tool.specs.Rejection.{log_rejection}
-use Rattle.bspl_tool.specs.Texts.{line, reject_text}
+use Rattle.bspl_tool.specs.CheckAnswer.{log_rejection}
+use Rattle.tool_input.specs.Lines.{line}
+use Rattle.bspl_tool.specs.Texts.{reject_text}
 use Rattle.bspl_tool.specs.inner.Error.{RejectsFor, error_for}
 
 -- a text that is no log's is refused at its first bad line

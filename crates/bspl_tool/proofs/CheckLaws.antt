@@ -5,8 +5,7 @@ use Rattle.std.specs.Prelude.{IfSome}
 use Rattle.bspl_types.specs.declared.expanded.Expanded.{Expanded}
 use Rattle.log_checker.specs.declared.refusal.Reject.{Reject}
 use Rattle.log_checker.specs.declared.refusal.Reject.TheVariants.{NoClause, NoDrop, NoMemory, NoPivot, NotEmpty}
-use Rattle.protocol_check.specs.Liveness.{AcceptedLivenessDoesNotFail, LivenessFailsOnce}
-use Rattle.protocol_check.specs.Safety.{AcceptedSafetyDoesNotFail, SafetyFailsOnce}
+use Rattle.protocol_check.specs.Laws.{AcceptedLivenessDoesNotFail, AcceptedSafetyDoesNotFail, LivenessFailsOnce, SafetyFailsOnce}
 use Rattle.refutation_log.specs.declared.refusal.LogRefusal.{LogRefusal}
 use Rattle.refutation_log.specs.declared.refusal.LogRefusal.TheVariants as log
 use Rattle.refutation_log.specs.declared.refutation.Kind.{Kind}
@@ -14,15 +13,16 @@ use Rattle.refutation_log.specs.declared.refutation.Kind.TheVariants.{Liveness, 
 use Rattle.refutation_log.specs.declared.refutation.Log.{Log}
 use Rattle.refutation_log.specs.LogText.{IsTextOf}
 use Rattle.refutation_log.specs.TextLaws.{LogIsNotRefused, TextHasOneLog, TextHasOneRefusal}
-use Rattle.bspl_tool.specs.declared.rejection.Rejection.{Rejection}
+use Rattle.tool_input.specs.declared.rejection.Rejection.{Rejection}
 use Rattle.bspl_tool.specs.declared.request.Task.TheVariants.{Check}
 use Rattle.bspl_tool.specs.declared.status.Status.{Status}
 use Rattle.bspl_tool.specs.Answer.{IsAnswer, IsPartRefused}
 use Rattle.bspl_tool.specs.CheckAnswer.{Accepts, Fails, IsCheckAnswer, IsCheckRefused, SaysAccepted, SaysRejected, claim_of}
 use Rattle.bspl_tool.specs.Claims.{IsClaimTrue, claim_line}
 use Rattle.bspl_tool.specs.Laws.{IsOutput}
-use Rattle.bspl_tool.specs.Rejection.{log_rejection}
-use Rattle.bspl_tool.specs.Texts.{line, reject_text}
+use Rattle.bspl_tool.specs.CheckAnswer.{log_rejection}
+use Rattle.tool_input.specs.Lines.{line}
+use Rattle.bspl_tool.specs.Texts.{reject_text}
 use Rattle.bspl_tool.proofs.ClaimsNothing.{ClaimsNothing, line_claims_nothing, says_nothing}
 use Rattle.bspl_tool.proofs.CommandLaws.{CommandLaws, CommandTexts, IsEnd, IsHonest, honest_if}
 use Rattle.bspl_tool.proofs.RejectedNames.{HasNames}

@@ -9,7 +9,8 @@ use Rattle.std.proofs.lemmas.List.Splits.{join_with_byte-slice_split}
 use Rattle.bspl_tool.specs.declared.claim.Claim.{Claim}
 use Rattle.bspl_tool.specs.declared.claim.Claim.TheVariants.{AcceptedLiveness, AcceptedSafety, LivenessLive, SafetySafe}
 use Rattle.bspl_tool.specs.Claims.{all_claims, claim_line}
-use Rattle.bspl_tool.specs.Texts.{SaysLine, line, lines}
+use Rattle.bspl_tool.specs.Texts.{SaysLine}
+use Rattle.tool_input.specs.Lines.{line, lines}
 use Rattle.bspl_tool.proofs.Unbroken.{has_lf}
 
 -- the lines that claim something

@@ -3,7 +3,7 @@ use Rattle.std.proofs.Common.{◌≡◌, ◌⊎◌, ℕ, List, take, inl, inr, r
 use Rattle.std.specs.Prelude.{⊤}
 use Rattle.bspl_types.specs.declared.expanded.Expanded.{Expanded}
 use Rattle.bspl_types.specs.Admission.{IsAdmitted}
-use Rattle.bspl_tool.specs.declared.rejection.Rejection.{Rejection}
+use Rattle.tool_input.specs.declared.rejection.Rejection.{Rejection}
 use Rattle.bspl_tool.specs.declared.status.Status.{Status}
 use Rattle.bspl_tool.specs.declared.status.Status.TheVariants.{ReadFault, WriteFault, NoMemory}
 use Rattle.enactment_model.specs.Liveness.{LiveProtocol}

@@ -3,8 +3,8 @@ use Rattle.std.proofs.Common.{◌≡◌, ℕ, ◌<◌, ◌≤◌, true, List, []
 use Rattle.bspl_types.specs.declared.expanded.Expanded.{Expanded}
 use Rattle.bspl_types.specs.declared.refusals.Refusal.{Refusal}
 use Rattle.command_line.specs.Line.{OneLine}
-use Rattle.bspl_tool.specs.declared.parts.Part.{Part}
-use Rattle.bspl_tool.specs.declared.rejection.Rejection.{Rejection}
+use Rattle.tool_input.specs.declared.parts.Part.{Part}
+use Rattle.tool_input.specs.declared.rejection.Rejection.{Rejection}
 use Rattle.bspl_tool.specs.declared.request.Task.{Task}
 use Rattle.bspl_tool.specs.declared.status.Status.{Status}
 use Rattle.bspl_tool.specs.declared.status.Status.TheVariants.{Usage, Refused}
@@ -12,15 +12,23 @@ use Rattle.bspl_types.specs.Limits.{input_limit}
 use Rattle.bspl_tool.specs.Answer.{IsAnswer, IsPartRefused}
 use Rattle.bspl_tool.specs.Laws.{IsOutput, OneAnswer, OneRejection, RefusalIsAll, UsageIsAll}
 use Rattle.bspl_tool.specs.Output.{AnswersInput, IsDone, Output, usage, refused, done}
-use Rattle.bspl_tool.specs.Parts.{protocol_text}
-use Rattle.bspl_tool.specs.Refusals.{HasPart, IsRead, LacksPart, Refuses, RefusesInput, RefusesText}
-use Rattle.bspl_tool.specs.Rejection.{lacks_part, rejection_line, text_rejection}
+use Rattle.tool_input.specs.Parts.{protocol_text}
+use Rattle.tool_input.specs.NeededPart.{HasPart, LacksPart}
+use Rattle.bspl_tool.specs.Refusals.{IsRead, Refuses, RefusesInput}
+use Rattle.tool_input.specs.Laws.{DeclaredIsNotRefused, OneDeclaration, OneTextRefusal}
+use Rattle.tool_input.specs.TextRefusal.{RefusesText}
+use Rattle.tool_input.specs.Rejection.{lacks_part, rejection_line, text_rejection}
 use Rattle.bspl_tool.specs.Request.{HasCommandLine, Requests}
 use Rattle.bspl_tool.specs.Task.{IsDetermined, Judged, part_of, reads_input}
 use Rattle.bspl_tool.specs.Texts.{usage_text}
-use Rattle.bspl_tool.proofs.OneRefusal.{OneReading, declared_once, declared_or_refused, one_refusal}
 use Rattle.bspl_tool.proofs.OneRequest.{declared_if_judged, one_name, one_task, task_or_unsupported}
 use Rattle.bspl_tool.proofs.TaskLaws.{OneEvidence, OnePrinting, answered_once, laws_of}
+
+-- a protocol text is judged once
+pub record OneReading : Type 0 where
+  pub declaration : OneDeclaration
+  pub refusal : OneTextRefusal
+  pub exclusive : DeclaredIsNotRefused
 
 -- the command line, the reading, and what is read of a part have one answer each
 pub record OneEach : Type 0 where
@@ -40,25 +48,25 @@ one_part None input one other is again = is ∙ sym again
 one_part (Some part) input one other is again = ap part_bytes (sym is ∙ again)
 
 -- a part that is there is not missing
-part_or_missing : (task : Task) (input bytes : List ℕ) (part : Part) → HasPart (part_of task) input bytes → LacksPart task input part → ⊥
-part_or_missing task input bytes part has lacks = lacks.missing bytes (subst (λ o. HasPart o input bytes) lacks.needed has)
+part_or_missing : (task : Task) (input bytes : List ℕ) (part : Part) → HasPart (part_of task) input bytes → LacksPart (part_of task) input part → ⊥
+part_or_missing task input bytes part has lacks = lacks.missing bytes (subst (λ o. HasPart o input bytes) lacks.is_needed has)
 
 -- an input has one judged protocol for a name
 judged_once : OneReading → (task : Task) (name input : List ℕ) (x y : Expanded) → Judged task name input x → Judged task name input y → x ≡ y
 judged_once law task name input x y one other =
-    declared_once law name (protocol_text input) x y (declared_if_judged task name input x one) (declared_if_judged task name input y other)
+    law.declaration name (protocol_text input) x y (declared_if_judged task name input x one) (declared_if_judged task name input y other)
 
 -- what is judged is not refused for its text
 judged_or_refused : OneReading → (task : Task) (name input : List ℕ) (x : Expanded) (q : Refusal) → Judged task name input x → RefusesText name (protocol_text input) q → ⊥
-judged_or_refused law task name input x q judged reason = declared_or_refused law name (protocol_text input) x (declared_if_judged task name input x judged) reason
+judged_or_refused law task name input x q judged reason = law.exclusive name (protocol_text input) x q (declared_if_judged task name input x judged) reason
 
 -- two rejections of one refusal are one
 same_rejection : (q p : Refusal) (r s : Rejection) → q ≡ p → text_rejection q ≡ Some r → text_rejection p ≡ Some s → r ≡ s
 same_rejection q p r s same one other = let is : Some r ≡ Some s = sym one ∙ ap text_rejection same ∙ other in cc
 
 -- two parts that are needed are one
-same_part : (task : Task) (input : List ℕ) (p q : Part) → LacksPart task input p → LacksPart task input q → p ≡ q
-same_part task input p q one other = let is : Some p ≡ Some q = sym one.needed ∙ other.needed in cc
+same_part : (task : Task) (input : List ℕ) (p q : Part) → LacksPart (part_of task) input p → LacksPart (part_of task) input q → p ≡ q
+same_part task input p q one other = let is : Some p ≡ Some q = sym one.is_needed ∙ other.is_needed in cc
 
 -- a command's refusals of an input are one
 same_part_refusal : OneEach → (task : Task) (name input : List ℕ) (part bytes : List ℕ) (x y : Expanded) (r s : Rejection) → HasPart (part_of task) input part → HasPart (part_of task) input bytes → Judged task name input x → Judged task name input y → IsPartRefused task x part r → IsPartRefused task y bytes s → r ≡ s
@@ -74,7 +82,7 @@ one_input_rejection law task name input (RefusesInput.no_part p lacks) (RefusesI
 one_input_rejection law task name input (RefusesInput.no_part p lacks) (RefusesInput.part bytes y s has judged reason) = absurd (part_or_missing task input bytes p has lacks)
 one_input_rejection law task name input (RefusesInput.text part q r has reason is) (RefusesInput.no_part p lacks) = absurd (part_or_missing task input part p has lacks)
 one_input_rejection law task name input (RefusesInput.text part q r has reason is) (RefusesInput.text bytes p s has_too reason_too is_too) =
-    same_rejection q p r s (one_refusal law.reading name (protocol_text input) reason reason_too) is is_too
+    same_rejection q p r s (law.reading.refusal name (protocol_text input) q p reason reason_too) is is_too
 one_input_rejection law task name input (RefusesInput.text part q r has reason is) (RefusesInput.part bytes y s has_too judged other) = absurd (judged_or_refused law.reading task name input y q judged reason)
 one_input_rejection law task name input (RefusesInput.part part x r has judged reason) (RefusesInput.no_part p lacks) = absurd (part_or_missing task input part p has lacks)
 one_input_rejection law task name input (RefusesInput.part part x r has judged reason) (RefusesInput.text bytes q s has_too other is) = absurd (judged_or_refused law.reading task name input x q judged other)

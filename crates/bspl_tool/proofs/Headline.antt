@@ -5,13 +5,13 @@ use Rattle.std.specs.Io.KnownBytes.{Appends}
 use Rattle.std.proofs.lemmas.List.{append_cancel_left, take_all}
 use Rattle.bspl_types.specs.Name.{is_name}
 use Rattle.bspl_io.specs.Sink.{AppendsPrefix}
-use Rattle.bspl_tool.specs.declared.rejection.Rejection.{Rejection}
+use Rattle.tool_input.specs.declared.rejection.Rejection.{Rejection}
 use Rattle.bspl_tool.specs.declared.request.Task.{Task}
 use Rattle.bspl_tool.specs.declared.status.Status.{Status}
 use Rattle.bspl_tool.specs.Call.{AreRemaining}
 use Rattle.bspl_tool.specs.Headline.{IsTrueOf, TrueWhereSaid}
 use Rattle.bspl_tool.specs.Output.{IsDone, Output, usage, refused, done}
-use Rattle.bspl_tool.specs.Parts.{protocol_text}
+use Rattle.tool_input.specs.Parts.{protocol_text}
 use Rattle.bspl_tool.specs.Refusals.{Refuses, RefusesInput}
 use Rattle.bspl_tool.proofs.ClaimsNothing.{ClaimsNothing, line_claims_nothing, says_nothing}
 use Rattle.bspl_tool.proofs.RejectedNames.{HasNames, requested_is_name, text_rejection_names}

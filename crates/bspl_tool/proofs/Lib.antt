@@ -18,10 +18,7 @@ pub mod RunLaws
 pub mod RunAnswers
 pub mod TaskLaws
 pub mod OneRequest
-pub mod OneRefusal
 pub mod Distinct
 pub mod Headline
-pub mod PartLines
-pub mod FirstPart
 pub mod Replies
 pub mod Calls

@@ -2,7 +2,7 @@
 use Rattle.bspl_tool.specs.declared.answer_error.Aborted.TheVariants as aborted
 use Rattle.bspl_tool.specs.declared.answer_error.AnswerError.{AnswerError}
 use Rattle.bspl_tool.specs.declared.answer_error.AnswerError.TheVariants as error
-use Rattle.bspl_tool.specs.declared.rejection.Rejection.{Rejection}
+use Rattle.tool_input.specs.declared.rejection.Rejection.{Rejection}
 use Rattle.bspl_tool.specs.inner.Error.{RejectsFor}
 
 -- an error that rejects for no reason rejects for any

@@ -12,8 +12,8 @@ use Rattle.command_line.specs.Line.{IsChosen, IsSameLine, IsSameSubject, OneLine
 use Rattle.bspl_tool.specs.declared.request.Task.{Task}
 use Rattle.bspl_tool.specs.declared.request.Task.TheVariants.{Check, Expand, Replay, Run, Verify}
 use Rattle.bspl_tool.specs.Call.{RequestsInput}
-use Rattle.bspl_tool.specs.Input.{Declares}
-use Rattle.bspl_tool.specs.Parts.{protocol_text}
+use Rattle.tool_input.specs.Input.{Declares}
+use Rattle.tool_input.specs.Parts.{protocol_text}
 use Rattle.bspl_tool.specs.Request.{IsAbout, Requests, RequestsUnsupported, line_task, task_of}
 use Rattle.bspl_tool.specs.Task.{HasBudget, IsBudget, Judged, reads_input}
 

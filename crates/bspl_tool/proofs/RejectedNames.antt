@@ -18,12 +18,12 @@ use Rattle.bspl_types.specs.declared.refusals.Refusal.{Refusal}
 use Rattle.bspl_types.specs.declared.refusals.Refusal.TheVariants.{Byte, Syntax, NoProtocol, Duplicate, Unknown, Arity, BadAdornment, Recursion, Limit, NoKey, NotWholeKey, ForeignKey, SelfMessage, RepeatedParam, NoMemory}
 use Rattle.protocol_expand.specs.Refusals.{IsNotExpanded}
 use Rattle.bspl_tool.specs.declared.request.Task.{Task}
-use Rattle.bspl_tool.specs.declared.rejection.Field.{Field}
-use Rattle.bspl_tool.specs.declared.rejection.Field.TheVariants.{Name}
-use Rattle.bspl_tool.specs.declared.rejection.Rejection.{Rejection}
-use Rattle.bspl_tool.specs.Rejection.{text_rejection}
+use Rattle.tool_input.specs.declared.rejection.Field.{Field}
+use Rattle.tool_input.specs.declared.rejection.Field.TheVariants.{Name}
+use Rattle.tool_input.specs.declared.rejection.Rejection.{Rejection}
+use Rattle.tool_input.specs.Rejection.{text_rejection}
 use Rattle.bspl_tool.specs.Request.{IsAbout, Requests}
-use Rattle.bspl_tool.specs.Refusals.{RefusesText, too_long, misspelled, not_expanded, not_admitted}
+use Rattle.tool_input.specs.TextRefusal.{RefusesText, too_long, misspelled, not_expanded, not_admitted}
 
 -- the name that the arguments have is a name
 subject_is_name : (size : Bool) (word : List ℕ) (subject : Subject) (name : List ℕ) → IsSubject size word subject → IsAbout subject name → IsTrue (is_name name)

@@ -2,15 +2,15 @@
 use Rattle.std.proofs.Common.{◌≡◌, false, ◌++◌, codes, Option, Some, None, refl}
 use Rattle.bspl_types.specs.declared.refusals.What.{What}
 use Rattle.bspl_types.specs.declared.refusals.What.TheVariants as what
-use Rattle.bspl_tool.specs.declared.parts.Part.{Part}
-use Rattle.bspl_tool.specs.declared.parts.Part.TheVariants.{Agents, Log, Run}
-use Rattle.bspl_tool.specs.declared.rejection.Code.{Code}
-use Rattle.bspl_tool.specs.declared.rejection.Code.TheVariants.{E, L, N, P, S, W}
-use Rattle.bspl_tool.specs.declared.rejection.Field.{Field}
-use Rattle.bspl_tool.specs.declared.rejection.Field.TheVariants as field
-use Rattle.bspl_tool.specs.declared.rejection.Rejection.{Rejection}
-use Rattle.bspl_tool.specs.Parts.{part_name}
-use Rattle.bspl_tool.specs.Rejection.{after_space, code_text, rejection_line, what_word}
+use Rattle.tool_input.specs.declared.parts.Part.{Part}
+use Rattle.tool_input.specs.declared.parts.Part.TheVariants.{Agents, Log, Run}
+use Rattle.tool_input.specs.declared.rejection.Code.{Code}
+use Rattle.tool_input.specs.declared.rejection.Code.TheVariants.{E, L, N, P, S, W}
+use Rattle.tool_input.specs.declared.rejection.Field.{Field}
+use Rattle.tool_input.specs.declared.rejection.Field.TheVariants as field
+use Rattle.tool_input.specs.declared.rejection.Rejection.{Rejection}
+use Rattle.tool_input.specs.Parts.{part_name}
+use Rattle.tool_input.specs.Rejection.{after_space, code_text, rejection_line, what_word}
 use Rattle.bspl_tool.proofs.ClaimsNothing.{ClaimsNothing, line_claims_nothing}
 use Rattle.bspl_tool.proofs.NameBytes.{name_has_no_lf}
 use Rattle.bspl_tool.proofs.RejectedNames.{HasNames, IsNamedField}

@@ -24,12 +24,12 @@ use Rattle.report.specs.ReplayText.{IsConflictLine, IsKeyLine, IsReplayText}
 use Rattle.run_text.specs.declared.refusal.RunRefusal.{RunRefusal}
 use Rattle.run_text.specs.declared.refusal.RunRefusal.TheVariants.{Form, NoMemory}
 use Rattle.run_text.specs.Refusal.{RunIsNotRefused, TextHasOneBadLine, TextHasOneRun}
-use Rattle.bspl_tool.specs.declared.rejection.Rejection.{Rejection}
+use Rattle.tool_input.specs.declared.rejection.Rejection.{Rejection}
 use Rattle.bspl_tool.specs.declared.request.Task.TheVariants.{Replay}
 use Rattle.bspl_tool.specs.declared.status.Status.{Status}
 use Rattle.bspl_tool.specs.Answer.{IsAnswer, IsPartRefused}
 use Rattle.bspl_tool.specs.Laws.{IsOutput}
-use Rattle.bspl_tool.specs.Rejection.{run_rejection}
+use Rattle.bspl_tool.specs.ReplayAnswer.{run_rejection}
 use Rattle.bspl_tool.specs.ReplayAnswer.{IsReplayAnswer, IsReplayRefused, SaysLegal}
 use Rattle.bspl_tool.proofs.ClaimsNothing.{IsBlock, block_joined, claims, no_lines, says_nothing}
 use Rattle.bspl_tool.proofs.CommandLaws.{CommandLaws, CommandTexts, IsEnd}

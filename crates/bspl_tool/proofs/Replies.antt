@@ -13,21 +13,23 @@ use Rattle.bspl_tool.specs.declared.answer_error.Aborted.{Aborted}
 use Rattle.bspl_tool.specs.declared.answer_error.Aborted.TheVariants as aborted
 use Rattle.bspl_tool.specs.declared.answer_error.AnswerError.{AnswerError}
 use Rattle.bspl_tool.specs.declared.answer_error.AnswerError.TheVariants as error
-use Rattle.bspl_tool.specs.declared.parts.Part.{Part}
-use Rattle.bspl_tool.specs.declared.refusal.InputRefusal.{InputRefusal}
-use Rattle.bspl_tool.specs.declared.refusal.InputRefusal.TheVariants.{NoPart}
-use Rattle.bspl_tool.specs.declared.rejection.Rejection.{Rejection}
+use Rattle.tool_input.specs.declared.parts.Part.{Part}
+use Rattle.tool_input.specs.declared.refusal.InputRefusal.{InputRefusal}
+use Rattle.tool_input.specs.declared.refusal.InputRefusal.TheVariants.{NoPart}
+use Rattle.tool_input.specs.declared.rejection.Rejection.{Rejection}
 use Rattle.bspl_tool.specs.declared.reply.Reply.{Reply}
 use Rattle.bspl_tool.specs.declared.request.Task.{Task}
 use Rattle.bspl_tool.specs.declared.status.Status.{Status}
 use Rattle.bspl_tool.specs.declared.status.Status.TheVariants as status
 use Rattle.bspl_tool.specs.Answer.{IsAnswer, IsPartRefused}
-use Rattle.bspl_tool.specs.Input.{Declares}
+use Rattle.tool_input.specs.Input.{Declares}
 use Rattle.bspl_tool.specs.Call.{AreRemaining, RequestsInput, TakesInput}
 use Rattle.bspl_tool.specs.Output.{AnswersInput, Output, usage, refused, done}
-use Rattle.bspl_tool.specs.Parts.{protocol_text}
-use Rattle.bspl_tool.specs.Refusals.{HasPart, LacksPart, Refuses, RefusesInput, RefusesText}
-use Rattle.bspl_tool.specs.Rejection.{input_rejection, not_built, over_limit, rejection_line, text_rejection}
+use Rattle.tool_input.specs.Parts.{protocol_text}
+use Rattle.tool_input.specs.NeededPart.{HasPart, LacksPart}
+use Rattle.bspl_tool.specs.Refusals.{Refuses, RefusesInput}
+use Rattle.tool_input.specs.TextRefusal.{RefusesText}
+use Rattle.tool_input.specs.Rejection.{input_rejection, not_built, over_limit, rejection_line, text_rejection}
 use Rattle.bspl_tool.specs.Request.{HasCommandLine, Requests, RequestsUnsupported}
 use Rattle.bspl_tool.specs.Task.{part_of}
 use Rattle.bspl_tool.specs.Texts.{usage_text}
@@ -143,8 +145,8 @@ text_refused task name input part q has refuses =
     ]) refl
 
 -- the part that the task needs is missing
-pub part_missing : (task : Task) (name input : List ℕ) (q : InputRefusal) → ((part : Part) × LacksPart task input part × (q ≡ NoPart part)) → RejectsFor (RefusesInput task name input) (error_for (input_rejection q))
-part_missing task name bytes q (part, lacks, is) = subst (λ r. RejectsFor (RefusesInput task name bytes) (error_for (input_rejection r))) (sym is) (RefusesInput.no_part part lacks)
+pub part_missing : (task : Task) (name input : List ℕ) (q : InputRefusal) → ((part : Part) × LacksPart (part_of task) input part × (q ≡ NoPart part)) → RejectsFor (RefusesInput task name input) (error.Rejected (input_rejection q))
+part_missing task name bytes q (part, lacks, is) = subst (λ r. RejectsFor (RefusesInput task name bytes) (error.Rejected (input_rejection r))) (sym is) (RefusesInput.no_part part lacks)
 
 -- the reply of a rejection
 pub rejection_replied : (args : List (List ℕ)) (remaining after : Option (List ℕ)) (r : Rejection) (text : List ℕ) → IsRejected args remaining after r → text ≡ rejection_line r → IsReply args remaining after (record { status = status.Refused; text = text })

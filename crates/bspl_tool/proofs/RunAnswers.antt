@@ -17,10 +17,11 @@ use Rattle.verdict.specs.declared.outcome.Safety.TheVariants.{Safe, Undecided, U
 use Rattle.verdict.specs.declared.outcome.Verdicts.{Verdicts}
 use Rattle.world_run.specs.Finished.{IsFinished}
 use Rattle.world_run.specs.World.{HasHistories, histories_of}
-use Rattle.bspl_tool.specs.declared.rejection.Code.TheVariants.{S}
-use Rattle.bspl_tool.specs.declared.rejection.Field.TheVariants as field
+use Rattle.tool_input.specs.declared.rejection.Code.TheVariants.{S}
+use Rattle.tool_input.specs.declared.rejection.Field.TheVariants as field
 use Rattle.bspl_tool.specs.declared.reply.Reply.{Reply}
-use Rattle.bspl_tool.specs.Rejection.{script_rejection, with_one}
+use Rattle.bspl_tool.specs.RunAnswer.{script_rejection}
+use Rattle.tool_input.specs.Rejection.{with_one}
 use Rattle.bspl_tool.specs.RunAnswer.{AgentsText, IsJobAnswer, IsPlayedText, IsRunAnswer, IsRunRefused, bad_script}
 use Rattle.bspl_tool.specs.VerifyAnswer.{IsVerdictAnswer}
 use Rattle.bspl_tool.specs.inner.Job.{IsGivenJob}

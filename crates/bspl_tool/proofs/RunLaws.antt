@@ -12,11 +12,11 @@ use Rattle.bspl_types.specs.Admission.{IsAdmitted}
 use Rattle.script_reader.specs.Laws.{OneRefusal, ScriptIsNotRefused}
 use Rattle.verdict.specs.declared.outcome.Safety.{Safety}
 use Rattle.verdict.specs.declared.outcome.Safety.TheVariants.{Safe, Undecided, Unsafe}
-use Rattle.bspl_tool.specs.declared.rejection.Rejection.{Rejection}
+use Rattle.tool_input.specs.declared.rejection.Rejection.{Rejection}
 use Rattle.bspl_tool.specs.declared.request.Task.TheVariants.{Run}
 use Rattle.bspl_tool.specs.declared.status.Status.{Status}
 use Rattle.bspl_tool.specs.Answer.{IsAnswer, IsPartRefused}
-use Rattle.bspl_tool.specs.Rejection.{script_rejection}
+use Rattle.bspl_tool.specs.RunAnswer.{script_rejection}
 use Rattle.bspl_tool.specs.RunAnswer.{AgentsText, IsRunAnswer, IsRunRefused, IsScriptRefused, bad_script, not_supported}
 use Rattle.bspl_tool.proofs.ClaimsNothing.{IsBlock, no_lines}
 use Rattle.bspl_tool.proofs.CommandLaws.{CommandLaws, CommandTexts, IsEnd, IsHonest}

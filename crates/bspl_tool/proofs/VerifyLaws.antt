@@ -62,7 +62,7 @@ log_part_is_block kind false log = log_is_block kind log
 
 -- an answer on safety claims nothing, or it claims safety, which is true
 safety_claim : (brief : Bool) (budget : ℕ) (x : Expanded) (s : SafetyVerdict) → IsRight x budget s → SafeProtocol x ⊎ IsBlock (safety_text x brief s)
-safety_claim brief budget x (Safe log) right = inl right.safe
+safety_claim brief budget x (Safe log) right = inl right.holds
 safety_claim brief budget x (Unsafe run param first second) right = inr (block_joined (unsafe_is_block x param first second) (run_is_block x run))
 safety_claim brief budget x (Undecided log) right = inr (block_joined (safety_undecided_is_block log) (log_part_is_block kinds.Safety brief log))
 
@@ -76,7 +76,7 @@ safety_alone brief x (Undecided log) = no_liveness (block_joined (safety_undecid
 
 -- so it is with an answer on liveness
 liveness_claim : (brief : Bool) (budget : ℕ) (x : Expanded) (l : LivenessVerdict) → IsRightLiveness x budget l → LiveProtocol x ⊎ IsBlock (liveness_text x brief l)
-liveness_claim brief budget x (liveness.Live log) right = inl right.live
+liveness_claim brief budget x (liveness.Live log) right = inl right.holds
 liveness_claim brief budget x (liveness.NotLive run param) right = inr (block_joined (not_live_is_block x param) (run_is_block x run))
 liveness_claim brief budget x (liveness.Undecided log) right = inr (block_joined (liveness_undecided_is_block log) (log_part_is_block kinds.Liveness brief log))
 

@@ -1,7 +1,7 @@
 -- What each command answers on an admitted protocol and the bytes of its part, or refuses.
 use Rattle.std.specs.Prelude.{ℕ, List}
 use Rattle.bspl_types.specs.declared.expanded.Expanded.{Expanded}
-use Rattle.bspl_tool.specs.declared.rejection.Rejection.{Rejection}
+use Rattle.tool_input.specs.declared.rejection.Rejection.{Rejection}
 use Rattle.bspl_tool.specs.declared.request.Task.{Task}
 use Rattle.bspl_tool.specs.declared.request.Task.TheVariants.{Check, Expand, Replay, Run, Verify}
 use Rattle.bspl_tool.specs.declared.status.Status.{Status}

@@ -11,10 +11,7 @@ pub mod CheckAnswer
 pub mod VerifyAnswer
 pub mod ReplayAnswer
 pub mod RunAnswer
-pub mod Input
-pub mod Parts
 pub mod Refusals
-pub mod Rejection
 pub mod Texts
 pub mod Status
 pub mod Laws

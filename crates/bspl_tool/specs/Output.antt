@@ -1,13 +1,14 @@
 -- What the tool writes for its arguments and the bytes of its input, and with which status.
 use Rattle.std.specs.Prelude.{ℕ, List}
 use Rattle.bspl_types.specs.declared.expanded.Expanded.{Expanded}
-use Rattle.bspl_tool.specs.declared.rejection.Rejection.{Rejection}
+use Rattle.tool_input.specs.declared.rejection.Rejection.{Rejection}
 use Rattle.bspl_tool.specs.declared.request.Task.{Task}
 use Rattle.bspl_tool.specs.declared.status.Status.{Status}
 use Rattle.bspl_tool.specs.declared.status.Status.TheVariants.{Usage, Refused}
 use Rattle.bspl_tool.specs.Answer.{IsAnswer}
-use Rattle.bspl_tool.specs.Refusals.{HasPart, IsRead, Refuses}
-use Rattle.bspl_tool.specs.Rejection.{rejection_line}
+use Rattle.tool_input.specs.NeededPart.{HasPart}
+use Rattle.bspl_tool.specs.Refusals.{IsRead, Refuses}
+use Rattle.tool_input.specs.Rejection.{rejection_line}
 use Rattle.bspl_tool.specs.Request.{HasCommandLine}
 use Rattle.bspl_tool.specs.Task.{Judged, part_of}
 use Rattle.bspl_tool.specs.Texts.{usage_text}

@@ -1,16 +1,19 @@
 -- What `replay` answers on an admitted protocol and the text of a run.
-use Rattle.std.specs.Prelude.{◌≡◌, ◌⊎◌, ℕ, List, Some}
+use Rattle.std.specs.Prelude.{◌≡◌, ◌⊎◌, ℕ, List, Option, None, Some}
 use Rattle.bspl_types.specs.declared.event.Event.{Event}
 use Rattle.bspl_types.specs.declared.expanded.Expanded.{Expanded}
 use Rattle.enactment_model.specs.Legal.{IsLegal}
 use Rattle.report.specs.ReplayText.{IsReplayText}
 use Rattle.run_text.specs.declared.refusal.RunRefusal.{RunRefusal}
+use Rattle.run_text.specs.declared.refusal.RunRefusal.TheVariants as run
 use Rattle.run_text.specs.Refusal.{IsRefusedRun}
 use Rattle.run_text.specs.RunText.{IsRunText}
-use Rattle.bspl_tool.specs.declared.rejection.Rejection.{Rejection}
+use Rattle.tool_input.specs.declared.rejection.Code.TheVariants.{W}
+use Rattle.tool_input.specs.declared.rejection.Field.TheVariants as field
+use Rattle.tool_input.specs.declared.rejection.Rejection.{Rejection}
+use Rattle.tool_input.specs.Rejection.{with_one}
 use Rattle.bspl_tool.specs.declared.status.Status.{Status}
 use Rattle.bspl_tool.specs.declared.status.Status.TheVariants.{Done, Refuted}
-use Rattle.bspl_tool.specs.Rejection.{run_rejection}
 
 -- the status says whether the run is legal
 abbrev pub SaysLegal : Expanded → List Event → Status → Type 0
@@ -23,6 +26,11 @@ pub record IsReplayAnswer (x : Expanded) (part out : List ℕ) (status : Status)
   pub read : IsRunText x part run
   pub text : IsReplayText x run out
   pub legal : SaysLegal x run status
+
+-- a refusal of a run's text, by its code: its first bad line
+abbrev pub run_rejection : RunRefusal → Option Rejection
+run_rejection (run.Form number) = Some (with_one (W 1) (field.Number number))
+run_rejection run.NoMemory = None
 
 -- the part is the text of no run, and has a first bad line
 pub record IsReplayRefused (x : Expanded) (part : List ℕ) (rejection : Rejection) : Type 0 where

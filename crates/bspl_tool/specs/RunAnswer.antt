@@ -1,8 +1,9 @@
 -- What `run` answers on an admitted protocol and the text of its agents.
-use Rattle.std.specs.Prelude.{◌≡◌, ℕ, ◌<◌, Bool, List, [], ◌++◌, Some}
+use Rattle.std.specs.Prelude.{◌≡◌, ℕ, ◌<◌, Bool, List, [], ◌++◌, Option, None, Some}
 use Rattle.adapter.specs.Desk.{DeskState}
 use Rattle.agent_scripts.specs.declared.plan.Plan.{Plan}
 use Rattle.agent_scripts.specs.declared.refusal.ScriptRefusal.{ScriptRefusal}
+use Rattle.agent_scripts.specs.declared.refusal.ScriptRefusal.TheVariants as script
 use Rattle.agent_scripts.specs.Job.{Job}
 use Rattle.agent_scripts.specs.Refusal.{IsRefusedScript, IsScriptText}
 use Rattle.agent_scripts.specs.Script.{Script}
@@ -12,9 +13,11 @@ use Rattle.verdict.specs.declared.outcome.Safety.{Safety}
 use Rattle.verdict.specs.declared.outcome.Safety.TheVariants.{Safe, Undecided, Unsafe}
 use Rattle.verdict.specs.declared.outcome.Verdicts.{Verdicts}
 use Rattle.world_run.specs.Finished.{IsFinished}
-use Rattle.bspl_tool.specs.declared.rejection.Rejection.{Rejection}
+use Rattle.tool_input.specs.declared.rejection.Code.TheVariants.{S}
+use Rattle.tool_input.specs.declared.rejection.Field.TheVariants as field
+use Rattle.tool_input.specs.declared.rejection.Rejection.{Rejection}
 use Rattle.bspl_tool.specs.declared.status.Status.{Status}
-use Rattle.bspl_tool.specs.Rejection.{not_built, script_rejection}
+use Rattle.tool_input.specs.Rejection.{not_built, with_one}
 use Rattle.bspl_tool.specs.VerifyAnswer.{IsVerdictAnswer}
 
 -- the text of a world whose histories are local and explained, and whose merged run is legal,
@@ -50,6 +53,12 @@ pub record IsRunAnswer (brief : Bool) (budget threads : ℕ) (x : Expanded) (par
   pub given : IsScriptText x part script plan
   pub answer : IsJobAnswer brief budget
       (record { protocol = x; script = script; plan = plan }) out status
+
+-- a refusal of the agents' text, by its code: its first bad line
+abbrev pub script_rejection : ScriptRefusal → Option Rejection
+script_rejection (script.Form number) = Some (with_one (S 1) (field.Number number))
+script_rejection (script.Unknown number) = Some (with_one (S 2) (field.Number number))
+script_rejection script.NoMemory = None
 
 -- the part is the text of no agents, and has a first bad line
 pub record IsScriptRefused (x : Expanded) (part : List ℕ) (rejection : Rejection) : Type 0 where

@@ -1,12 +1,12 @@
 -- What each command takes, and which protocol it judges.
 use Rattle.std.specs.Prelude.{ℕ, ◌≤◌, Bool, true, List, Option, None, Some}
 use Rattle.bspl_types.specs.declared.expanded.Expanded.{Expanded}
-use Rattle.bspl_tool.specs.declared.parts.Part.{Part}
-use Rattle.bspl_tool.specs.declared.parts.Part.TheVariants as part
+use Rattle.tool_input.specs.declared.parts.Part.{Part}
+use Rattle.tool_input.specs.declared.parts.Part.TheVariants as part
 use Rattle.bspl_tool.specs.declared.request.Task.{Task}
 use Rattle.bspl_tool.specs.declared.request.Task.TheVariants.{Check, Expand, Replay, Run, Verify}
-use Rattle.bspl_tool.specs.Input.{Declares}
-use Rattle.bspl_tool.specs.Parts.{protocol_text}
+use Rattle.tool_input.specs.Input.{Declares}
+use Rattle.tool_input.specs.Parts.{protocol_text}
 
 -- the part of the input that the command needs beside the protocol text
 abbrev pub part_of : Task → Option Part

@@ -1,17 +1,10 @@
 -- The texts that are written.
-use Rattle.std.specs.Prelude.{ℕ, ◌==◌, List, [], ◌∷◌, ◌++◌, codes}
+use Rattle.std.specs.Prelude.{ℕ, List, [], ◌++◌, codes}
 use Rattle.std.specs.Fmt.{decimal}
-use Rattle.std.specs.List.{Contains, slice_split}
+use Rattle.std.specs.List.{Contains}
 use Rattle.log_checker.specs.declared.refusal.Reject.{Reject}
 use Rattle.log_checker.specs.declared.refusal.Reject.TheVariants.{NoClause, NoDrop, NoMemory, NoPivot, NotEmpty}
-
--- a line with its LF
-abbrev pub line : List ℕ → List ℕ
-line text = text ++ 10 ∷ []
-
--- the texts between the LFs of a text
-abbrev pub lines : List ℕ → List (List ℕ)
-lines text = slice_split (λ b. b == 10) text
+use Rattle.tool_input.specs.Lines.{line, lines}
 
 -- one of the text's lines is this one
 abbrev pub SaysLine : List ℕ → List ℕ → Type 0

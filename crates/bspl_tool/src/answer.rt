@@ -13,11 +13,6 @@ ghost use Rattle.bspl_tool.specs.inner.Reply.{IsAborted, IsCause, IsReply};
 use super::answer_error::{Aborted, AnswerError};
 use super::check_command::check;
 use super::expand_command::expand;
-use super::input_part::needed_part;
-use super::input_protocol::protocol_of;
-use super::limits::INPUT_LIMIT;
-use super::refusal::InputRefusal;
-use super::rejection_text::rejection_line;
 use super::replay_command::replay;
 use super::reply::Reply;
 use super::request::{Request, Task, read_request};
@@ -29,6 +24,7 @@ use bspl_io::{Source, read_all};
 use bspl_types::Admitted;
 use command_line::one_line;
 use std::alloc::Global;
+use tool_input::{INPUT_LIMIT, InputRefusal, needed_part, protocol_of, rejection_line};
 
 /// Answers the task on the protocol that it judges, with the bytes of the part that it needs.
 fn answer_task(
@@ -87,7 +83,7 @@ fn answer_input(alloc: Global, task: Task, name: &[u8], input: &[u8]) -> Result<
         AnswersInput task name.now input.now reply.text reply.status) }
     ensures refused { IfErr result (RejectsFor (RefusesInput task name.now input.now)) }
 {
-    let part = needed_part(task, input)?;
+    let part = needed_part(task.part(), input)?;
     let protocol = protocol_of(alloc, name, input)?;
     answer_task(alloc, task, protocol, part)
 }

@@ -1,17 +1,10 @@
 ghost use Rattle.std.specs.Prelude.{◌≡◌};
-ghost use Rattle.bspl_tool.specs.Rejection.{input_rejection, log_rejection, text_rejection};
+ghost use Rattle.tool_input.specs.Rejection.{input_rejection, text_rejection};
 ghost use Rattle.bspl_tool.specs.inner.Error.{error_for, read_error};
 
-use super::limits::INPUT_LIMIT;
-use super::refusal::InputRefusal;
-use super::rejection::{
-    Rejection, input_rejection, log_rejection, run_rejection, script_rejection, text_rejection,
-};
-use agent_scripts::ScriptRefusal;
 use bspl_io::ReadRefusal;
 use bspl_types::{NoMemory, Refusal};
-use refutation_log::LogRefusal;
-use run_text::RunRefusal;
+use tool_input::{INPUT_LIMIT, InputRefusal, Rejection, input_rejection, text_rejection};
 
 /// Why nothing is to be written.
 #[derive(Clone, Copy, Debug, PartialEq, Eq)]
@@ -32,7 +25,7 @@ pub enum AnswerError {
 }
 
 /// The error for a rejection. Without one memory ran out.
-fn error_for(rejection: Option<Rejection>) -> AnswerError
+pub fn error_for(rejection: Option<Rejection>) -> AnswerError
     ensures { result ≡ error_for rejection }
 {
     match rejection {
@@ -65,19 +58,19 @@ impl From<NoMemory> for AnswerError {
 
 impl From<InputRefusal> for AnswerError {
     ghost use Rattle.std.specs.Prelude.{◌≡◌};
-    ghost use Rattle.bspl_tool.specs.Rejection.{input_rejection};
-    ghost use Rattle.bspl_tool.specs.inner.Error.{error_for};
+    ghost use Rattle.tool_input.specs.Rejection.{input_rejection};
+    ghost use Rattle.bspl_tool.specs.declared.answer_error.AnswerError.TheVariants.{Rejected};
 
-    ghost from_gives = { λ refusal error. error ≡ error_for (input_rejection refusal) };
+    ghost from_gives = { λ refusal error. error ≡ Rejected (input_rejection refusal) };
 
     fn from(refusal: InputRefusal) -> AnswerError {
-        error_for(input_rejection(refusal))
+        AnswerError::Rejected(input_rejection(refusal))
     }
 }
 
 impl From<Refusal> for AnswerError {
     ghost use Rattle.std.specs.Prelude.{◌≡◌};
-    ghost use Rattle.bspl_tool.specs.Rejection.{text_rejection};
+    ghost use Rattle.tool_input.specs.Rejection.{text_rejection};
     ghost use Rattle.bspl_tool.specs.inner.Error.{error_for};
 
     ghost from_gives = { λ refusal error. error ≡ error_for (text_rejection refusal) };
@@ -99,41 +92,5 @@ impl From<ReadRefusal> for AnswerError {
             ReadRefusal::ReadFault => AnswerError::Aborted(Aborted::ReadFault),
             ReadRefusal::NoMemory => AnswerError::Aborted(Aborted::NoMemory),
         }
-    }
-}
-
-impl From<LogRefusal> for AnswerError {
-    ghost use Rattle.std.specs.Prelude.{◌≡◌};
-    ghost use Rattle.bspl_tool.specs.Rejection.{log_rejection};
-    ghost use Rattle.bspl_tool.specs.inner.Error.{error_for};
-
-    ghost from_gives = { λ refusal error. error ≡ error_for (log_rejection refusal) };
-
-    fn from(refusal: LogRefusal) -> AnswerError {
-        error_for(log_rejection(refusal))
-    }
-}
-
-impl From<RunRefusal> for AnswerError {
-    ghost use Rattle.std.specs.Prelude.{◌≡◌};
-    ghost use Rattle.bspl_tool.specs.Rejection.{run_rejection};
-    ghost use Rattle.bspl_tool.specs.inner.Error.{error_for};
-
-    ghost from_gives = { λ refusal error. error ≡ error_for (run_rejection refusal) };
-
-    fn from(refusal: RunRefusal) -> AnswerError {
-        error_for(run_rejection(refusal))
-    }
-}
-
-impl From<ScriptRefusal> for AnswerError {
-    ghost use Rattle.std.specs.Prelude.{◌≡◌};
-    ghost use Rattle.bspl_tool.specs.Rejection.{script_rejection};
-    ghost use Rattle.bspl_tool.specs.inner.Error.{error_for};
-
-    ghost from_gives = { λ refusal error. error ≡ error_for (script_rejection refusal) };
-
-    fn from(refusal: ScriptRefusal) -> AnswerError {
-        error_for(script_rejection(refusal))
     }
 }

@@ -1,12 +1,14 @@
 ghost use Rattle.std.specs.Prelude.{◌≡◌, ◌≢◌, ◌≤◌, IfErr, IfOk, length};
 ghost use Rattle.bspl_types.specs.Limits.{input_limit};
 ghost use Rattle.bspl_tool.specs.CheckAnswer.{Fails, IsAccepted, IsCheckAnswer, IsCheckRefused};
+ghost use Rattle.bspl_tool.specs.CheckAnswer.{log_rejection};
 ghost use Rattle.bspl_tool.specs.declared.status.Status.TheVariants as statuses;
 ghost use Rattle.bspl_tool.specs.Claims.{claim_line};
-ghost use Rattle.bspl_tool.specs.Texts.{line, reject_text};
+ghost use Rattle.tool_input.specs.Lines.{line};
+ghost use Rattle.bspl_tool.specs.Texts.{reject_text};
 ghost use Rattle.bspl_tool.specs.inner.Error.{RejectsFor};
 
-use super::answer_error::{Aborted, AnswerError};
+use super::answer_error::{Aborted, AnswerError, error_for};
 use super::claim::Claim;
 use super::reply::Reply;
 use super::status::Status;
@@ -15,8 +17,9 @@ use bspl_types::Admitted;
 use clause_encoding::{liveness_clauses_are_few, safety_clauses_are_few};
 use log_checker::Reject;
 use protocol_check::{check_liveness, check_safety};
-use refutation_log::{Kind, Log, read_log, steps_are_fewer_than_bytes};
+use refutation_log::{Kind, Log, LogRefusal, read_log, steps_are_fewer_than_bytes};
 use std::alloc::Global;
+use tool_input::{Code, Field, Rejection};
 
 /// Answers `check` on the text of a log.
 pub fn check(alloc: Global, protocol: &Admitted, part: &[u8]) -> Result<Reply, AnswerError>
@@ -82,5 +85,30 @@ fn claim_of(alloc: Global, protocol: &Admitted, kind: Kind, log: &Log) -> Result
             check_liveness(alloc, protocol, log)?;
             Ok(Claim::AcceptedLiveness)
         }
+    }
+}
+
+/// The rejection of a log's text, unless memory ran out.
+pub fn log_rejection(refusal: LogRefusal) -> Option<Rejection>
+    ensures { result ≡ log_rejection refusal }
+{
+    match refusal {
+        LogRefusal::Form { line } => { Some(Rejection::with_one(Code::L(1), Field::Number(line))) }
+        LogRefusal::Number { line } => {
+            Some(Rejection::with_one(Code::L(2), Field::Number(line)))
+        }
+        LogRefusal::NoMemory => None,
+    }
+}
+
+impl From<LogRefusal> for AnswerError {
+    ghost use Rattle.std.specs.Prelude.{◌≡◌};
+    ghost use Rattle.bspl_tool.specs.CheckAnswer.{log_rejection};
+    ghost use Rattle.bspl_tool.specs.inner.Error.{error_for};
+
+    ghost from_gives = { λ refusal error. error ≡ error_for (log_rejection refusal) };
+
+    fn from(refusal: LogRefusal) -> AnswerError {
+        error_for(log_rejection(refusal))
     }
 }

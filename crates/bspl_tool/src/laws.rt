@@ -1,5 +1,4 @@
-ghost use Rattle.bspl_tool.specs.Laws.{DeclaredIsNotRefused, OneAnswer, OneDeclaration};
-ghost use Rattle.bspl_tool.specs.Laws.{OneRejection, OneTextRefusal, RefusalIsAll, UsageIsAll};
+ghost use Rattle.bspl_tool.specs.Laws.{OneAnswer, OneRejection, RefusalIsAll, UsageIsAll};
 
 /// A law: arguments that are no command line get the usage line alone, there is one reason at most
 /// to refuse arguments and an input, and what is refused is not answered.
@@ -10,12 +9,8 @@ pub fn answers_are_distinct()
 {
     // law: arguments are one command line at most
     command_line::one_line();
-    // law: a text spells one document at most, or has one first error
-    bspl_parser::answers_once();
-    // law: a name has one expansion in a document at most, or is refused for one reason
-    protocol_expand::answers_once();
-    // law: an expansion is refused for one reason at most, and for none if it is admitted
-    adornment_check::refuses_once();
+    // law: a protocol text declares one protocol at most, or is refused for one reason
+    tool_input::texts_are_judged_once();
     // law: a text is that of one log at most, or has one first bad line
     refutation_log::reads_once();
     // law: a log is accepted or has one first failure
@@ -29,20 +24,6 @@ pub fn answers_are_distinct()
     script_reader::reads_once();
 }
 
-/// A law: a protocol text declares one protocol at most for a name, or is refused for one reason.
-pub fn texts_are_judged_once()
-    ensures declaration { OneDeclaration }
-    ensures refusal { OneTextRefusal }
-    ensures exclusive { DeclaredIsNotRefused }
-{
-    // law: a text spells one document at most, or has one first error
-    bspl_parser::answers_once();
-    // law: a name has one expansion in a document at most, or is refused for one reason
-    protocol_expand::answers_once();
-    // law: an expansion is refused for one reason at most, and for none if it is admitted
-    adornment_check::refuses_once();
-}
-
 /// A law: `check`, `replay` and `expand` have one output and one status at most. `verify` and `run`
 /// may have several: the search may find another run, log or number of steps, and the answer with
 /// it is right too.
@@ -50,9 +31,7 @@ pub fn one_answer()
     ensures { OneAnswer }
 {
     command_line::one_line();
-    bspl_parser::answers_once();
-    protocol_expand::answers_once();
-    adornment_check::refuses_once();
+    tool_input::texts_are_judged_once();
     refutation_log::reads_once();
     protocol_check::safety_fails_once();
     protocol_check::liveness_fails_once();

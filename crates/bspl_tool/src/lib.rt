@@ -1,4 +1,4 @@
-//! The whole of the tool as one call over arguments, a source and a sink.
+//! The whole tool as one call over streams.
 #![tactic(auto)]
 
 mod answer;
@@ -7,14 +7,7 @@ mod call;
 mod check_command;
 mod claim;
 mod expand_command;
-mod input_part;
-mod input_protocol;
 mod laws;
-mod limits;
-mod parts;
-mod refusal;
-mod rejection;
-mod rejection_text;
 mod replay_command;
 mod reply;
 mod request;
@@ -24,16 +17,11 @@ mod texts;
 mod verify_command;
 
 pub use call::bspl;
+pub use check_command::log_rejection;
 pub use claim::Claim;
-pub use input_protocol::protocol_of;
-pub use laws::{answers_are_distinct, one_answer, texts_are_judged_once};
-pub use limits::{INPUT_LIMIT, TEXT_LIMIT};
-pub use parts::Part;
-pub use refusal::InputRefusal;
-pub use rejection::{
-    Code, Field, Rejection, input_rejection, log_rejection, run_rejection, script_rejection,
-    text_rejection,
-};
-pub use rejection_text::rejection_line;
+pub use laws::{answers_are_distinct, one_answer};
+pub use replay_command::run_rejection;
 pub use request::Task;
+pub use run_command::script_rejection;
 pub use status::Status;
+pub use tool_input::InputRefusal;

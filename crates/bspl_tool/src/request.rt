@@ -3,10 +3,10 @@ ghost use Rattle.command_line.specs.Line.{IsCommandLine};
 ghost use Rattle.bspl_tool.specs.Request.{IsRequest};
 ghost use Rattle.bspl_tool.specs.Task.{part_of};
 
-use super::parts::Part;
 use bspl_types::NoMemory;
 use command_line::{Command, CommandLine, Subject, command_line};
 use std::alloc::Global;
+use tool_input::Part;
 
 /// What is done with the protocol that the arguments name.
 #[derive(Clone, Copy, Debug, PartialEq, Eq)]

@@ -4,19 +4,20 @@ ghost use Rattle.enactment_model.specs.Safety.{SafeProtocol};
 ghost use Rattle.refutation_log.specs.declared.refutation.Log.{Log};
 ghost use Rattle.verdict.specs.declared.outcome.Safety.TheVariants as safeties;
 ghost use Rattle.bspl_tool.specs.RunAnswer.{AgentsText, IsJobAnswer, IsPlayedText, IsRunAnswer, IsRunRefused};
+ghost use Rattle.bspl_tool.specs.RunAnswer.{script_rejection};
 ghost use Rattle.bspl_tool.specs.Task.{IsBudget};
 ghost use Rattle.bspl_tool.specs.inner.Job.{IsGivenJob};
 ghost use Rattle.bspl_tool.specs.inner.Error.{RejectsFor};
 
-use super::answer_error::AnswerError;
-use super::refusal::InputRefusal;
+use super::answer_error::{AnswerError, error_for};
 use super::reply::Reply;
 use super::verify_command::{VerdictReply, reply_with_verdicts};
-use agent_scripts::{Agents, Job};
+use agent_scripts::{Agents, Job, ScriptRefusal};
 use bspl_types::{Admitted, Bytes, NoMemory};
 use report::world_text;
 use script_reader::read_scripts;
 use std::alloc::Global;
+use tool_input::{Code, Field, InputRefusal, Rejection};
 use verdict::Safety;
 use world_run::run_one;
 
@@ -131,4 +132,31 @@ fn played_text(alloc: Global, job: &Job) -> Result<Bytes, NoMemory>
 {
     let world = run_one(alloc, job)?;
     world_text(alloc, job.admitted(), job.script(), &world)
+}
+
+/// The rejection of the agents' text, unless memory ran out.
+pub fn script_rejection(refusal: ScriptRefusal) -> Option<Rejection>
+    ensures { result ≡ script_rejection refusal }
+{
+    match refusal {
+        ScriptRefusal::Form { line } => {
+            Some(Rejection::with_one(Code::S(1), Field::Number(line)))
+        }
+        ScriptRefusal::Unknown { line } => {
+            Some(Rejection::with_one(Code::S(2), Field::Number(line)))
+        }
+        ScriptRefusal::NoMemory => None,
+    }
+}
+
+impl From<ScriptRefusal> for AnswerError {
+    ghost use Rattle.std.specs.Prelude.{◌≡◌};
+    ghost use Rattle.bspl_tool.specs.RunAnswer.{script_rejection};
+    ghost use Rattle.bspl_tool.specs.inner.Error.{error_for};
+
+    ghost from_gives = { λ refusal error. error ≡ error_for (script_rejection refusal) };
+
+    fn from(refusal: ScriptRefusal) -> AnswerError {
+        error_for(script_rejection(refusal))
+    }
 }

@@ -2,7 +2,8 @@ ghost use Rattle.std.specs.Prelude.{◌≡◌, ◌≢◌, ◌++◌, IfOk, OnOk};
 ghost use Rattle.std.specs.Fmt.{decimal};
 ghost use Rattle.log_checker.specs.declared.refusal.Reject.TheVariants as rejects;
 ghost use Rattle.bspl_tool.specs.Claims.{claim_line};
-ghost use Rattle.bspl_tool.specs.Texts.{line, reject_text, usage_text};
+ghost use Rattle.tool_input.specs.Lines.{line};
+ghost use Rattle.bspl_tool.specs.Texts.{reject_text, usage_text};
 
 use super::claim::Claim;
 use bspl_types::{Bytes, NoMemory};

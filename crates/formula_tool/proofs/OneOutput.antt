@@ -2,11 +2,11 @@
 use Rattle.std.proofs.Common.{◌≡◌, ℕ, List, [], ◌∷◌, Some, length, refl, sym, ap, subst, ◌∙◌, arith}
 use Rattle.bspl_types.specs.declared.expanded.Expanded.{Expanded}
 use Rattle.bspl_types.specs.declared.refusals.Refusal.{Refusal}
-use Rattle.bspl_tool.specs.declared.rejection.Rejection.{Rejection}
+use Rattle.tool_input.specs.declared.rejection.Rejection.{Rejection}
 use Rattle.bspl_tool.specs.declared.status.Status.{Status}
-use Rattle.bspl_tool.specs.Laws.{DeclaredIsNotRefused, OneDeclaration, OneTextRefusal}
-use Rattle.bspl_tool.specs.Parts.{protocol_text}
-use Rattle.bspl_tool.specs.Rejection.{rejection_line, text_rejection}
+use Rattle.tool_input.specs.Laws.{DeclaredIsNotRefused, OneDeclaration, OneTextRefusal}
+use Rattle.tool_input.specs.Parts.{protocol_text}
+use Rattle.tool_input.specs.Rejection.{rejection_line, text_rejection}
 use Rattle.formula_text.specs.declared.property.Property.{Property}
 use Rattle.formula_text.specs.declared.property.Property.TheVariants.{Liveness, Safety}
 use Rattle.formula_text.specs.FormulaText.{IsFormulaText}

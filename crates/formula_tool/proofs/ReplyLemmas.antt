@@ -4,7 +4,7 @@ use Rattle.std.specs.Io.KnownBytes.{Consumes}
 use Rattle.std.proofs.lemmas.List.{append-nil}
 use Rattle.bspl_io.specs.Source.{ReadsAll, Takes}
 use Rattle.bspl_types.specs.Limits.{input_limit}
-use Rattle.bspl_tool.specs.declared.rejection.Rejection.{Rejection}
+use Rattle.tool_input.specs.declared.rejection.Rejection.{Rejection}
 use Rattle.formula_text.specs.declared.property.Property.{Property}
 use Rattle.formula_tool.specs.declared.reply.Reply.{Reply}
 use Rattle.formula_tool.specs.Output.{FormulaOutput, RefusesFormula, refused}

@@ -3,13 +3,13 @@ use Rattle.std.specs.Prelude.{◌≡◌, ℕ, ◌<◌, ◌≤◌, List, Some, le
 use Rattle.bspl_types.specs.declared.expanded.Expanded.{Expanded}
 use Rattle.bspl_types.specs.declared.refusals.Refusal.{Refusal}
 use Rattle.bspl_types.specs.Limits.{input_limit}
-use Rattle.bspl_tool.specs.declared.rejection.Rejection.{Rejection}
+use Rattle.tool_input.specs.declared.rejection.Rejection.{Rejection}
 use Rattle.bspl_tool.specs.declared.status.Status.{Status}
 use Rattle.bspl_tool.specs.declared.status.Status.TheVariants.{Done, Refused, Usage}
-use Rattle.bspl_tool.specs.Input.{Declares}
-use Rattle.bspl_tool.specs.Parts.{protocol_text}
-use Rattle.bspl_tool.specs.Refusals.{RefusesText}
-use Rattle.bspl_tool.specs.Rejection.{over_limit, rejection_line, text_rejection}
+use Rattle.tool_input.specs.Input.{Declares}
+use Rattle.tool_input.specs.Parts.{protocol_text}
+use Rattle.tool_input.specs.TextRefusal.{RefusesText}
+use Rattle.tool_input.specs.Rejection.{over_limit, rejection_line, text_rejection}
 use Rattle.formula_text.specs.declared.property.Property.{Property}
 use Rattle.formula_text.specs.FormulaText.{IsFormulaText}
 use Rattle.formula_tool.specs.Request.{IsUsage, Requests}

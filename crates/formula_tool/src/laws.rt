@@ -1,7 +1,7 @@
 ghost use Rattle.formula_tool.specs.Laws.{OneOutput};
 
-use bspl_tool::texts_are_judged_once;
 use formula_text::one_text;
+use tool_input::texts_are_judged_once;
 
 /// A law: arguments and an input have one output and one status.
 pub fn one_output()

@@ -1,4 +1,4 @@
-//! The formula of a protocol printed, as one call over arguments, a source and a sink.
+//! One call that prints the formula of a declared protocol.
 #![tactic(auto)]
 
 mod aborted;

@@ -9,14 +9,15 @@ ghost use Rattle.formula_tool.specs.inner.Reply.{IsPrinted, IsRejected, IsReply}
 use super::aborted::Aborted;
 use super::request::{Request, read_request};
 use bspl_io::{ReadRefusal, Source, read_all};
-use bspl_tool::{
-    INPUT_LIMIT, InputRefusal, Rejection, Status, input_rejection, protocol_of, rejection_line,
-    text_rejection,
-};
+use bspl_tool::Status;
 use bspl_types::Admitted;
 use formula_text::{Property, formula_text};
 use list_base::{Bytes, NoMemory};
 use std::alloc::Global;
+use tool_input::{
+    INPUT_LIMIT, InputRefusal, Rejection, input_rejection, protocol_of, rejection_line,
+    text_rejection,
+};
 
 /// What is to be written, and the status when it was.
 #[derive(Drop)]
@@ -95,10 +96,8 @@ fn too_long(alloc: Global) -> Result<Reply, NoMemory>
         → Requests args name property → input_limit < length input
         → IfOk result (λ reply. FormulaOutput args input reply.text reply.status) }
 {
-    refused(
-        alloc,
-        input_rejection(InputRefusal::TooLong { limit: INPUT_LIMIT }),
-    )
+    let rejection = input_rejection(InputRefusal::TooLong { limit: INPUT_LIMIT });
+    refused(alloc, Some(rejection))
 }
 
 /// The reply of a rejection. Without one memory ran out.

@@ -1,4 +1,4 @@
-//! Tests of the command line's and the tool's public calls.
+//! Tests of the tool's crates by their public calls.
 #![tactic(auto)]
 
 #[cfg(test)]

@@ -1,6 +1,6 @@
-use bspl_tool::{InputRefusal, Part, Rejection, input_rejection, rejection_line, text_rejection};
 use bspl_types::{Bytes, Refusal, What};
 use std::alloc::Global;
+use tool_input::{InputRefusal, Part, Rejection, input_rejection, rejection_line, text_rejection};
 
 /// The limit on the bytes of an input.
 const LIMIT: u64 = 536_870_912;
@@ -25,9 +25,9 @@ fn has_line(alloc: Global, rejection: Option<Rejection>, wanted: &[u8]) -> bool 
 #[test]
 fn prints_what_an_input_lacks(rt: HostRuntime) {
     let none = input_rejection(InputRefusal::NoPart { part: Part::Agents });
-    assert!(rt; has_line(rt.alloc(), none, b"refused P1 agents\n"));
+    assert!(rt; has_line(rt.alloc(), Some(none), b"refused P1 agents\n"));
     let long = input_rejection(InputRefusal::TooLong { limit: LIMIT });
-    assert!(rt; has_line(rt.alloc(), long, b"refused P2 536870912\n"));
+    assert!(rt; has_line(rt.alloc(), Some(long), b"refused P2 536870912\n"));
     let longest = text_rejection(LONGEST);
     assert!(rt;
         has_line(

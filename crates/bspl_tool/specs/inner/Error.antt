@@ -6,8 +6,8 @@ use Rattle.bspl_types.specs.Limits.{input_limit}
 use Rattle.bspl_tool.specs.declared.answer_error.Aborted.TheVariants as aborted
 use Rattle.bspl_tool.specs.declared.answer_error.AnswerError.{AnswerError}
 use Rattle.bspl_tool.specs.declared.answer_error.AnswerError.TheVariants as error
-use Rattle.bspl_tool.specs.declared.rejection.Rejection.{Rejection}
-use Rattle.bspl_tool.specs.Rejection.{over_limit}
+use Rattle.tool_input.specs.declared.rejection.Rejection.{Rejection}
+use Rattle.tool_input.specs.Rejection.{over_limit}
 
 -- the error for a rejection; without one memory ran out
 abbrev pub error_for : Option Rejection → AnswerError

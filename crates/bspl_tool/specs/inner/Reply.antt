@@ -4,7 +4,7 @@ use Rattle.bspl_tool.specs.declared.answer_error.Aborted.{Aborted}
 use Rattle.bspl_tool.specs.declared.answer_error.Aborted.TheVariants as aborted
 use Rattle.bspl_tool.specs.declared.answer_error.AnswerError.{AnswerError}
 use Rattle.bspl_tool.specs.declared.answer_error.AnswerError.TheVariants as error
-use Rattle.bspl_tool.specs.declared.rejection.Rejection.{Rejection}
+use Rattle.tool_input.specs.declared.rejection.Rejection.{Rejection}
 use Rattle.bspl_tool.specs.declared.reply.Reply.{Reply}
 use Rattle.bspl_tool.specs.declared.status.Status.TheVariants.{Refused}
 use Rattle.bspl_tool.specs.Call.{AreRemaining, RequestsInput, TakesInput}

@@ -1,9 +1,9 @@
 -- What one call replies before it writes.
 use Rattle.std.specs.Prelude.{◌≡◌, ℕ, List, Option, Some}
 use Rattle.bspl_types.specs.declared.expanded.Expanded.{Expanded}
-use Rattle.bspl_tool.specs.declared.rejection.Rejection.{Rejection}
+use Rattle.tool_input.specs.declared.rejection.Rejection.{Rejection}
 use Rattle.bspl_tool.specs.declared.status.Status.TheVariants.{Done, Refused}
-use Rattle.bspl_tool.specs.Rejection.{rejection_line}
+use Rattle.tool_input.specs.Rejection.{rejection_line}
 use Rattle.formula_text.specs.declared.property.Property.{Property}
 use Rattle.formula_text.specs.FormulaText.{IsFormulaText}
 use Rattle.formula_tool.specs.declared.reply.Reply.{Reply}

@@ -1,5 +1,9 @@
 -- An answer on the declared protocol is one on the input, and so is a refusal.
+use Rattle.std.proofs.Common.{◌≡◌, Option, subst}
 use Rattle.std.proofs.lemmas.Result.{IfErr-weaker, IfOk-weaker, err_from_is_err_and}
+use Rattle.tool_input.specs.declared.parts.Part.{Part}
+use Rattle.tool_input.specs.declared.refusal.InputRefusal.TheVariants.{NoPart}
+use Rattle.tool_input.specs.NeededPart.{HasPart, LacksPart}
 use Rattle.bspl_tool.specs.declared.reply.Reply.{Reply}
 use Rattle.bspl_tool.specs.Answer.{IsAnswer, IsPartRefused}
 use Rattle.bspl_tool.specs.Output.{AnswersInput}
@@ -11,23 +15,27 @@ use Rattle.bspl_tool.proofs.answer.answer_input.Goals as goal
 pub returns-in_err-part-clause-refused : goal.returns-in_err-part-clause-refused
 returns-in_err-part-clause-refused c =
     let p = err_from_is_err_and c.from_residual.result c.from_residual.ensures.1 in
-    rw (p.1, p.2) (part_missing c.args.task c.args.name.now c.args.input.now c.in_err-part.field-0.0 c.in_err-part.ensures.refused)
+    let lacks = subst (λ (needed : Option Part). (part : Part) × LacksPart needed c.args.input.now part × (c.in_err-part.field-0.0 ≡ NoPart part)) c.part.ensures c.in_err-part.ensures.refused in
+    rw (p.1, p.2) (part_missing c.args.task c.args.name.now c.args.input.now c.in_err-part.field-0.0 lacks)
 
 pub returns-in_err-protocol-clause-refused : goal.returns-in_err-protocol-clause-refused
 returns-in_err-protocol-clause-refused c =
     let p = err_from_is_err_and c.from_residual-in_err-protocol.result c.from_residual-in_err-protocol.ensures.1 in
-    rw (p.1, p.2) (text_refused c.args.task c.args.name.now c.args.input.now c.in_ok-part.part.now c.in_err-protocol.field-0.0 c.in_ok-part.ensures.ok c.in_err-protocol.ensures.refused)
+    let has = subst (λ (needed : Option Part). HasPart needed c.args.input.now c.in_ok-part.part.now) c.part.ensures c.in_ok-part.ensures.ok in
+    rw (p.1, p.2) (text_refused c.args.task c.args.name.now c.args.input.now c.in_ok-part.part.now c.in_err-protocol.field-0.0 has c.in_err-protocol.ensures.refused)
 
 pub returns-clause-ok : goal.returns-clause-ok
 returns-clause-ok c =
     let x = c.in_ok-protocol.protocol in
     let part = c.in_ok-part.part.now in
+    let has = subst (λ (needed : Option Part). HasPart needed c.args.input.now c.in_ok-part.part.now) c.part.ensures c.in_ok-part.ensures.ok in
     IfOk-weaker c.answer_task.result (λ (r : Reply). IsAnswer c.args.task x part r.text r.status) (λ (r : Reply). AnswersInput c.args.task c.args.name.now c.args.input.now r.text r.status)
-    (λ r. task_answered c.args.task c.args.name.now c.args.input.now part x r.text r.status c.in_ok-part.ensures.ok c.in_ok-protocol.ensures.ok) c.answer_task.ensures.ok
+    (λ r. task_answered c.args.task c.args.name.now c.args.input.now part x r.text r.status has c.in_ok-protocol.ensures.ok) c.answer_task.ensures.ok
 
 pub returns-clause-refused : goal.returns-clause-refused
 returns-clause-refused c =
     let x = c.in_ok-protocol.protocol in
     let part = c.in_ok-part.part.now in
+    let has = subst (λ (needed : Option Part). HasPart needed c.args.input.now c.in_ok-part.part.now) c.part.ensures c.in_ok-part.ensures.ok in
     IfErr-weaker c.answer_task.result (RejectsFor (IsPartRefused c.args.task x part)) (RejectsFor (RefusesInput c.args.task c.args.name.now c.args.input.now))
-    (λ e. task_refused c.args.task c.args.name.now c.args.input.now part x e c.in_ok-part.ensures.ok c.in_ok-protocol.ensures.ok) c.answer_task.ensures.refused
+    (λ e. task_refused c.args.task c.args.name.now c.args.input.now part x e has c.in_ok-protocol.ensures.ok) c.answer_task.ensures.refused

@@ -6,15 +6,9 @@ pub returns : goal.returns
 returns c = answer_law (record {
   line = c.one_line.ensures;
   reading = record {
-    documents = c.answers_once.ensures.documents;
-    bytes = c.answers_once.ensures.bytes;
-    tokens = c.answers_once.ensures.tokens;
-    parsed = c.answers_once.ensures.exclusive;
-    expansions = c.answers_once-2.ensures.expansions;
-    unexpanded = c.answers_once-2.ensures.refusals;
-    expanded = c.answers_once-2.ensures.distinct;
-    unadmitted = c.refuses_once.ensures.refusals;
-    admitted = c.refuses_once.ensures.exclusive;
+    declaration = c.texts_are_judged_once.ensures.declaration;
+    refusal = c.texts_are_judged_once.ensures.refusal;
+    exclusive = c.texts_are_judged_once.ensures.exclusive;
   };
   evidence = record {
     check = record {

@@ -15,4 +15,4 @@ returns c =
     let script = c.script.result.now in
     let desks = c.in_ok-world.world.desks in
     IfOk-weaker c.world_text.result (λ text. (run : List Event) → AreLocal x (histories_of desks) → HasHistories x desks run → IsWorldText x script run text) (IsPlayedText c.args.job.now)
-    (λ text. finished_text c.args.job.now x script desks text c.admitted.ensures c.script.ensures.same c.in_ok-world.ensures) c.world_text.ensures
+    (λ text. finished_text c.args.job.now x script desks text c.admitted.ensures c.script.ensures.same c.in_ok-world.ensures.finished) c.world_text.ensures

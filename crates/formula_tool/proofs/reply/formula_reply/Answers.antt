@@ -1,7 +1,7 @@
 -- The formula of what is declared, or the line of the first reason against it.
 use Rattle.std.proofs.Common.{◌≡◌, None, ap, sym, ◌∙◌}
 use Rattle.std.proofs.lemmas.Result.{IfOk-weaker}
-use Rattle.bspl_tool.specs.Rejection.{text_rejection}
+use Rattle.tool_input.specs.Rejection.{text_rejection}
 use Rattle.formula_tool.specs.inner.Reply.{IsPrinted, IsRejected}
 use Rattle.formula_tool.specs.Output.{FormulaOutput, printed, text}
 use Rattle.formula_tool.proofs.ReplyLemmas.{rejected}

@@ -5,22 +5,16 @@ use Rattle.bspl_types.specs.declared.refusals.Refusal.{Refusal}
 use Rattle.bspl_types.specs.declared.refusals.Refusal.TheVariants.{Byte, Syntax, NoProtocol, Duplicate, Unknown, Arity, BadAdornment, Recursion, Limit, NoKey, NotWholeKey, ForeignKey, SelfMessage, RepeatedParam, NoMemory}
 use Rattle.bspl_types.specs.declared.refusals.What.{What}
 use Rattle.bspl_types.specs.declared.refusals.What.TheVariants as what
-use Rattle.agent_scripts.specs.declared.refusal.ScriptRefusal.{ScriptRefusal}
-use Rattle.agent_scripts.specs.declared.refusal.ScriptRefusal.TheVariants as script
-use Rattle.refutation_log.specs.declared.refusal.LogRefusal.{LogRefusal}
-use Rattle.refutation_log.specs.declared.refusal.LogRefusal.TheVariants as log
-use Rattle.run_text.specs.declared.refusal.RunRefusal.{RunRefusal}
-use Rattle.run_text.specs.declared.refusal.RunRefusal.TheVariants as run
-use Rattle.bspl_tool.specs.declared.parts.Part.{Part}
-use Rattle.bspl_tool.specs.declared.rejection.Code.{Code}
-use Rattle.bspl_tool.specs.declared.rejection.Code.TheVariants.{E, L, N, P, S, W}
-use Rattle.bspl_tool.specs.declared.rejection.Field.{Field}
-use Rattle.bspl_tool.specs.declared.rejection.Field.TheVariants as field
-use Rattle.bspl_tool.specs.declared.rejection.Rejection.{Rejection}
-use Rattle.bspl_tool.specs.declared.refusal.InputRefusal.{InputRefusal}
-use Rattle.bspl_tool.specs.declared.refusal.InputRefusal.TheVariants as input
-use Rattle.bspl_tool.specs.Parts.{part_name}
-use Rattle.bspl_tool.specs.Texts.{line}
+use Rattle.tool_input.specs.declared.parts.Part.{Part}
+use Rattle.tool_input.specs.declared.rejection.Code.{Code}
+use Rattle.tool_input.specs.declared.rejection.Code.TheVariants.{E, L, N, P, S, W}
+use Rattle.tool_input.specs.declared.rejection.Field.{Field}
+use Rattle.tool_input.specs.declared.rejection.Field.TheVariants as field
+use Rattle.tool_input.specs.declared.rejection.Rejection.{Rejection}
+use Rattle.tool_input.specs.declared.refusal.InputRefusal.{InputRefusal}
+use Rattle.tool_input.specs.declared.refusal.InputRefusal.TheVariants as input
+use Rattle.tool_input.specs.Parts.{part_name}
+use Rattle.tool_input.specs.Lines.{line}
 
 -- a letter and a number
 abbrev pub code_text : Code → List ℕ
@@ -101,25 +95,7 @@ abbrev pub not_built : Rejection
 not_built = bare (N 1)
 
 -- a refusal of the input, by its code
-abbrev pub input_rejection : InputRefusal → Option Rejection
-input_rejection (input.NoPart part) = Some (lacks_part part)
-input_rejection (input.TooLong limit) = Some (over_limit limit)
-input_rejection input.NotBuilt = Some not_built
-input_rejection input.NoMemory = None
-
--- a refusal of a log's text, by its code: its first bad line
-abbrev pub log_rejection : LogRefusal → Option Rejection
-log_rejection (log.Form number) = Some (with_one (L 1) (field.Number number))
-log_rejection (log.Number number) = Some (with_one (L 2) (field.Number number))
-log_rejection log.NoMemory = None
-
--- a refusal of a run's text, by its code: its first bad line
-abbrev pub run_rejection : RunRefusal → Option Rejection
-run_rejection (run.Form number) = Some (with_one (W 1) (field.Number number))
-run_rejection run.NoMemory = None
-
--- a refusal of the agents' text, by its code: its first bad line
-abbrev pub script_rejection : ScriptRefusal → Option Rejection
-script_rejection (script.Form number) = Some (with_one (S 1) (field.Number number))
-script_rejection (script.Unknown number) = Some (with_one (S 2) (field.Number number))
-script_rejection script.NoMemory = None
+abbrev pub input_rejection : InputRefusal → Rejection
+input_rejection (input.NoPart part) = lacks_part part
+input_rejection (input.TooLong limit) = over_limit limit
+input_rejection input.NotBuilt = not_built

@@ -1,5 +1,5 @@
 ghost use Rattle.std.specs.Prelude.{◌≡◌, ◌++◌, IfOk, OnOk};
-ghost use Rattle.bspl_tool.specs.Rejection.{after_space, code_text, field_text, rejection_line, what_word};
+ghost use Rattle.tool_input.specs.Rejection.{after_space, code_text, field_text, rejection_line, what_word};
 
 use super::rejection::{Code, Field, Rejection};
 use bspl_types::{Bytes, NoMemory, What};

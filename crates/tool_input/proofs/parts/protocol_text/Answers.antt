@@ -3,8 +3,8 @@ use Rattle.std.proofs.Common.{rules, arith, length, sym, ◌∙◌, eqb, of_call
 use Rattle.std.proofs.lemmas.Iterator.Consumers.{YieldsList-turn, YieldsList-end}
 use Rattle.std.proofs.lemmas.Iterator.Splits.{YieldsList-from_slice_split}
 use Rattle.std.proofs.lemmas.List.{length-take, length_push}
-use Rattle.bspl_tool.proofs.PartLines.{IsNext, before_part_line, line_passed, line_within, no_part_line, nothing_passed}
-use Rattle.bspl_tool.proofs.parts.protocol_text.Goals as goal
+use Rattle.tool_input.proofs.PartLines.{IsNext, before_part_line, line_passed, line_within, no_part_line, nothing_passed}
+use Rattle.tool_input.proofs.parts.protocol_text.Goals as goal
 
 -- where a part line was yielded, it is the next one
 next_then : (c : goal.Then-is_part_line) → IsNext c.args.input.now (length c.loop-line.yielded) c.in-Some.line.now

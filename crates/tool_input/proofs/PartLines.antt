@@ -9,8 +9,8 @@ use Rattle.std.proofs.lemmas.List.Concat.{flat_map-append}
 use Rattle.std.proofs.lemmas.List.Folds.{length-flat_map-take, list_any_at, list_any_more}
 use Rattle.std.proofs.lemmas.List.Splits.{length-slice_split}
 use Rattle.std.proofs.lemmas.List.Sums.{prefix_len_is}
-use Rattle.bspl_tool.specs.Parts.{has_part_line, is_part_line, protocol_text}
-use Rattle.bspl_tool.specs.Texts.{line, lines}
+use Rattle.tool_input.specs.Parts.{has_part_line, is_part_line, protocol_text}
+use Rattle.tool_input.specs.Lines.{line, lines}
 
 -- the first lines of the input, each with its LF
 abbrev pub front_lines : List ℕ → ℕ → List ℕ

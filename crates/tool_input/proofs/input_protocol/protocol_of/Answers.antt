@@ -3,9 +3,9 @@ use Rattle.std.proofs.Common.{◌≢◌, arith}
 use Rattle.std.proofs.lemmas.Result.{IfErr-weaker, err_from_is_err_and}
 use Rattle.bspl_types.specs.declared.refusals.Refusal.TheVariants.{NoMemory}
 use Rattle.adornment_check.specs.NotAdmitted.{IsNotAdmitted}
-use Rattle.bspl_tool.specs.Refusals.{RefusesText}
-use Rattle.bspl_tool.specs.Refusals.RefusesText.{too_long, misspelled, not_expanded, not_admitted}
-use Rattle.bspl_tool.proofs.input_protocol.protocol_of.Goals as goal
+use Rattle.tool_input.specs.TextRefusal.{RefusesText}
+use Rattle.tool_input.specs.TextRefusal.RefusesText.{too_long, misspelled, not_expanded, not_admitted}
+use Rattle.tool_input.proofs.input_protocol.protocol_of.Goals as goal
 
 pub returns-then-text-gt-TEXT_LIMIT-clause-refused :
     goal.returns-then-text-gt-TEXT_LIMIT-clause-refused

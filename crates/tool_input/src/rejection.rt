@@ -1,15 +1,11 @@
 ghost use Rattle.std.specs.Prelude.{◌≡◌};
-ghost use Rattle.bspl_tool.specs.declared.rejection.Code.TheVariants.{E, L};
-ghost use Rattle.bspl_tool.specs.declared.rejection.Field.TheVariants as field;
-ghost use Rattle.bspl_tool.specs.Rejection.{bare, input_rejection, log_rejection, run_rejection};
-ghost use Rattle.bspl_tool.specs.Rejection.{script_rejection, text_rejection, with_one, with_two};
+ghost use Rattle.tool_input.specs.declared.rejection.Code.TheVariants.{E};
+ghost use Rattle.tool_input.specs.declared.rejection.Field.TheVariants as field;
+ghost use Rattle.tool_input.specs.Rejection.{bare, input_rejection, text_rejection, with_one, with_two};
 
 use super::parts::Part;
 use super::refusal::InputRefusal;
-use agent_scripts::ScriptRefusal;
 use bspl_types::{Name, Refusal, What};
-use refutation_log::LogRefusal;
-use run_text::RunRefusal;
 
 /// The code of a rejection: a letter and a number.
 #[derive(Clone, Copy, Debug, PartialEq, Eq)]
@@ -51,7 +47,7 @@ pub struct Rejection {
 
 impl Rejection {
     /// A code alone.
-    fn bare(code: Code) -> Rejection
+    pub fn bare(code: Code) -> Rejection
         ensures { result ≡ bare code }
     {
         Rejection {
@@ -62,7 +58,7 @@ impl Rejection {
     }
 
     /// A code with one field.
-    fn with_one(code: Code, field: Field) -> Rejection
+    pub fn with_one(code: Code, field: Field) -> Rejection
         ensures { result ≡ with_one code field }
     {
         Rejection {
@@ -73,7 +69,7 @@ impl Rejection {
     }
 
     /// A code with two fields.
-    fn with_two(code: Code, one: Field, other: Field) -> Rejection
+    pub fn with_two(code: Code, one: Field, other: Field) -> Rejection
         ensures { result ≡ with_two code one other }
     {
         Rejection {
@@ -98,19 +94,14 @@ impl Rejection {
     }
 }
 
-/// The rejection of an input, unless memory ran out.
-pub fn input_rejection(refusal: InputRefusal) -> Option<Rejection>
+/// The rejection of an input.
+pub fn input_rejection(refusal: InputRefusal) -> Rejection
     ensures { result ≡ input_rejection refusal }
 {
     match refusal {
-        InputRefusal::NoPart { part } => {
-            Some(Rejection::with_one(Code::P(1), Field::Part(part)))
-        }
-        InputRefusal::TooLong { limit } => {
-            Some(Rejection::with_one(Code::P(2), Field::Number(limit)))
-        }
-        InputRefusal::NotBuilt => Some(Rejection::bare(Code::N(1))),
-        InputRefusal::NoMemory => None,
+        InputRefusal::NoPart { part } => Rejection::with_one(Code::P(1), Field::Part(part)),
+        InputRefusal::TooLong { limit } => Rejection::with_one(Code::P(2), Field::Number(limit)),
+        InputRefusal::NotBuilt => Rejection::bare(Code::N(1)),
     }
 }
 
@@ -142,42 +133,4 @@ pub fn text_rejection(refusal: Refusal) -> Option<Rejection>
         Refusal::NoMemory => return None,
     };
     Some(rejection)
-}
-
-/// The rejection of a log's text, unless memory ran out.
-pub fn log_rejection(refusal: LogRefusal) -> Option<Rejection>
-    ensures { result ≡ log_rejection refusal }
-{
-    match refusal {
-        LogRefusal::Form { line } => { Some(Rejection::with_one(Code::L(1), Field::Number(line))) }
-        LogRefusal::Number { line } => {
-            Some(Rejection::with_one(Code::L(2), Field::Number(line)))
-        }
-        LogRefusal::NoMemory => None,
-    }
-}
-
-/// The rejection of a run's text, unless memory ran out.
-pub fn run_rejection(refusal: RunRefusal) -> Option<Rejection>
-    ensures { result ≡ run_rejection refusal }
-{
-    match refusal {
-        RunRefusal::Form { line } => Some(Rejection::with_one(Code::W(1), Field::Number(line))),
-        RunRefusal::NoMemory => None,
-    }
-}
-
-/// The rejection of the agents' text, unless memory ran out.
-pub fn script_rejection(refusal: ScriptRefusal) -> Option<Rejection>
-    ensures { result ≡ script_rejection refusal }
-{
-    match refusal {
-        ScriptRefusal::Form { line } => {
-            Some(Rejection::with_one(Code::S(1), Field::Number(line)))
-        }
-        ScriptRefusal::Unknown { line } => {
-            Some(Rejection::with_one(Code::S(2), Field::Number(line)))
-        }
-        ScriptRefusal::NoMemory => None,
-    }
 }

@@ -10,8 +10,8 @@ use Rattle.bspl_parser.specs.Judgement.{AreExclusive, IsBadSyntax, IsRefusedFor,
 use Rattle.bspl_parser.specs.Tokens.{IsBadByte}
 use Rattle.protocol_expand.specs.Expansion.{Expands, IsExpansion}
 use Rattle.protocol_expand.specs.Refusals.{IsNotExpanded}
-use Rattle.bspl_tool.specs.Input.{Declares, IsSpelled}
-use Rattle.bspl_tool.specs.Refusals.{RefusesText}
+use Rattle.tool_input.specs.Input.{Declares, IsSpelled}
+use Rattle.tool_input.specs.TextRefusal.{RefusesText}
 
 -- the parser, the expansion and the admission have one answer each
 pub record OneReading : Type 0 where

@@ -14,9 +14,6 @@ pub enum InputRefusal {
     /// What is requested is not supported.
     #[error("this is not supported")]
     NotBuilt,
-    /// Memory ran out.
-    #[error("out of memory")]
-    NoMemory,
 }
 
 impl Debug for InputRefusal {

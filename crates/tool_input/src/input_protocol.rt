@@ -1,8 +1,8 @@
 ghost use Rattle.std.specs.Prelude.{◌≢◌, IfErr, IfOk};
 ghost use Rattle.bspl_types.specs.declared.refusals.Refusal.TheVariants.{NoMemory};
-ghost use Rattle.bspl_tool.specs.Input.{Declares};
-ghost use Rattle.bspl_tool.specs.Parts.{protocol_text};
-ghost use Rattle.bspl_tool.specs.Refusals.{RefusesText};
+ghost use Rattle.tool_input.specs.Input.{Declares};
+ghost use Rattle.tool_input.specs.Parts.{protocol_text};
+ghost use Rattle.tool_input.specs.TextRefusal.{RefusesText};
 
 use super::limits::TEXT_LIMIT;
 use super::parts::protocol_text;

@@ -2,9 +2,9 @@
 use Rattle.std.proofs.Common.{◌≡◌, ℕ, List, [], ◌∷◌, eqb, Option, Some, None, ◌∙◌, ap}
 use Rattle.std.specs.List.{join_with_byte, slice_split}
 use Rattle.std.proofs.lemmas.List.Splits.{join_with_byte-slice_split}
-use Rattle.refutation_log.specs.LineParts.{parts_in}
-use Rattle.bspl_tool.specs.declared.parts.Part.{Part}
-use Rattle.bspl_tool.specs.Parts.{all_parts, first_part, first_part_in, part_begun}
+use Rattle.text_lines.specs.Lines.{parts_in}
+use Rattle.tool_input.specs.declared.parts.Part.{Part}
+use Rattle.tool_input.specs.Parts.{all_parts, first_part, first_part_in, part_begun}
 
 -- the lines of a text are its first line and those after it
 abbrev pub AreSplit : List ℕ → List ℕ → Option (List ℕ) → Type 0

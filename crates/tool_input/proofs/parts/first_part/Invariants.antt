@@ -1,7 +1,7 @@
 -- The lines before the rest begin no part.
 use Rattle.std.proofs.Common.{◌≡◌, ◌≤◌, length}
-use Rattle.bspl_tool.specs.Parts.{first_part}
-use Rattle.bspl_tool.proofs.parts.first_part.Given as goal
+use Rattle.tool_input.specs.Parts.{first_part}
+use Rattle.tool_input.proofs.parts.first_part.Given as goal
 
 -- the first part of the rest is that of the input, and the rest is no longer
 abbrev pub invariant-loop-part : goal.invariant-loop-part

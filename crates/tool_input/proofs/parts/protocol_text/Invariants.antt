@@ -1,7 +1,7 @@
 -- The lines that were passed over are none of them part lines.
 use Rattle.std.proofs.Common.{length}
-use Rattle.bspl_tool.proofs.PartLines.{HasPassed}
-use Rattle.bspl_tool.proofs.parts.protocol_text.Given as goal
+use Rattle.tool_input.proofs.PartLines.{HasPassed}
+use Rattle.tool_input.proofs.parts.protocol_text.Given as goal
 
 -- the next line starts behind as many lines as were yielded, none of which is a part line
 abbrev pub invariant-loop-line : goal.invariant-loop-line

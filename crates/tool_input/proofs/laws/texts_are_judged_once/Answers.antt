@@ -1,6 +1,6 @@
 -- What the crates below answer once, a protocol text does.
-use Rattle.bspl_tool.proofs.OneRefusal.{OneReading, declared_once, declared_or_refused, one_refusal}
-use Rattle.bspl_tool.proofs.laws.texts_are_judged_once.Goals as goal
+use Rattle.tool_input.proofs.OneRefusal.{OneReading, declared_once, declared_or_refused, one_refusal}
+use Rattle.tool_input.proofs.laws.texts_are_judged_once.Goals as goal
 
 pub returns : goal.returns
 returns c =

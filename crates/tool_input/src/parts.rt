@@ -1,9 +1,9 @@
 ghost use Rattle.std.specs.Prelude.{◌≡◌, ◌≤◌, ◌||◌, length, None, Some, IfSome, MatchOption};
 ghost use Rattle.std.specs.Str.{bytes_eq};
-ghost use Rattle.bspl_tool.specs.Parts.{all_parts, begins_part, first_part, is_part_line};
-ghost use Rattle.bspl_tool.specs.Parts.{part_begun, part_name, protocol_text};
+ghost use Rattle.tool_input.specs.Parts.{all_parts, begins_part, first_part, is_part_line};
+ghost use Rattle.tool_input.specs.Parts.{part_begun, part_name, protocol_text};
 
-use refutation_log::split_once;
+use text_lines::split_once;
 
 /// A part of an input after its protocol text.
 #[derive(Clone, Copy, Debug, PartialEq, Eq)]

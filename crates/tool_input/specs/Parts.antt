@@ -2,9 +2,9 @@
 use Rattle.std.specs.Prelude.{ℕ, Bool, not, ◌||◌, List, [], ◌∷◌, ◌++◌, cond, codes, Option, None, Some}
 use Rattle.std.specs.List.{flat_map, join_with_byte, list_any, take_while}
 use Rattle.std.specs.Str.{bytes_eq}
-use Rattle.bspl_tool.specs.declared.parts.Part.{Part}
-use Rattle.bspl_tool.specs.declared.parts.Part.TheVariants.{Agents, Log, Run}
-use Rattle.bspl_tool.specs.Texts.{line, lines}
+use Rattle.tool_input.specs.declared.parts.Part.{Part}
+use Rattle.tool_input.specs.declared.parts.Part.TheVariants.{Agents, Log, Run}
+use Rattle.tool_input.specs.Lines.{line, lines}
 
 -- the name of a part
 abbrev pub part_name : Part → List ℕ

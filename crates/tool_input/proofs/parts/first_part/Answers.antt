@@ -1,7 +1,7 @@
 -- Each line begins the first part, or is passed over.
 use Rattle.std.proofs.Common.{◌≡◌, ◌∷◌, ◌++◌, length, length-append, ap, arith, sym, ◌∙◌}
-use Rattle.bspl_tool.proofs.FirstPart.{begun_before, begun_last, none_begun, passed_over}
-use Rattle.bspl_tool.proofs.parts.first_part.Goals as goal
+use Rattle.tool_input.proofs.FirstPart.{begun_before, begun_last, none_begun, passed_over}
+use Rattle.tool_input.proofs.parts.first_part.Goals as goal
 
 pub returns-in-Some-after-clause-exact : goal.returns-in-Some-after-clause-exact
 returns-in-Some-after-clause-exact c =

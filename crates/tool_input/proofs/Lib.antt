@@ -1,0 +1,3 @@
+pub mod PartLines
+pub mod FirstPart
+pub mod OneRefusal

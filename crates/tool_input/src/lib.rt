@@ -1,0 +1,20 @@
+//! The parts of an input, and what its text declares.
+#![tactic(auto)]
+
+mod input_part;
+mod input_protocol;
+mod laws;
+mod limits;
+mod parts;
+mod refusal;
+mod rejection;
+mod rejection_text;
+
+pub use input_part::needed_part;
+pub use input_protocol::protocol_of;
+pub use laws::texts_are_judged_once;
+pub use limits::{INPUT_LIMIT, TEXT_LIMIT};
+pub use parts::{Part, first_part, protocol_text};
+pub use refusal::InputRefusal;
+pub use rejection::{Code, Field, Rejection, input_rejection, text_rejection};
+pub use rejection_text::rejection_line;
