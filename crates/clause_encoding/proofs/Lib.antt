@@ -14,4 +14,4 @@ mod FormulaLemmas
 mod SafetyLemmas
 mod LackingLemmas
 mod RestLemmas
-mod LivenessLemmas
+mod PropertyLemmas

@@ -1,24 +1,19 @@
--- The safety formula: its variables are small and exist, and its clauses are few.
+-- What is only in the safety formula: its variables are small and exist, and its clauses are few.
 use Rattle.std.proofs.Common.{ℕ, ◌+◌, ◌<◌, ◌≤◌, List, [], ◌∷◌, length, map, refl, arith, length-append}
 use Rattle.std.specs.List.{All, flat_map}
 use Rattle.std.proofs.lemmas.List.Elements.{All-append, All-weaker}
 use Rattle.std.proofs.lemmas.List.FromFn.{length-enumerate_from}
 use Rattle.bspl_types.specs.declared.expanded.Expanded.{Expanded}
-use Rattle.clause_core.specs.declared.literal.Lit.{Lit}
-use Rattle.clause_core.specs.Clause.{VariablesExist}
 use Rattle.clause_core.specs.Literal.{negated}
 use Rattle.clause_encoding.specs.declared.rivals.Rivals.{Rivals}
-use Rattle.clause_encoding.specs.Families.{shared_clauses}
-use Rattle.clause_encoding.specs.Formula.{safety_clauses, safety_variables}
+use Rattle.clause_encoding.specs.Formula.{safety_variables}
 use Rattle.clause_encoding.specs.Rivals.{rival_clauses, rivals_of, selected_is_sent, selectors}
-use Rattle.clause_encoding.specs.Variables.{kind_count, occurs, positive, sent, variable_count}
-use Rattle.clause_encoding.specs.inner.Appends.{Appends}
+use Rattle.clause_encoding.specs.Variables.{kind_count, occurs, positive, sent}
 use Rattle.clause_encoding.specs.inner.Kinds.{AreOver, AreWithin}
-use Rattle.clause_encoding.proofs.ClauseLengths.{few_added, few_shared}
+use Rattle.clause_encoding.proofs.ClauseLengths.{few_added}
 use Rattle.clause_encoding.proofs.ExistenceLemmas.{ClauseExists, all_added, all_images, both_exist, two_exist}
-use Rattle.clause_encoding.proofs.FamilyLemmas.{sent_exists, shared_exist}
+use Rattle.clause_encoding.proofs.FamilyLemmas.{sent_exists}
 use Rattle.clause_encoding.proofs.FilterLemmas.{all_one}
-use Rattle.clause_encoding.proofs.FormulaLemmas.{appended_count, appended_exist}
 use Rattle.clause_encoding.proofs.KindLemmas.{rivals_within}
 use Rattle.clause_encoding.proofs.LengthLemmas.{few_rivals}
 use Rattle.clause_encoding.proofs.RangeLemmas.{IsNumbered, numbered}
@@ -63,7 +58,7 @@ selected_exists x pair selects =
     (two_exist vars selector second exists (sent_exists x vars pair.1.second (safety_over x) selects.2.second))
 
 -- the clauses on rivals
-rivals_exist : (x : Expanded) → All (ClauseExists (safety_variables x)) (rival_clauses x)
+pub rivals_exist : (x : Expanded) → All (ClauseExists (safety_variables x)) (rival_clauses x)
 rivals_exist x =
     let vars = safety_variables x in
     let lit = λ (pair : ℕ × Rivals). positive pair.0 in
@@ -71,29 +66,11 @@ rivals_exist x =
     (all_added (IsSelector x) (ClauseExists vars) selected_is_sent (selectors x) (selected_exists x) (selectors_select x))
     (all_one (ClauseExists vars) (map lit (selectors x)) (all_images (IsSelector x) (LitExists vars) lit (selectors x) (selector_exists x) (selectors_select x)))
 
--- the variables of the clauses exist
-pub formula_exists : (x : Expanded) (clauses : List (List Lit)) → Appends [] clauses (safety_clauses x) → All (VariablesExist (variable_count (safety_variables x))) clauses
-formula_exists x clauses appends =
-    let vars = safety_variables x in
-    appended_exist vars (safety_clauses x) clauses appends
-    (All-append (ClauseExists vars) (shared_clauses x vars) (rival_clauses x) (shared_exist x vars (safety_over x)) (rivals_exist x))
-
 -- the clauses on rivals are few
-few_rival_clauses : (x : Expanded) → length (rival_clauses x) ≤ 524289
+pub few_rival_clauses : (x : Expanded) → length (rival_clauses x) ≤ 524289
 few_rival_clauses x =
     let lit = λ (pair : ℕ × Rivals). positive pair.0 in
     let rivals = few_rivals x in
     let count = length-enumerate_from (kind_count x + 1) (rivals_of x) in
     let pairs = few_added selected_is_sent 2 262144 524288 (selectors x) (λ pair. omega arith) (omega (arith, rivals, count)) (omega arith) in
     omega (arith, pairs, length-append (flat_map selected_is_sent (selectors x)) (map lit (selectors x) ∷ []))
-
--- the clauses are few
-pub clauses_few : (x : Expanded) → length (safety_clauses x) ≤ 8000000
-clauses_few x =
-    let vars = safety_variables x in
-    omega (arith, few_shared x vars (safety_over x).small.few_kinds, few_rival_clauses x, length-append (shared_clauses x vars) (rival_clauses x))
-
--- and those of the formula are as many
-pub formula_few : (x : Expanded) (clauses : List (List Lit)) → Appends [] clauses (safety_clauses x) → length clauses ≤ 8000000
-formula_few x clauses appends =
-    omega (arith, appended_count (safety_clauses x) clauses appends, clauses_few x)

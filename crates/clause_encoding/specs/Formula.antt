@@ -1,7 +1,9 @@
--- The formulas of a protocol: in some enactment two rivals are both sent; some enactment has come
--- to rest and leaves a public parameter unbound.
-use Rattle.std.specs.Prelude.{◌≡◌, ◌+◌, ◌≤◌, List, [], ◌∷◌, ◌++◌, length}
+-- The formulas of a protocol, one for each property: in some enactment two rivals are both sent; some
+-- enactment has come to rest and leaves a public parameter unbound.
+use Rattle.std.specs.Prelude.{◌≡◌, ℕ, ◌+◌, List, [], ◌∷◌, ◌++◌, length}
 use Rattle.bspl_types.specs.declared.expanded.Expanded.{Expanded}
+use Rattle.bspl_types.specs.declared.property.Property.{Property}
+use Rattle.bspl_types.specs.declared.property.Property.TheVariants.{Liveness, Safety}
 use Rattle.clause_core.specs.declared.formula.Formula.{Formula}
 use Rattle.clause_core.specs.declared.literal.Lit.{Lit}
 use Rattle.clause_core.specs.Clause.{IsClauseOf}
@@ -19,42 +21,48 @@ AreClausesOf (written ∷ others) [] = ⊥
 AreClausesOf (written ∷ others) (clause ∷ clauses) =
     IsClauseOf written clause × AreClausesOf others clauses
 
--- the variables of the safety formula: a selector for each two rivals comes after the kinds
+-- the last variable before those of order. After the kinds comes, for safety, a selector for each two
+-- rivals; for liveness, one for each public parameter that may be unbound, and then one for each
+-- parameter that a sender may lack
+abbrev pub order_base_of : Property → Expanded → ℕ
+order_base_of Safety x = kind_count x + length (rivals_of x)
+order_base_of Liveness x = kind_count x + length (public_values x) + length (wants_of x)
+
+-- the variables of the formula
+abbrev pub variables_of : Property → Expanded → Variables
+variables_of property x =
+    record { kinds = kind_count x; order_base = order_base_of property x }
+
+-- the clauses that only the formula of the property has
+abbrev pub own_clauses : Property → Expanded → List Written
+own_clauses Safety x = rival_clauses x
+own_clauses Liveness x = rest_clauses x
+
+-- the clauses of the formula, in order
+abbrev pub clauses_of : Property → Expanded → List Written
+clauses_of property x = shared_clauses x (variables_of property x) ++ own_clauses property x
+
+-- the formula has exactly these variables and clauses
+pub record IsFormula (property : Property) (x : Expanded) (f : Formula) : Type 0 where
+  pub vars : f.vars ≡ variable_count (variables_of property x)
+  pub clauses : AreClausesOf (clauses_of property x) f.clauses
+
+-- the variables, the clauses and the formula of safety
 abbrev pub safety_variables : Expanded → Variables
-safety_variables x =
-    record { kinds = kind_count x; order_base = kind_count x + length (rivals_of x) }
+safety_variables x = variables_of Safety x
 
--- the clauses of the safety formula, in order
 abbrev pub safety_clauses : Expanded → List Written
-safety_clauses x = shared_clauses x (safety_variables x) ++ rival_clauses x
+safety_clauses x = clauses_of Safety x
 
--- the formula has exactly these variables and clauses
-pub record IsSafetyFormula (x : Expanded) (f : Formula) : Type 0 where
-  pub vars : f.vars ≡ variable_count (safety_variables x)
-  pub clauses : AreClausesOf (safety_clauses x) f.clauses
+abbrev pub IsSafetyFormula : Expanded → Formula → Type 0
+IsSafetyFormula x f = IsFormula Safety x f
 
--- the clauses of a safety formula are few
-abbrev pub SafetyClausesAreFew : Type 0
-SafetyClausesAreFew = (x : Expanded) → length (safety_clauses x) ≤ 8000000
-
--- the variables of the liveness formula: after the kinds, one for each public parameter that may be
--- unbound, and one for each parameter that a sender may lack
+-- and those of liveness
 abbrev pub liveness_variables : Expanded → Variables
-liveness_variables x =
-    record {
-      kinds = kind_count x;
-      order_base = kind_count x + length (public_values x) + length (wants_of x);
-    }
+liveness_variables x = variables_of Liveness x
 
--- the clauses of the liveness formula, in order
 abbrev pub liveness_clauses : Expanded → List Written
-liveness_clauses x = shared_clauses x (liveness_variables x) ++ rest_clauses x
+liveness_clauses x = clauses_of Liveness x
 
--- the formula has exactly these variables and clauses
-pub record IsLivenessFormula (x : Expanded) (f : Formula) : Type 0 where
-  pub vars : f.vars ≡ variable_count (liveness_variables x)
-  pub clauses : AreClausesOf (liveness_clauses x) f.clauses
-
--- the clauses of a liveness formula are few
-abbrev pub LivenessClausesAreFew : Type 0
-LivenessClausesAreFew = (x : Expanded) → length (liveness_clauses x) ≤ 8000000
+abbrev pub IsLivenessFormula : Expanded → Formula → Type 0
+IsLivenessFormula x f = IsFormula Liveness x f

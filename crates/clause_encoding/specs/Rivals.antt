@@ -1,22 +1,14 @@
 -- Two messages that produce one parameter are rivals; a safety formula selects two that both occur.
 use Rattle.std.specs.Prelude.{ℕ, ◌+◌, Bool, ◌==◌, ◌&&◌, List, [], ◌∷◌, ◌++◌, map, length}
-use Rattle.std.specs.Prelude.{true, false}
 use Rattle.std.specs.List.{enumerate_from, filter, flat_map, list_any, range_with_len}
 use Rattle.bspl_types.specs.declared.expanded.Expanded.{Expanded}
-use Rattle.bspl_types.specs.declared.protocol.Adornment.{Adornment}
-use Rattle.bspl_types.specs.declared.protocol.Adornment.TheVariants.{In, Out, Nil}
 use Rattle.bspl_types.specs.declared.protocol.Message.{Message}
+use Rattle.bspl_types.specs.Choice.{is_out}
 use Rattle.bspl_types.specs.Expansion.{message_of}
 use Rattle.clause_core.specs.Literal.{negated}
 use Rattle.clause_encoding.specs.declared.rivals.Rivals.{Rivals}
 use Rattle.clause_encoding.specs.Families.{Written}
 use Rattle.clause_encoding.specs.Variables.{kind_count, message_numbers, occurs, positive, sent}
-
--- the adornment is `out`
-abbrev pub is_out : Adornment → Bool
-is_out In = false
-is_out Out = true
-is_out Nil = false
 
 -- the message adorns the parameter `out`
 abbrev pub produces : Message → ℕ → Bool

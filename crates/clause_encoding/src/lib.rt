@@ -1,21 +1,22 @@
-//! The formulas of a protocol: clauses over what occurs in one enactment, and in which order.
+//! The safety and liveness formulas of a protocol.
 #![tactic(auto)]
 
 mod arrival;
+mod base;
 mod carriers;
 mod clauses;
 mod delivery;
 mod exhaustion;
+mod formula;
 mod freshness;
 mod kinds;
 mod laws;
-mod liveness;
 mod occurrence;
 mod order;
 mod parameters;
 mod premises;
+mod rest;
 mod rivals;
-mod safety;
 mod selection;
 mod shared;
 mod unbound;
@@ -23,10 +24,13 @@ mod variables;
 mod want;
 mod wants;
 
-pub use laws::{liveness_clauses_are_few, safety_clauses_are_few};
-pub use liveness::{liveness_formula, liveness_variables};
+pub use base::{kind_count, liveness_variables, safety_variables, variables_of};
+pub use formula::{formula_of, liveness_formula, safety_formula};
+pub use laws::{
+    clauses_are_as_many, clauses_are_determined, clauses_are_few, liveness_clauses_are_few,
+    safety_clauses_are_few, variables_are_small, written_is_satisfied,
+};
 pub use parameters::public_values;
 pub use rivals::{Rivals, rivals_of};
-pub use safety::{safety_formula, safety_variables};
 pub use variables::Variables;
 pub use wants::{Want, wants_of};

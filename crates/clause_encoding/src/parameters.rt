@@ -1,11 +1,12 @@
 ghost use Rattle.std.specs.Prelude.{◌≡◌, ◌<◌, ◌≤◌, ◌==◌, ◌&&◌, length, IfOk};
 ghost use Rattle.std.specs.List.{list_any};
 ghost use Rattle.bspl_types.specs.Adornment.{has_value};
+ghost use Rattle.bspl_types.specs.Choice.{is_out};
 ghost use Rattle.bspl_types.specs.Expansion.{message_of};
 ghost use Rattle.bspl_types.specs.Shape.{is_public_value};
 ghost use Rattle.clause_encoding.specs.Carriers.{binds, fresh_parameters, in_parameters, is_in};
 ghost use Rattle.clause_encoding.specs.Rest.{public_values};
-ghost use Rattle.clause_encoding.specs.Rivals.{is_out, produces};
+ghost use Rattle.clause_encoding.specs.Rivals.{produces};
 
 use bspl_types::{Adornment, Carried, Expanded, Message, ParamInfo};
 use list_base::{NoMemory, NumberList, Seq};

@@ -1,21 +1,34 @@
 ghost use Rattle.std.specs.Prelude.{◌≡◌, ◌≤◌, ◌<◌, ◌++◌, [], ◌∷◌, length, OnOk};
 ghost use Rattle.std.specs.List.{All};
-ghost use Rattle.clause_encoding.specs.Rivals.{selected_is_sent};
+ghost use Rattle.clause_encoding.specs.Rivals.{rival_clauses, selected_is_sent};
 ghost use Rattle.clause_encoding.specs.inner.Appends.{Appends};
 ghost use Rattle.clause_encoding.specs.inner.Kinds.{AreWithin};
 ghost use Rattle.clause_encoding.specs.inner.Selection.{selections, selector_lits};
 
+use super::base::kind_count;
 use super::clauses::{positive_lits, push_clause};
 use super::kinds::sent;
-use super::rivals::Rivals;
+use super::rivals::{Rivals, rivals_of};
 use super::variables::positive;
+use bspl_types::Expanded;
 use clause_core::ClauseList;
 use list_base::NoMemory;
 use std::alloc::Global;
 
-/// Appends the clauses that select two rivals which are both sent. The variables that select
-/// them come after the kinds.
+/// Appends the clauses that select two rivals which are both sent.
 pub(crate) fn push_rivals(
+    clauses: &mut ClauseList,
+    alloc: Global,
+    x: &Expanded,
+) -> Result<(), NoMemory>
+    ensures { OnOk result (Appends clauses.old clauses.new (rival_clauses x.now)) }
+{
+    let rivals = rivals_of(alloc, x)?;
+    push_rivals_on(clauses, alloc, kind_count(x), rivals.as_slice())
+}
+
+/// Appends those on these rivals. The variables that select them come after the kinds.
+fn push_rivals_on(
     clauses: &mut ClauseList,
     alloc: Global,
     kinds: u32,

@@ -17,3 +17,4 @@ pub mod DecidedLemmas
 pub mod ShortestLemmas
 pub mod CarryingLemmas
 pub mod ReasonLemmas
+pub mod PropertyLemmas

@@ -2,6 +2,7 @@
 pub mod Legal
 pub mod Safety
 pub mod Liveness
+pub mod Property
 pub mod BadEvent
 pub mod Rivals
 pub mod LeastConflict

@@ -2,6 +2,7 @@ ghost use Rattle.enactment_model.specs.Laws.{HistoryIsRun, KnownExactlyIfSomeEve
 ghost use Rattle.enactment_model.specs.Laws.{LegalByPositions, PrefixIsLegal, PrefixIsLegalRun};
 ghost use Rattle.enactment_model.specs.Laws.{NoConflictAgrees, OneProducerIsSafe};
 ghost use Rattle.enactment_model.specs.Laws.{ProjectionKeeps, SecondEmissionIsNotEnabled};
+ghost use Rattle.enactment_model.specs.Property.{ViolatedDoesNotHold};
 ghost use Rattle.enactment_model.specs.ShortestConflict.{ShortestConflict};
 
 use bspl_types::equal_values_are_one;
@@ -59,3 +60,8 @@ pub fn shortest_conflict()
     // law: lists of values that the test finds equal are one list
     equal_values_are_one();
 }
+
+/// A protocol with a legal run that does what a property excludes does not have the property.
+pub fn violated_does_not_hold()
+    ensures { ViolatedDoesNotHold }
+{}

@@ -1,5 +1,4 @@
-//! Legal runs, safety and liveness of a protocol: what decides them over a run, and what holds of
-//! every legal run.
+//! Legal runs, safety and liveness: definitions, decisions and laws.
 #![tactic(auto)]
 
 mod bad_event;
@@ -23,7 +22,7 @@ pub use examples::{
 pub use laws::{
     known_exactly_if_some_event_binds, legal_by_positions, no_conflict_agrees,
     one_producer_is_safe, prefix_is_legal, projection_keeps, second_emission_is_not_enabled,
-    shortest_conflict,
+    shortest_conflict, violated_does_not_hold,
 };
 pub use legality::{legal, may_follow};
 pub use producing_messages::{shares_out, single_producer};

@@ -23,3 +23,4 @@ pub mod ExhaustionLemmas
 pub mod AbsenceLemmas
 pub mod RestLemmas
 pub mod LivenessLemmas
+pub mod PropertyLemmas

@@ -1,27 +1,24 @@
 -- A public parameter that is unbound at a key at which a legal run is quiet gives an assignment that
--- satisfies the liveness formula of its protocol.
-use Rattle.std.proofs.Common.{ℕ, ◌+◌, ◌-◌, Bool, cond, leb, List, inl, inr, length, get_or, not, ap, ◌∙◌, arith}
-use Rattle.std.proofs.lemmas.Bool.{both_ways, cases_Bool, cond-false, cond-true, le-leb, lt-leb}
+-- satisfies the liveness clauses of its protocol.
+use Rattle.std.proofs.Common.{ℕ, ◌+◌, ◌-◌, Bool, cond, leb, List, length, get_or, not, ap, ◌∙◌, arith}
+use Rattle.std.proofs.lemmas.Bool.{cond-false, cond-true, le-leb, lt-leb}
 use Rattle.std.proofs.lemmas.List.Elements.{All-append}
 use Rattle.bspl_types.specs.declared.event.Event.{Event}
 use Rattle.bspl_types.specs.declared.expanded.Expanded.{Expanded}
 use Rattle.bspl_types.specs.declared.value.Value.{Value}
-use Rattle.clause_core.specs.declared.formula.Formula.{Formula}
-use Rattle.clause_core.specs.Clause.{IsUnsatisfiable, Satisfies}
+use Rattle.clause_core.specs.Clause.{Satisfies}
 use Rattle.clause_encoding.specs.declared.wants.Want.{Want}
 use Rattle.clause_encoding.specs.Families.{shared_clauses}
-use Rattle.clause_encoding.specs.Formula.{IsLivenessFormula, liveness_clauses, liveness_variables}
+use Rattle.clause_encoding.specs.Formula.{liveness_clauses, liveness_variables}
 use Rattle.clause_encoding.specs.Rest.{public_values, rest_clauses, wants_of}
 use Rattle.clause_encoding.specs.Variables.{kind_count}
 use Rattle.enactment_model.specs.Legal.{IsLegalRun}
-use Rattle.enactment_model.specs.Liveness.{Bound, HasPublicValue, Quiet}
-use Rattle.first_occurrences.specs.Headline.{UnsatisfiableIsLive}
+use Rattle.enactment_model.specs.Property.{LeavesUnbound}
 use Rattle.first_occurrences.specs.Lacking.{SaysWhatIsLacking, is_bound, is_supplied}
-use Rattle.first_occurrences.specs.Laws.{AssignmentExists, BoundExactlyIfSent, RestHolds, SharedClausesHold}
+use Rattle.first_occurrences.specs.Laws.{AssignmentExists, HasModel, RestHolds, SharedClausesHold}
 use Rattle.first_occurrences.specs.Report.{HasBetween}
 use Rattle.first_occurrences.proofs.ExhaustionLemmas.{variables_of}
 use Rattle.first_occurrences.proofs.ListedLemmas.{numbered_from}
-use Rattle.first_occurrences.proofs.SafetyLemmas.{clauses_satisfied}
 
 -- no parameter of the first message
 abbrev no_want : Want
@@ -53,22 +50,15 @@ says_lacking x run key v between = record {
       ap (λ w. not (is_supplied x run key w)) (numbered.item no_want);
 }
 
--- so if none satisfies the liveness formula, no public parameter is left unbound
-none_unbound : AssignmentExists → SharedClausesHold → RestHolds → (x : Expanded) (f : Formula) → IsLivenessFormula x f → IsUnsatisfiable f.clauses → (run : List Event) (key : List Value) (p : ℕ) → IsLegalRun x run → Quiet x run key → HasPublicValue x p → ¬ Bound x run key p → ⊥
-none_unbound exists shared rest x f is_formula none run key p is_legal quiet has not_bound =
+-- the assignment of the run's first occurrences that says what is lacking
+pub model_of_unbound : AssignmentExists → SharedClausesHold → RestHolds → (x : Expanded) (run : List Event) → IsLegalRun x run → LeavesUnbound x run → HasModel (liveness_clauses x)
+model_of_unbound exists shared rest x run is_legal leaves =
     let vars = liveness_variables x in
-    let (v, reports, between) = exists vars run key (lacking x run key) (omega arith) in
-    none v
-    (clauses_satisfied v (liveness_clauses x) f.clauses is_formula.clauses
-    (All-append (Satisfies v) (shared_clauses x vars) (rest_clauses x)
-    (shared x vars run key v (variables_of x) is_legal reports)
-    (rest x run key p v is_legal quiet has not_bound reports (says_lacking x run key v between))))
-
--- and the protocol is live
-pub live_if_unsatisfiable : AssignmentExists → SharedClausesHold → RestHolds → BoundExactlyIfSent → UnsatisfiableIsLive
-live_if_unsatisfiable exists shared rest bound x f admitted is_formula none = record {
-  bound = λ run key is_legal quiet p has. elim (cases_Bool (is_bound x run key p)) as (λ _. Bound x run key p) [
-    | inl sent ↦ (bound x run key p is_legal).1 sent
-    | inr never ↦ absurd (none_unbound exists shared rest x f is_formula none run key p is_legal quiet has (λ is_bound. both_ways _ never ((bound x run key p is_legal).0 is_bound)))
-  ];
-}
+    let (v, reports, between) = exists vars run leaves.key (lacking x run leaves.key) (omega arith) in
+    record {
+      assignment = v;
+      satisfied =
+          All-append (Satisfies v) (shared_clauses x vars) (rest_clauses x)
+          (shared x vars run leaves.key v (variables_of x) is_legal reports)
+          (rest x run leaves.key leaves.param v is_legal leaves.quiet leaves.public leaves.unbound reports (says_lacking x run leaves.key v between));
+    }

@@ -9,11 +9,12 @@ use Rattle.list_base.proofs.Filtered.{filtered_member, kept_member}
 use Rattle.list_base.proofs.Members.{cons_cases, here_same, nowhere, there}
 use Rattle.bspl_types.specs.declared.expanded.Expanded.{Expanded}
 use Rattle.bspl_types.specs.declared.protocol.Adornment.TheVariants.{Out}
+use Rattle.bspl_types.specs.Choice.{is_out}
 use Rattle.bspl_types.specs.Expansion.{Adorns, message_of, no_message}
 use Rattle.bspl_types.specs.Shape.{IsMessageOf}
 use Rattle.clause_encoding.specs.declared.rivals.Rivals.{Rivals}
 use Rattle.clause_encoding.specs.Formula.{safety_variables}
-use Rattle.clause_encoding.specs.Rivals.{is_out, producers_of, produces, rivals_among, rivals_of}
+use Rattle.clause_encoding.specs.Rivals.{producers_of, produces, rivals_among, rivals_of}
 use Rattle.clause_encoding.specs.Variables.{IsKind, message_numbers, sent}
 use Rattle.first_occurrences.proofs.ListedLemmas.{joined_from, joined_member, mapped_from, mapped_member, range_bound, range_member, some_member}
 

@@ -3,17 +3,19 @@ use Rattle.std.specs.Prelude.{◌≡◌, ◌↔◌, ℕ, ◌≤◌, ◌&&◌, Bo
 use Rattle.std.specs.List.{Contains}
 use Rattle.bspl_types.specs.declared.event.Event.{Event}
 use Rattle.bspl_types.specs.declared.expanded.Expanded.{Expanded}
+use Rattle.bspl_types.specs.declared.property.Property.{Property}
 use Rattle.bspl_types.specs.declared.value.Value.{Value}
 use Rattle.clause_core.specs.Clause.{SatisfiesAll}
 use Rattle.clause_encoding.specs.declared.rivals.Rivals.{Rivals}
 use Rattle.clause_encoding.specs.declared.variables.Variables.{Variables}
-use Rattle.clause_encoding.specs.Families.{delivery_clauses, freshness_clauses, occurrence_clauses, order_clauses, premise_clauses, shared_clauses}
-use Rattle.clause_encoding.specs.Formula.{liveness_variables, safety_variables}
+use Rattle.clause_encoding.specs.Families.{Written, delivery_clauses, freshness_clauses, occurrence_clauses, order_clauses, premise_clauses, shared_clauses}
+use Rattle.clause_encoding.specs.Formula.{clauses_of, liveness_variables, safety_variables}
 use Rattle.clause_encoding.specs.Rest.{rest_clauses}
 use Rattle.clause_encoding.specs.Rivals.{rival_clauses, selectors}
 use Rattle.clause_encoding.specs.Variables.{sent}
 use Rattle.enactment_model.specs.Legal.{IsLegalRun}
 use Rattle.enactment_model.specs.Liveness.{Bound, HasPublicValue, Quiet}
+use Rattle.enactment_model.specs.Property.{Violates}
 use Rattle.enactment_model.specs.Safety.{Conflict}
 use Rattle.first_occurrences.specs.Lacking.{SaysWhatIsLacking, is_bound}
 use Rattle.first_occurrences.specs.Occurrence.{is_occurring}
@@ -95,3 +97,14 @@ RestHolds =
     IsLegalRun x run → Quiet x run key → HasPublicValue x p → ¬ Bound x run key p →
     Reports (liveness_variables x) run key v → SaysWhatIsLacking x run key v →
     SatisfiesAll v (rest_clauses x)
+
+-- an assignment that satisfies the clauses
+pub record HasModel (clauses : List Written) : Type 0 where
+  pub assignment : ℕ → Bool
+  pub satisfied : SatisfiesAll assignment clauses
+
+-- each legal run that does what a property excludes gives one of the clauses of its formula
+abbrev pub ViolationHasModel : Type 0
+ViolationHasModel =
+    (property : Property) (x : Expanded) (run : List Event) → IsLegalRun x run →
+    Violates property x run → HasModel (clauses_of property x)

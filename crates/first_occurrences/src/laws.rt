@@ -1,10 +1,11 @@
 ghost use Rattle.first_occurrences.specs.Laws.{AssignmentExists, BoundExactlyIfSent, DeliveryHolds};
 ghost use Rattle.first_occurrences.specs.Laws.{FreshnessHolds, OccurrenceHolds, OrderHolds};
 ghost use Rattle.first_occurrences.specs.Laws.{PremisesHold, RestHolds, RivalsHold};
-ghost use Rattle.first_occurrences.specs.Laws.{SharedClausesHold};
-ghost use Rattle.first_occurrences.specs.Headline.{UnsatisfiableIsLive, UnsatisfiableIsSafe};
+ghost use Rattle.first_occurrences.specs.Laws.{SharedClausesHold, ViolationHasModel};
+ghost use Rattle.first_occurrences.specs.Headline.{UnsatisfiableHolds};
 
 use bspl_types::equal_values_are_one;
+use clause_encoding::written_is_satisfied;
 use enactment_model::{
     known_exactly_if_some_event_binds, legal_by_positions, no_conflict_agrees,
     second_emission_is_not_enabled,
@@ -82,19 +83,6 @@ pub fn rivals_hold()
     second_emission_is_not_enabled();
 }
 
-/// A protocol is safe if no assignment satisfies its safety formula: a conflict in any legal run,
-/// over any number of keys, would give one (after Singh 2012).
-pub fn unsatisfiable_is_safe()
-    ensures { UnsatisfiableIsSafe }
-{
-    // laws: a conflict gives an assignment that satisfies each family
-    assignment_exists();
-    shared_clauses_hold();
-    rivals_hold();
-    // law: without a conflict all roles agree
-    no_conflict_agrees();
-}
-
 /// In a legal run a parameter is bound exactly if some message that adorns it `in` or `out` is
 /// sent: what is received was sent.
 pub fn bound_exactly_if_sent()
@@ -121,15 +109,28 @@ pub fn rest_holds()
     bound_exactly_if_sent();
 }
 
-/// A protocol is live if no assignment satisfies its liveness formula: a public parameter that is
-/// unbound in any legal run, at a key at which it is quiet, would give one (after Singh 2012).
-pub fn unsatisfiable_is_live()
-    ensures { UnsatisfiableIsLive }
+/// Each legal run that does what a property excludes gives an assignment that satisfies the clauses
+/// of the property's formula.
+pub fn violation_has_model()
+    ensures { ViolationHasModel }
 {
-    // laws: an unbound parameter gives an assignment that satisfies each family
+    // laws: the run has an assignment of its first occurrences, and it satisfies each family
     assignment_exists();
     shared_clauses_hold();
+    rivals_hold();
     rest_holds();
+}
+
+/// A protocol has a property if no assignment satisfies the formula of both: any legal run that does
+/// what the property excludes, over any number of keys, would give one (after Singh 2012).
+pub fn unsatisfiable_holds()
+    ensures { UnsatisfiableHolds }
+{
+    // laws: a violation gives an assignment, and it satisfies the clauses of what is written
+    violation_has_model();
+    written_is_satisfied();
+    // law: without a conflict all roles agree
+    no_conflict_agrees();
     // law: whether a parameter is bound is decided by what is sent
     bound_exactly_if_sent();
 }

@@ -7,7 +7,8 @@ use Rattle.clause_core.specs.declared.formula.Formula.{Formula}
 use Rattle.clause_core.specs.declared.literal.Lit.{Lit}
 use Rattle.clause_encoding.specs.declared.rivals.Rivals.{Rivals}
 use Rattle.clause_encoding.specs.Families.{Written, shared_clauses}
-use Rattle.clause_encoding.specs.Formula.{AreClausesOf, IsSafetyFormula, SafetyClausesAreFew, safety_clauses, safety_variables}
+use Rattle.clause_encoding.specs.Formula.{AreClausesOf, IsSafetyFormula, safety_clauses, safety_variables}
+use Rattle.clause_encoding.specs.Laws.{SafetyClausesAreFew}
 use Rattle.clause_encoding.specs.Rivals.{rival_clauses, rivals_of, selected_is_sent, selectors}
 use Rattle.clause_encoding.specs.Variables.{kind_count, positive}
 use Rattle.dimacs.specs.Dimacs.{clause_limit, variable_limit}

@@ -14,7 +14,8 @@ use Rattle.clause_encoding.specs.declared.variables.Variables.{Variables}
 use Rattle.clause_encoding.specs.declared.wants.Want.{Want}
 use Rattle.clause_encoding.specs.Carriers.{in_parameters}
 use Rattle.clause_encoding.specs.Families.{delivery_clauses, freshness_clauses, occurrence_clauses, order_clauses, premise_clause, premise_clauses, shared_clauses}
-use Rattle.clause_encoding.specs.Formula.{IsLivenessFormula, LivenessClausesAreFew, liveness_clauses, liveness_variables}
+use Rattle.clause_encoding.specs.Formula.{IsLivenessFormula, liveness_clauses, liveness_variables}
+use Rattle.clause_encoding.specs.Laws.{LivenessClausesAreFew}
 use Rattle.clause_encoding.specs.Rest.{public_values, rest_clauses, wants_by, wants_of}
 use Rattle.clause_encoding.specs.Variables.{kind_count, message_numbers}
 use Rattle.dimacs.specs.Dimacs.{clause_limit, variable_limit}

@@ -7,7 +7,8 @@ use Rattle.std.proofs.lemmas.Int.Digits.{all_below_base_digits_of, first_digits_
 use Rattle.std.proofs.lemmas.List.Elements.{All-cons, All-from_recursion, All-head, All-map, All-nil, All-weaker}
 use Rattle.clause_core.specs.declared.literal.Lit.{Lit}
 use Rattle.dimacs.specs.Dimacs.{clause_words, is_comment, is_word, line_words}
-use Rattle.refutation_log.specs.LogText.{numeral, pivot_text}
+use Rattle.refutation_log.specs.LogText.{pivot_text}
+use Rattle.text_lines.specs.Decimal.{numeral}
 use Rattle.formula_text.proofs.Words.{IsPrinted, words_joined}
 
 -- a word of digits and minus signs

@@ -1,4 +1,4 @@
-//! The formula of a protocol as text, with what its variables mean.
+//! The formula of a protocol in DIMACS form, printed.
 #![tactic(auto)]
 
 mod formula;

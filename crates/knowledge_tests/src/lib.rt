@@ -1,4 +1,4 @@
-//! Tests of what a role knows and may emit, and of what is decided over runs and by logs.
+//! Tests of what roles know, and of logs of protocols.
 #![tactic(auto)]
 
 #[cfg(test)]

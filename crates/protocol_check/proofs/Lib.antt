@@ -1,3 +1,2 @@
 pub mod OneFormula
 pub mod Checks
-pub mod LivenessChecks

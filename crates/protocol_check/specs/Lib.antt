@@ -1,3 +1,3 @@
 -- When a log is accepted for a protocol's formula, and its first failure otherwise.
-pub mod Safety
-pub mod Liveness
+pub mod Check
+pub mod Laws

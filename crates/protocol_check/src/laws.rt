@@ -1,29 +1,36 @@
-ghost use Rattle.protocol_check.specs.Liveness.{AcceptedLivenessDoesNotFail, LivenessFailsOnce};
-ghost use Rattle.protocol_check.specs.Safety.{AcceptedSafetyDoesNotFail, SafetyFailsOnce};
+ghost use Rattle.protocol_check.specs.Laws.{AcceptedLivenessDoesNotFail, AcceptedLogDoesNotFail};
+ghost use Rattle.protocol_check.specs.Laws.{AcceptedSafetyDoesNotFail, LivenessFailsOnce};
+ghost use Rattle.protocol_check.specs.Laws.{LogFailsOnce, SafetyFailsOnce};
 
-use clause_core::equal_members;
+use clause_encoding::clauses_are_determined;
 use log_checker::fails_once;
 
-/// A law: for the safety formula of a protocol a log is accepted or has one first failure, and not
-/// both.
-pub fn safety_fails_once()
-    ensures failure { SafetyFailsOnce }
-    ensures accepted { AcceptedSafetyDoesNotFail }
+/// A law: for the formula of a protocol and a property a log is accepted or has one first failure,
+/// and not both.
+pub fn log_fails_once()
+    ensures failure { LogFailsOnce }
+    ensures accepted { AcceptedLogDoesNotFail }
 {
-    // law: clauses with the same literals are equal
-    equal_members();
+    // law: a protocol has one formula of a property
+    clauses_are_determined();
     // law: the same for any formula
     fails_once();
 }
 
-/// A law: for the liveness formula of a protocol a log is accepted or has one first failure, and
-/// not both.
+/// A law: so it is for the safety formula.
+pub fn safety_fails_once()
+    ensures failure { SafetyFailsOnce }
+    ensures accepted { AcceptedSafetyDoesNotFail }
+{
+    // law: the same for each property
+    log_fails_once();
+}
+
+/// A law: so it is for the liveness formula.
 pub fn liveness_fails_once()
     ensures failure { LivenessFailsOnce }
     ensures accepted { AcceptedLivenessDoesNotFail }
 {
-    // law: clauses with the same literals are equal
-    equal_members();
-    // law: the same for any formula
-    fails_once();
+    // law: the same for each property
+    log_fails_once();
 }

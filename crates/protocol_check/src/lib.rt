@@ -1,10 +1,10 @@
-//! Checks of logs against the formulas of a protocol: what is accepted proves the property.
+//! Logs checked against a protocol's formula prove its property.
 #![tactic(auto)]
 
+mod kind;
 mod laws;
-mod liveness;
-mod safety;
+mod log_check;
 
-pub use laws::{liveness_fails_once, safety_fails_once};
-pub use liveness::check_liveness;
-pub use safety::check_safety;
+pub use kind::property_of;
+pub use laws::{liveness_fails_once, log_fails_once, safety_fails_once};
+pub use log_check::{check, check_liveness, check_safety};

@@ -3,5 +3,3 @@ pub mod RangeLemmas
 pub mod RivalLemmas
 pub mod OutcomeLemmas
 pub mod RunLemmas
-pub mod VariableLemmas
-pub mod LivenessLemmas

@@ -1,109 +1,44 @@
--- The run that refutes safety: its events, and its least conflict.
-use Rattle.std.proofs.Common.{◌≡◌, ℕ, ◌+◌, ◌<◌, ◌≤◌, List, length, take, None, Option, IfSome, Some, slice_get, Contains, refl, sym, ap, ◌∙◌, subst, arith, length-take}
-use Rattle.std.specs.List.{All}
-use Rattle.std.specs.Prelude.{Bool, IsNone, IsSome}
-use Rattle.std.proofs.lemmas.List.{get_or-take}
-use Rattle.std.proofs.lemmas.List.Elements.{All-contains_itself, All-take, All-weaker}
-use Rattle.std.proofs.lemmas.Option.{get_or_from_slice_get, slice_get-get_or, slice_get_within}
-use Rattle.list_base.proofs.Membership.{early_index, index_of}
+-- The run that refutes a property: its least conflict, and the parameter that it leaves unbound.
+use Rattle.std.proofs.Common.{◌≡◌, ℕ, ◌+◌, ◌≤◌, List, length, None, Option, IfSome, Some, refl, sym, ◌∙◌, subst, arith}
+use Rattle.std.specs.Prelude.{IsNone, IsSome}
 use Rattle.bspl_types.specs.declared.event.Event.{Event}
-use Rattle.bspl_types.specs.declared.event.Event.TheVariants.{Emit, Receive}
-use Rattle.bspl_types.specs.declared.event.Instance.{Instance}
 use Rattle.bspl_types.specs.declared.expanded.Expanded.{Expanded}
+use Rattle.bspl_types.specs.declared.property.Property.TheVariants.{Liveness, Safety}
 use Rattle.bspl_types.specs.declared.value.Value.{Value}
-use Rattle.bspl_types.specs.History.{instance_of}
 use Rattle.enactment_model.specs.declared.conflicts.Conflict.{Conflict as SpecConflict}
+use Rattle.enactment_model.specs.FirstUnbound.{IsComplete, IsFirstUnbound}
 use Rattle.enactment_model.specs.LeastConflict.{IsLeastConflict}
-use Rattle.enactment_model.specs.Legal.{IsLegalRun}
-use Rattle.enactment_model.specs.Safety.{Conflict, HasNoConflict, ProducesAt, SafeProtocol}
-use Rattle.witness_replay.specs.Refuting.{EndsInConflict, IsRefutingRun}
-use Rattle.witness_replay.specs.Witness.{IsRunOfKinds, key_of_ones}
+use Rattle.enactment_model.specs.Safety.{HasNoConflict}
+use Rattle.witness_replay.specs.Refuting.{EndsInConflict, RestsUnbound}
+use Rattle.witness_replay.specs.Witness.{key_of_ones}
+use Rattle.verdict.specs.Decision.{IsRefuted}
 use Rattle.verdict.specs.Right.{IsUnsafeVerdict}
+use Rattle.verdict.specs.RightLiveness.{IsNotLiveVerdict}
 
--- the event is under the key of all ones
-abbrev IsUnderOnes : Expanded → Event → Type 0
-IsUnderOnes x e = (instance_of e).key ≡ key_of_ones x
+-- two least conflicts of a run end at one event
+one_end : (x : Expanded) (run : List Event) (one other : SpecConflict) → IsLeastConflict x run one → IsLeastConflict x run other → one.second ≡ other.second
+one_end x run one other first second =
+    let one_is = first.second_is in
+    let other_is = second.second_is in
+    let no_later = first.least_second second.key other.param second.first second.second second.conflict in
+    let no_earlier = second.least_second first.key one.param first.first first.second first.conflict in
+    omega (arith, one_is, other_is, no_later, no_earlier)
 
-module _ (x : Expanded) (kinds : List ℕ) (run : List Event) (is_run : IsRunOfKinds x kinds run) where
-  -- an emission is
-  emission_under : (position : ℕ) (i : Instance) → slice_get run position ≡ Some (Emit i) → IsUnderOnes x (Emit i)
-  emission_under position i at = let witness = is_run.each position (Emit i) at in witness.key
-
-  -- a reception has the instance of an emission
-  under_at : (position : ℕ) (e : Event) → slice_get run position ≡ Some e → IsUnderOnes x e
-  under_at position (Emit i) at = emission_under position i at
-  under_at position (Receive i) at =
-      let (earlier, less, emitted) = early_index run position (Emit i) (is_run.each position (Receive i) at) in
-      emission_under earlier i emitted
-
-  -- so is each event
-  all_under : All (IsUnderOnes x) run
-  all_under =
-      All-weaker (Contains run) (IsUnderOnes x)
-      (λ e among. let (position, at) = index_of run e among in under_at position e at)
-      run (All-contains_itself run)
-
--- the events of the run that is cut are under the key of all ones
-cut_under : (x : Expanded) (v : ℕ → Bool) (run : List Event) → IsRefutingRun x v run → All (IsUnderOnes x) run
-cut_under x v run refuting =
-    subst (λ (events : List Event). All (IsUnderOnes x) events) (sym refuting.cut)
-    (All-take (IsUnderOnes x) refuting.found.second refuting.whole (all_under x refuting.run_of.kinds refuting.whole refuting.run_of.run_of))
-
--- a producer among the first events is one of all
-producer_there : (x : Expanded) (whole : List Event) (n : ℕ) (key : List Value) (p position : ℕ) → ProducesAt x (take n whole) key p position → ProducesAt x whole key p position
-producer_there x whole n key p position at =
-    record { instance = at.instance; emitted = taken_at n whole position (Emit at.instance) at.emitted; under = at.under; adorned = at.adorned }
-  where
-    taken_at : {X : Type 0} (n : ℕ) (xs : List X) (k : ℕ) (x : X) → slice_get (take n xs) k ≡ Some x → slice_get xs k ≡ Some x
-    taken_at n xs k x at =
-        let within = slice_get_within (take n xs) k x at in
-        let early : k < n = omega (arith, within, length-take n xs) in
-        let inside : k < length xs = omega (arith, within, length-take n xs) in
-        slice_get-get_or xs k x inside ∙ ap Some (sym (get_or-take n xs k x early) ∙ get_or_from_slice_get (take n xs) k x x at)
-
--- the second producer is within the run
-second_within : (x : Expanded) (run : List Event) (key : List Value) (p first second : ℕ) → Conflict x run key p first second → second < length run
-second_within x run key p first second conflict =
-    let produces = conflict.second_produces in
-    slice_get_within run second (Emit produces.instance) produces.emitted
-
--- a conflict of the cut run does not end before the cut
-not_before : (x : Expanded) (v : ℕ → Bool) (run : List Event) (key : List Value) (p first second : ℕ) → IsRefutingRun x v run → Conflict x run key p first second → length run ≤ second + 1
-not_before x v run key p first second refuting conflict =
-    let whole = refuting.whole in
-    let found = refuting.found in
-    let cut : Conflict x (take found.second whole) key p first second = subst (λ (events : List Event). Conflict x events key p first second) refuting.cut conflict in
-    let there : Conflict x whole key p first second = record {
-      in_order = cut.in_order;
-      first_produces = producer_there x whole found.second key p first cut.first_produces;
-      second_produces = producer_there x whole found.second key p second cut.second_produces;
-    } in
-    let no_later = refuting.least.least_second key p first second there in
-    let is = refuting.least.second_is in
-    let long : length run ≡ length (take found.second whole) = ap length refuting.cut in
-    omega (arith, no_later, is, long, length-take found.second whole)
-
--- the least conflict ends at the last event
-ends_last : (x : Expanded) (v : ℕ → Bool) (run : List Event) (found : SpecConflict) → IsRefutingRun x v run → IsLeastConflict x run found → found.second ≡ length run
-ends_last x v run found refuting least =
-    let within = second_within x run least.key found.param least.first least.second least.conflict in
-    let not_early = not_before x v run least.key found.param least.first least.second refuting least.conflict in
-    let is = least.second_is in
-    omega (arith, within, not_early, is)
-
--- a legal run that ends in a conflict shows that the protocol is not safe
-not_safe : (x : Expanded) (run : List Event) → IsLegalRun x run → EndsInConflict x run → ¬ SafeProtocol x
-not_safe x run legal ends = λ safe. safe.no_conflict run legal ends.key ends.param ends.first ends.second ends.conflict
-
--- the answer with such a run is right
-pub unsafe_right : (x : Expanded) (v : ℕ → Bool) (run : List Event) (found : SpecConflict) → IsRefutingRun x v run → IsLegalRun x run → EndsInConflict x run → IsLeastConflict x run found → IsUnsafeVerdict x run found.param found.first found.second
-unsafe_right x v run found refuting legal ends least = record {
-  legal = legal;
-  ones = cut_under x v run refuting;
-  least = least;
-  last = ends_last x v run found refuting least;
-  unsafe = not_safe x run legal ends;
-}
+-- the answer with a run that refutes safety is right
+pub unsafe_right : (x : Expanded) (run : List Event) (found : SpecConflict) → IsRefuted Safety x run → IsLeastConflict x run found → IsUnsafeVerdict x run found.param found.first found.second
+unsafe_right x run found refuted least =
+    let refutation = refuted.refutation in
+    let refuting = refutation.refuting in
+    let cut = refuting.cut in
+    record {
+      assignment = refuted.assignment;
+      refuting = refuting;
+      legal = refutation.legal;
+      ones = refuting.ones;
+      least = least;
+      last = one_end x run found cut.found least cut.least ∙ cut.last;
+      unsafe = refutation.fails;
+    }
 
 -- the run has a conflict
 pub some_conflict : (o : Option SpecConflict) (x : Expanded) (run : List Event) → (IsNone o → HasNoConflict x run) → EndsInConflict x run → IsSome o
@@ -113,3 +48,32 @@ some_conflict (Some found) x run none ends = refl
 -- what is found is its least one
 pub found_least : (o : Option SpecConflict) (found : SpecConflict) (x : Expanded) (run : List Event) → o ≡ Some found → IfSome o (IsLeastConflict x run) → IsLeastConflict x run found
 found_least o found x run is least = subst (λ (other : Option SpecConflict). IfSome other (IsLeastConflict x run)) is least
+
+-- what holds of a protocol, a run and the key of ones holds of what equals them
+pub at_rest : (Q : Expanded → List Event → List Value → Type 0) (x y : Expanded) (run whole : List Event) (key : List Value) → x ≡ y → run ≡ whole → key ≡ key_of_ones x → Q x run key → Q y whole (key_of_ones y)
+at_rest Q x y run whole key same_x same_run ones holds =
+    subst (λ (z : Expanded). Q z whole (key_of_ones z)) same_x
+    (subst (λ (events : List Event). Q x events (key_of_ones x)) same_run (subst (λ (k : List Value). Q x run k) ones holds))
+
+-- a run that rests leaves some parameter unbound
+pub some_unbound : (o : Option ℕ) (x : Expanded) (run : List Event) → (IsNone o → IsComplete x run (key_of_ones x)) → RestsUnbound x run → IsSome o
+some_unbound None x run none rests = absurd (rests.unbound (none refl rests.param rests.public))
+some_unbound (Some param) x run none rests = refl
+
+-- what is found is the first one
+pub found_first : (o : Option ℕ) (param : ℕ) (x : Expanded) (run : List Event) (key : List Value) → o ≡ Some param → IfSome o (IsFirstUnbound x run key) → IsFirstUnbound x run key param
+found_first o param x run key is first = subst (λ (other : Option ℕ). IfSome other (IsFirstUnbound x run key)) is first
+
+-- the answer with a run that refutes liveness is right
+pub not_live_right : (x : Expanded) (run : List Event) (param : ℕ) → IsRefuted Liveness x run → IsFirstUnbound x run (key_of_ones x) param → IsNotLiveVerdict x run param
+not_live_right x run param refuted first =
+    let refutation = refuted.refutation in
+    record {
+      assignment = refuted.assignment;
+      refuting = refutation.refuting;
+      legal = refutation.legal;
+      ones = refutation.refuting.ones;
+      quiet = refutation.refutes.quiet;
+      first = first;
+      not_live = refutation.fails;
+    }

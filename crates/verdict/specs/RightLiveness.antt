@@ -1,33 +1,26 @@
 -- When the answer on a protocol's liveness is right: each one with the evidence for it.
-use Rattle.std.specs.Prelude.{◌≡◌, ℕ, ◌≤◌, List, length}
+use Rattle.std.specs.Prelude.{◌≡◌, ℕ, Bool, List}
 use Rattle.std.specs.List.{All}
 use Rattle.bspl_types.specs.declared.event.Event.{Event}
 use Rattle.bspl_types.specs.declared.expanded.Expanded.{Expanded}
+use Rattle.bspl_types.specs.declared.property.Property.TheVariants as properties
 use Rattle.bspl_types.specs.History.{instance_of}
-use Rattle.clause_core.specs.declared.formula.Formula.{Formula}
 use Rattle.clause_encoding.specs.Formula.{IsLivenessFormula}
 use Rattle.enactment_model.specs.FirstUnbound.{IsFirstUnbound}
 use Rattle.enactment_model.specs.Legal.{IsLegalRun}
 use Rattle.enactment_model.specs.Liveness.{LiveProtocol, Quiet}
-use Rattle.refutation_log.specs.declared.refutation.Log.{Log}
-use Rattle.refutation_log.specs.Resolution.{Accepts, IsNew}
+use Rattle.witness_replay.specs.Refuting.{IsRefutingRun}
 use Rattle.witness_replay.specs.Witness.{key_of_ones}
 use Rattle.verdict.specs.declared.outcome.Liveness.{Liveness}
 use Rattle.verdict.specs.declared.outcome.Liveness.TheVariants.{Live, NotLive, Undecided}
-use Rattle.verdict.specs.Right.{IsUndecidedVerdict}
+use Rattle.verdict.specs.Decision.{IsHeldVerdict, IsUndecidedVerdict}
 
--- the protocol is live; the log is new, within the budget, and refutes its liveness formula
-pub record IsLiveVerdict (x : Expanded) (budget : ℕ) (log : Log) : Type 0 where
-  pub formula : Formula
-  pub is_formula : IsLivenessFormula x formula
-  pub accepts : Accepts formula log
-  pub new : IsNew formula log
-  pub within : length log.steps ≤ budget
-  pub live : LiveProtocol x
-
--- the protocol is not live; the run is legal, all of it under the key of all ones, and quiet there,
--- and the parameter is the first public one with a value that it leaves unbound
+-- the protocol is not live; the run is that of an assignment: it is legal, all of it under the key
+-- of all ones, and quiet there, and the parameter is the first public one with a value that it
+-- leaves unbound
 pub record IsNotLiveVerdict (x : Expanded) (run : List Event) (param : ℕ) : Type 0 where
+  pub assignment : ℕ → Bool
+  pub refuting : IsRefutingRun properties.Liveness x assignment run
   pub legal : IsLegalRun x run
   pub ones : All (λ e. (instance_of e).key ≡ key_of_ones x) run
   pub quiet : Quiet x run (key_of_ones x)
@@ -36,6 +29,6 @@ pub record IsNotLiveVerdict (x : Expanded) (run : List Event) (param : ℕ) : Ty
 
 -- the answer is right
 abbrev pub IsRightLiveness : Expanded → ℕ → Liveness → Type 0
-IsRightLiveness x budget (Live log) = IsLiveVerdict x budget log
+IsRightLiveness x budget (Live log) = IsHeldVerdict properties.Liveness x budget log
 IsRightLiveness x budget (NotLive run param) = IsNotLiveVerdict x run param
 IsRightLiveness x budget (Undecided log) = IsUndecidedVerdict (IsLivenessFormula x) budget log

@@ -1,13 +1,13 @@
-//! The verdicts on a protocol: whether it is safe and whether it is live, each with its evidence.
+//! Safe, live or not, each with its evidence.
 #![tactic(auto)]
 
 mod decision;
 mod laws;
-mod liveness;
 mod outcome;
-mod safety;
 mod search;
+mod verdicts;
 
-pub use decision::verify;
+pub use decision::decide;
 pub use laws::numbers_in_range;
-pub use outcome::{Liveness, Safety, Verdicts};
+pub use outcome::{Decision, Liveness, Safety, Verdicts};
+pub use verdicts::verify;

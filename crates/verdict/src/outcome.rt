@@ -1,6 +1,17 @@
 use bspl_types::Run;
 use refutation_log::Log;
 
+/// Whether a protocol has a property, and why.
+#[derive(Drop)]
+pub enum Decision {
+    /// The protocol has the property; the log, which was checked, refutes the property's formula.
+    Proved(Log),
+    /// The protocol does not have it; the run is legal and refutes the property.
+    Refuted(Run),
+    /// The search came to its budget; the log has the new clauses that it learned.
+    Undecided(Log),
+}
+
 /// Whether a protocol is safe, and why.
 #[derive(Drop)]
 pub enum Safety {

@@ -11,7 +11,11 @@ use std::alloc::Global;
 
 /// Searches for an assignment that satisfies the formula: there is one, a refutation, which the
 /// separate checker accepts, or neither within the budget.
-pub(crate) fn decide(alloc: Global, formula: &Formula, budget: u32) -> Result<Outcome, NoMemory>
+pub(crate) fn search_model(
+    alloc: Global,
+    formula: &Formula,
+    budget: u32,
+) -> Result<Outcome, NoMemory>
     requires some { 1 ≤ budget }
     requires few { length formula.now.clauses + budget < 2 ^ 32 }
     ensures { IfOk result (IsFound formula.now budget) }

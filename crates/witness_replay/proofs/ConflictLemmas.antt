@@ -19,10 +19,11 @@ use Rattle.clause_encoding.specs.Rivals.{rival_clauses}
 use Rattle.clause_encoding.specs.Variables.{IsKind, sent}
 use Rattle.enactment_model.specs.declared.conflicts.Conflict.{Conflict as SpecConflict}
 use Rattle.enactment_model.specs.LeastConflict.{IsLeastConflict}
+use Rattle.enactment_model.specs.Property.{HasConflict}
 use Rattle.enactment_model.specs.Safety.{Conflict, HasNoConflict, ProducesAt}
 use Rattle.first_occurrences.specs.Occurrence.{kind_of}
 use Rattle.first_occurrences.specs.Report.{AreVariablesOf}
-use Rattle.witness_replay.specs.Refuting.{EndsInConflict}
+use Rattle.witness_replay.specs.Refuting.{IsCutAtConflict}
 use Rattle.witness_replay.specs.Witness.{IsRunOf, key_of_ones}
 use Rattle.witness_replay.proofs.FamilyLemmas.{all_right}
 use Rattle.witness_replay.proofs.RivalLemmas.{some_sent}
@@ -31,14 +32,6 @@ use Rattle.witness_replay.proofs.RunLemmas.{event_of, under_ones}
 -- the variables of the safety formula are a formula's
 pub are_safety_variables : (x : Expanded) → AreVariablesOf x (safety_variables x)
 are_safety_variables x = record { kinds = refl; occurrences_first = omega arith }
-
--- a conflict of the run
-pub record HasConflict (x : Expanded) (run : List Event) : Type 0 where
-  pub key : List Value
-  pub param : ℕ
-  pub first : ℕ
-  pub second : ℕ
-  pub conflict : Conflict x run key param first second
 
 -- where a message is emitted that produces a parameter
 record HasProducer (x : Expanded) (run : List Event) (m p : ℕ) : Type 0 where
@@ -114,10 +107,8 @@ some_conflict None x run none has = absurd (none refl has.key has.param has.firs
 some_conflict (Some found) x run none has = refl
 
 -- and it is the least one of the run
-pub found_least : (o : Option SpecConflict) (found : SpecConflict) (x y : Expanded) (run whole : List Event) → o ≡ Some found → x ≡ y → run ≡ whole → IfSome o (IsLeastConflict x run) → IsLeastConflict y whole found
-found_least o found x y run whole is same_x same_run least =
-    let at_found : IsLeastConflict x run found = subst (λ (other : Option SpecConflict). IfSome other (IsLeastConflict x run)) is least in
-    subst (λ (z : Expanded). IsLeastConflict z whole found) same_x (subst (λ (events : List Event). IsLeastConflict x events found) same_run at_found)
+pub found_least : (o : Option SpecConflict) (found : SpecConflict) (x : Expanded) (run : List Event) → o ≡ Some found → IfSome o (IsLeastConflict x run) → IsLeastConflict x run found
+found_least o found x run is = subst (λ (other : Option SpecConflict). IfSome other (IsLeastConflict x run)) is
 
 -- the least conflict is within the run
 pub least_within : (x : Expanded) (run : List Event) (found : SpecConflict) → IsLeastConflict x run found → found.second ≤ length run
@@ -127,21 +118,56 @@ least_within x run found least =
     let is = least.second_is in
     omega arith
 
--- and the events up to its second producer end in a conflict
-pub ends_in_conflict : (x : Expanded) (run : List Event) (found : SpecConflict) → IsLeastConflict x run found → EndsInConflict x (take found.second run)
-ends_in_conflict x run found least =
+-- an item among the first ones is there among all
+left_over : {X : Type 0} (n : ℕ) (xs : List X) (k : ℕ) (x : X) → slice_get (take n xs) k ≡ Some x → slice_get xs k ≡ Some x
+left_over n xs k x at =
+    let within = slice_get_within (take n xs) k x at in
+    let early : k < n = omega (arith, within, length-take n xs) in
+    let inside : k < length xs = omega (arith, within, length-take n xs) in
+    slice_get-get_or xs k x inside ∙ ap Some (sym (get_or-take n xs k x early) ∙ get_or_from_slice_get (take n xs) k x x at)
+
+-- so is a producer
+producer_there : (x : Expanded) (run : List Event) (n : ℕ) (key : List Value) (p position : ℕ) → ProducesAt x (take n run) key p position → ProducesAt x run key p position
+producer_there x run n key p position at =
+    record { instance = at.instance; emitted = left_over n run position (Emit at.instance) at.emitted; under = at.under; adorned = at.adorned }
+
+-- and a conflict
+conflict_there : (x : Expanded) (run : List Event) (n : ℕ) (key : List Value) (p first second : ℕ) → Conflict x (take n run) key p first second → Conflict x run key p first second
+conflict_there x run n key p first second cut = record {
+  in_order = cut.in_order;
+  first_produces = producer_there x run n key p first cut.first_produces;
+  second_produces = producer_there x run n key p second cut.second_produces;
+}
+
+-- the least conflict of a run is that of its events up to the second producer
+least_kept : (x : Expanded) (run : List Event) (found : SpecConflict) → IsLeastConflict x run found → IsLeastConflict x (take found.second run) found
+least_kept x run found least =
+    let n = found.second in
     let conflict = least.conflict in
     let is = least.second_is in
     let in_order = conflict.in_order in
     record {
       key = least.key;
-      param = found.param;
       first = least.first;
       second = least.second;
+      first_is = least.first_is;
+      second_is = is;
       conflict = record {
         in_order = in_order;
-        first_produces = producer_taken x run least.key found.param least.first found.second (omega arith) conflict.first_produces;
-        second_produces = producer_taken x run least.key found.param least.second found.second (omega arith) conflict.second_produces;
+        first_produces = producer_taken x run least.key found.param least.first n (omega (arith, is, in_order)) conflict.first_produces;
+        second_produces = producer_taken x run least.key found.param least.second n (omega (arith, is)) conflict.second_produces;
       };
-      last = length-take-le found.second run (least_within x run found least) ∙ is;
+      least_second = λ any p i j other. least.least_second any p i j (conflict_there x run n any p i j other);
+      least_param = λ any p i other. least.least_param any p i (conflict_there x run n any p i least.second other);
+      least_first = λ any i other. least.least_first any i (conflict_there x run n any found.param i least.second other);
     }
+
+-- the run is cut there
+pub cut_at : (x : Expanded) (whole run : List Event) (found : SpecConflict) → IsLeastConflict x whole found → run ≡ take found.second whole → IsCutAtConflict x whole run
+cut_at x whole run found least is = record {
+  found = found;
+  of_whole = least;
+  cut = is;
+  least = subst (λ (events : List Event). IsLeastConflict x events found) (sym is) (least_kept x whole found least);
+  last = sym (ap length is ∙ length-take-le found.second whole (least_within x whole found least));
+}

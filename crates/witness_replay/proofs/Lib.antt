@@ -13,7 +13,6 @@ pub mod LegalLemmas
 pub mod RivalLemmas
 pub mod ConflictLemmas
 pub mod ExistenceLemmas
-pub mod ModelLemmas
 pub mod RestFamilyLemmas
 pub mod RestLemmas
-pub mod LackingLemmas
+pub mod ModelLemmas

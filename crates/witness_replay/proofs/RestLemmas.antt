@@ -22,19 +22,16 @@ use Rattle.clause_encoding.specs.Families.{shared_clauses}
 use Rattle.clause_encoding.specs.Formula.{liveness_clauses, liveness_variables}
 use Rattle.clause_encoding.specs.Rest.{rest_clauses}
 use Rattle.clause_encoding.specs.Variables.{IsKind, received, sent}
-use Rattle.enactment_model.specs.Laws.{HistoryIsRun, KnownExactlyIfSomeEventBinds, LegalByPositions}
+use Rattle.enactment_model.specs.Laws.{HistoryIsRun, KnownExactlyIfSomeEventBinds}
 use Rattle.enactment_model.specs.Liveness.{Bound, IsEmitted, Quiet}
 use Rattle.first_occurrences.specs.Occurrence.{kind_of}
 use Rattle.first_occurrences.specs.Report.{AreVariablesOf}
-use Rattle.witness_replay.specs.Laws.{ModelIsNotLive, ModelRests}
-use Rattle.witness_replay.specs.Resting.{IsRestingRun, RestsUnbound}
+use Rattle.witness_replay.specs.Refuting.{RestsUnbound}
 use Rattle.witness_replay.specs.Witness.{IsRunOf, key_of_ones, sender_events}
 use Rattle.witness_replay.proofs.CarrierLemmas.{binds_from, carrier_event, carrier_from, carrier_kind, carrier_member, IsCarrier}
-use Rattle.witness_replay.proofs.ExistenceLemmas.{run_exists}
-use Rattle.witness_replay.proofs.FamilyLemmas.{all_left, all_right}
+use Rattle.witness_replay.proofs.FamilyLemmas.{all_right}
 use Rattle.witness_replay.proofs.HappenLemmas.{other_kind}
-use Rattle.witness_replay.proofs.LegalLemmas.{run_is_legal}
-use Rattle.witness_replay.proofs.ListedLemmas.{each_member, mapped_from}
+use Rattle.witness_replay.proofs.ListedLemmas.{mapped_from}
 use Rattle.witness_replay.proofs.RestFamilyLemmas.{arrives, exhausted, IsUnsent, rest_families, SatisfiesRest, some_unsent}
 use Rattle.witness_replay.proofs.RunLemmas.{event_of, kind_among, kind_at, run_fits, under_ones}
 
@@ -198,30 +195,3 @@ pub model_rests_unbound : KnownExactlyIfSomeEventBinds → HistoryIsRun → (x :
 model_rests_unbound known histories x v run is_run satisfied =
     let rest = rest_families x v (all_right (Satisfies v) (shared_clauses x (liveness_variables x)) (rest_clauses x) satisfied) in
     rests_unbound x v run is_run rest known histories
-
--- and is under the key of ones
-pub is_resting : (x : Expanded) (v : ℕ → Bool) (run : List Event) → IsRunOf x (liveness_variables x) v run → IsRestingRun x v run
-is_resting x v run is_run =
-    record {
-      run_of = is_run;
-      ones = each_member (λ e. (instance_of e).key ≡ key_of_ones x) run (λ e among. (under_ones x is_run.kinds run is_run.run_of e among).key);
-    }
-
--- an assignment that satisfies the liveness clauses gives such a run
-pub model_rests : LegalByPositions → KnownExactlyIfSomeEventBinds → HistoryIsRun → ModelRests
-model_rests by_positions known histories x v admitted satisfied =
-    let vars = liveness_variables x in
-    let are = are_liveness_variables x in
-    let shared = all_left (Satisfies v) (shared_clauses x vars) (rest_clauses x) satisfied in
-    let (run, is_run) = run_exists x known histories vars v are shared in
-    record {
-      run = run;
-      legal = run_is_legal by_positions known histories x vars v run are shared is_run;
-      rests = model_rests_unbound known histories x v run is_run satisfied;
-    }
-
--- so the protocol is not live
-pub resting_not_live : ModelRests → ModelIsNotLive
-resting_not_live rests x v admitted satisfied live =
-    let found = rests x v admitted satisfied in
-    found.rests.unbound (live.bound found.run (key_of_ones x) found.legal found.rests.quiet found.rests.param found.rests.public)

@@ -1,4 +1,4 @@
-//! The run that an assignment of a protocol's formula describes, and the laws of its models.
+//! The legal run that a model of a formula describes.
 #![tactic(auto)]
 
 mod events;
@@ -6,12 +6,10 @@ mod instances;
 mod laws;
 mod order;
 mod replay;
-mod rest;
-mod safety;
 mod values;
+mod witness;
 
 pub use instances::key_of_ones;
-pub use laws::{conflict_has_model, model_is_not_live, model_is_not_safe, unbound_has_model};
+pub use laws::model_refutes;
 pub use replay::order_run;
-pub use rest::resting_run_of;
-pub use safety::run_of;
+pub use witness::{resting_run_of, run_of, witness_of};

@@ -1,6 +1,7 @@
--- Few shared clauses, and few on rivals.
-use Rattle.clause_encoding.proofs.SafetyLemmas.{clauses_few}
+-- The law, for one property.
+use Rattle.bspl_types.specs.declared.property.Property.TheVariants.{Safety}
+use Rattle.clause_encoding.proofs.PropertyLemmas.{clauses_few}
 use Rattle.clause_encoding.proofs.laws.safety_clauses_are_few.Goals as goal
 
 pub returns : goal.returns
-returns c = clauses_few
+returns c = clauses_few Safety

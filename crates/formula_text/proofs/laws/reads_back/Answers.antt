@@ -1,7 +1,7 @@
 -- Few clauses and variables, and the lines as they are read.
 use Rattle.clause_core.specs.declared.formula.Formula.{Formula}
 use Rattle.bspl_types.specs.declared.expanded.Expanded.{Expanded}
-use Rattle.clause_encoding.specs.Formula.{LivenessClausesAreFew, SafetyClausesAreFew}
+use Rattle.clause_encoding.specs.Laws.{LivenessClausesAreFew, SafetyClausesAreFew}
 use Rattle.dimacs.specs.Dimacs.{IsDimacs}
 use Rattle.formula_text.specs.declared.property.Property.{Property}
 use Rattle.formula_text.specs.declared.property.Property.TheVariants.{Liveness, Safety}

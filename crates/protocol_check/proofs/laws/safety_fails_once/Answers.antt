@@ -1,9 +1,9 @@
--- From the laws of any formula.
-use Rattle.protocol_check.proofs.Checks.{no_failure, one_failure}
+-- The law, for one property.
+use Rattle.bspl_types.specs.declared.property.Property.TheVariants.{Safety}
 use Rattle.protocol_check.proofs.laws.safety_fails_once.Goals as goal
 
 pub returns-clause-failure : goal.returns-clause-failure
-returns-clause-failure c = one_failure c.equal_members.ensures c.fails_once.ensures.failure
+returns-clause-failure c = c.log_fails_once.ensures.failure Safety
 
 pub returns-clause-accepted : goal.returns-clause-accepted
-returns-clause-accepted c = no_failure c.equal_members.ensures c.fails_once.ensures.accepted
+returns-clause-accepted c = c.log_fails_once.ensures.accepted Safety

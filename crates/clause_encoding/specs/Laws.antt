@@ -1,0 +1,50 @@
+-- What holds of the clauses and the variables of a formula. Each statement is the contract of a
+-- function.
+use Rattle.std.specs.Prelude.{◌≡◌, ◌↔◌, ◌≤◌, ℕ, Bool, List, length}
+use Rattle.bspl_types.specs.declared.expanded.Expanded.{Expanded}
+use Rattle.bspl_types.specs.declared.property.Property.{Property}
+use Rattle.clause_core.specs.declared.literal.Lit.{Lit}
+use Rattle.clause_core.specs.Clause.{SatisfiesAll}
+use Rattle.clause_encoding.specs.Families.{Written}
+use Rattle.clause_encoding.specs.Formula.{AreClausesOf, clauses_of, liveness_clauses, safety_clauses, variables_of}
+use Rattle.clause_encoding.specs.Variables.{IsSmall, variable_count}
+
+-- an assignment satisfies the clauses exactly if it satisfies what is written
+abbrev pub WrittenIsSatisfied : Type 0
+WrittenIsSatisfied =
+    (v : ℕ → Bool) (written : List Written) (clauses : List (List Lit)) →
+    AreClausesOf written clauses → (SatisfiesAll v clauses ↔ SatisfiesAll v written)
+
+-- there is a clause for each that is written
+abbrev pub ClausesAreAsMany : Type 0
+ClausesAreAsMany =
+    (written : List Written) (clauses : List (List Lit)) → AreClausesOf written clauses →
+    length clauses ≡ length written
+
+-- what is written has one list of clauses
+abbrev pub ClausesAreDetermined : Type 0
+ClausesAreDetermined =
+    (written : List Written) (one other : List (List Lit)) → AreClausesOf written one →
+    AreClausesOf written other → one ≡ other
+
+-- the clauses of each formula are few
+abbrev pub ClausesAreFew : Type 0
+ClausesAreFew =
+    (property : Property) (x : Expanded) → length (clauses_of property x) ≤ 8000000
+
+-- those of safety are
+abbrev pub SafetyClausesAreFew : Type 0
+SafetyClausesAreFew = (x : Expanded) → length (safety_clauses x) ≤ 8000000
+
+-- those of liveness are
+abbrev pub LivenessClausesAreFew : Type 0
+LivenessClausesAreFew = (x : Expanded) → length (liveness_clauses x) ≤ 8000000
+
+-- the numbers of the variables of each formula are small
+abbrev pub VariablesAreSmall : Type 0
+VariablesAreSmall = (property : Property) (x : Expanded) → IsSmall (variables_of property x)
+
+-- so its variables are few
+abbrev pub VariablesAreFew : Type 0
+VariablesAreFew =
+    (property : Property) (x : Expanded) → variable_count (variables_of property x) ≤ 2000000
