@@ -1,4 +1,4 @@
--- That a learned clause is open at the level to which the trail goes back.
+-- That a learned clause is open at the level to which the search backjumps.
 use Rattle.std.proofs.Common.{◌≡◌, ℕ, false, Some, None, option_map, IfSome, List, ◌⊎◌, inl, inr, get_or, sym, ap, ◌∙◌, subst, arith, Contains}
 use Rattle.std.proofs.lemmas.List.Elements.{All-contains}
 use Rattle.clause_core.specs.declared.literal.Lit.{Lit}
@@ -21,8 +21,8 @@ level-found : (entries : List Entry) (v n : ℕ) (e : Entry) → entry_of entrie
 level-found entries v n e found level =
     let both : Some e.level ≡ Some n = sym (ap (option_map (λ (f : Entry). f.level)) found) ∙ level in cc
 
--- after the way back a learned clause has two open literals, unless the level is 0
-pub open-learned : (t new : State) (chain : Chain) (clause : List Lit) (level : ℕ) → IsTrail t → IsLearned t chain clause → IsLowerLevel t clause level → new ≡ record t { entries = up_to level t.entries; level = level; ready = false } → (new.level ≡ 0) ⊎ HasTwoOpen new clause
+-- after the backjump a learned clause has two open literals, unless the level is 0
+pub open-learned : (t new : State) (chain : Chain) (clause : List Lit) (level : ℕ) → IsTrail t → IsLearned t chain clause → IsLowerLevel t clause level → new ≡ record t { entries = up_to level t.entries; level = level; ready = false } → (new.level ≡ 0) ⊎ HasTwoOpen new.entries new.level clause
 open-learned t new chain clause level trail learned lower back = rw back (elim lower.reached [
   | inl at_0 ↦ inl at_0
   | inr held ↦ inr (two held.0 held.1 held.2)
@@ -34,7 +34,7 @@ open-learned t new chain clause level trail learned lower back = rw back (elim l
     u_set : IsSet t u
     u_set = IsSet-false t u trail (All-contains (MakesFalse (values_of t.entries)) clause u learned.falsified learned.current.among)
 
-    two : (w : Lit) → Contains clause w → level_of t.entries w.var ≡ Some level → HasTwoOpen (record t { entries = up_to level t.entries; level = level; ready = false }) clause
+    two : (w : Lit) → Contains clause w → level_of t.entries w.var ≡ Some level → HasTwoOpen (up_to level t.entries) level clause
     two w among w_level =
         let w_set = IsSet-false t w trail (All-contains (MakesFalse (values_of t.entries)) clause w learned.falsified among) in
         let u_top : u_set.entry.level ≡ t.level = level-found t.entries u.var t.level u_set.entry u_set.found learned.current.current in

@@ -200,7 +200,7 @@ IsLearning-start f l no_empty new = record {
 }
 
 -- a search changes no clause and no step
-pub IsLearning-search : (f : Formula) (l new : Learner) → IsLearning f l → KeepsClauses l.trail new.trail → new.steps ≡ l.steps → new.lits ≡ l.lits → new.rule.queue.vars ≡ l.rule.queue.vars → IsLearning f new
+pub IsLearning-search : (f : Formula) (l new : Learner) → IsLearning f l → KeepsClauses l.trail new.trail → new.steps ≡ l.steps → new.lits ≡ l.lits → new.rule.vars ≡ l.rule.vars → IsLearning f new
 IsLearning-search f l new known keeps steps lits rule = record {
   learned = subst (HasLearned f new.trail) (sym steps) (HasLearned-search f l.trail new.trail l.steps known.learned keeps);
   lits = ap (λ m. m.set.vars) lits ∙ known.lits ∙ sym keeps.vars;

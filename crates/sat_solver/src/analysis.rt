@@ -23,9 +23,9 @@ pub struct Derivation {
     pub clause: Clause,
 }
 
-/// Resolves the false clause along the trail until one literal of the current level is left, at
-/// the first unique implication point.
-pub fn learn(
+/// Derives an asserting clause: resolves the false clause along the trail until one literal of the
+/// current level is left, at the first unique implication point.
+pub fn derive_asserting(
     alloc: Global,
     trail: &Trail,
     number: u32,
@@ -51,7 +51,7 @@ pub fn learn(
 }
 
 /// Resolves the false clause of level 0 along the whole trail, down to the empty clause.
-pub fn refute(
+pub fn derive_empty(
     alloc: Global,
     trail: &Trail,
     number: u32,

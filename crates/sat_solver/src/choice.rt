@@ -6,7 +6,7 @@ use super::decision_rule::DecisionRule;
 use clause_core::Lit;
 use sat_trail::Trail;
 
-/// How far the walks of a search came since the last way back. Both only go on until the next one.
+/// How far the walks of a search came since the last backjump. Both only go on until the next one.
 #[derive(Clone, Copy, Debug)]
 pub struct Marks {
     /// The clauses after this number are satisfied.
@@ -19,13 +19,13 @@ pub struct Marks {
 /// the lowest unset variable.
 pub fn choose(trail: &Trail, vars: u32, rule: &mut DecisionRule, marks: &mut Marks) -> Option<Lit>
     requires vars { vars ≡ trail.now.vars }
-    requires rule { rule.old.queue.vars ≡ trail.now.vars }
+    requires rule { rule.old.vars ≡ trail.now.vars }
     requires sound { IsTrail trail.now }
     requires passed { AreSetUpTo trail.now marks.old.lowest }
     ensures free { IfSome result (IsFree trail.now) }
     ensures all_set { IfNone result (AllSet trail.now) }
     ensures passed { AreSetUpTo trail.now marks.new.lowest }
-    ensures rule { rule.new.queue.vars ≡ rule.old.queue.vars }
+    ensures rule { rule.new.vars ≡ rule.old.vars }
 {
     if let Some(lit) = rule.propose(trail, &mut marks.clause) {
         if is_free(trail, vars, lit) {

@@ -8,27 +8,37 @@ use clause_core::Lit;
 use list_base::NoMemory;
 use sat_trail::Trail;
 use std::alloc::Global;
+use std::marker::Model;
 
 /// How many clauses are learned under the first rule, BerkMin's.
-const FIRST: u32 = 1000;
+const BERKMIN_CONFLICTS: u32 = 1000;
 
 /// After them, how many clauses are learned from one restart to the next. Rapid restarts are those
 /// of PicoSAT (Biere 2008).
-const EVERY: u32 = 5;
+const RESTART_INTERVAL: u32 = 5;
 
-/// Proposes the literal of each decision: by BerkMin's rule up to `FIRST` learned clauses, and then
-/// the unset variable that was moved last, with its saved value (Biere and Froehlich 2015).
+/// Proposes the literal of each decision: by BerkMin's rule up to `BERKMIN_CONFLICTS` learned
+/// clauses, and then the unset variable that was moved last, with its saved value (Biere and
+/// Froehlich 2015).
 #[derive(Drop)]
 pub struct DecisionRule {
     /// How many clauses were learned.
     learned: u32,
-    pub queue: VariableQueue,
+    queue: VariableQueue,
+}
+
+impl Model for DecisionRule {
+    ghost use Rattle.sat_solver.specs.inner.Queue.{Proposer};
+
+    ghost Value = { Proposer };
+
+    ghost view = { λ r. record { vars = r.queue.vars } };
 }
 
 impl DecisionRule {
     /// The rule before the first conflict.
     pub fn new(alloc: Global, vars: u32) -> Result<DecisionRule, NoMemory>
-        ensures { IfOk result (λ rule. rule.queue.vars ≡ vars) }
+        ensures { IfOk result (λ rule. rule.vars ≡ vars) }
     {
         Ok(DecisionRule {
             learned: 0,
@@ -39,10 +49,10 @@ impl DecisionRule {
     /// A literal to decide, if the rule has one. Whoever takes it looks whether it is unset.
     pub fn propose(&mut self, trail: &Trail, mark: &mut u32) -> Option<Lit>
         requires sound { IsTrail trail.now }
-        requires vars { self.old.queue.vars ≡ trail.now.vars }
-        ensures { self.new.queue.vars ≡ self.old.queue.vars }
+        requires vars { self.old.vars ≡ trail.now.vars }
+        ensures { self.new.vars ≡ self.old.vars }
     {
-        if self.learned < FIRST {
+        if self.learned < BERKMIN_CONFLICTS {
             newest_unsatisfied(trail, mark)
         } else {
             self.queue.newest_unset(trail)
@@ -50,8 +60,8 @@ impl DecisionRule {
     }
 
     /// Takes in a learned clause, which would assert a literal at the level, and gives the level to
-    /// go back to: this one, or 0 for a restart.
-    pub fn learn(
+    /// backjump to: this one, or 0 for a restart.
+    pub fn take_in(
         &mut self,
         alloc: Global,
         trail: &Trail,
@@ -59,9 +69,9 @@ impl DecisionRule {
         asserting: u32,
     ) -> Result<u32, NoMemory>
         requires exist { VariablesExist trail.now.vars clause.now }
-        requires vars { self.old.queue.vars ≡ trail.now.vars }
+        requires vars { self.old.vars ≡ trail.now.vars }
         ensures level { IfOk result (λ level. (level ≡ 0) ⊎ (level ≡ asserting)) }
-        ensures vars { self.new.queue.vars ≡ self.old.queue.vars }
+        ensures vars { self.new.vars ≡ self.old.vars }
     {
         self.queue.move_to_front(alloc, clause)?;
         self.learned = self.learned.saturating_add(1);
@@ -73,13 +83,14 @@ impl DecisionRule {
 
     /// Whether the search starts again at level 0.
     fn restarts(&self) -> bool {
-        self.learned == FIRST || self.learned > FIRST && self.learned.is_multiple_of(EVERY)
+        self.learned == BERKMIN_CONFLICTS
+            || self.learned > BERKMIN_CONFLICTS && self.learned.is_multiple_of(RESTART_INTERVAL)
     }
 
-    /// Saves the values that the way back to the level takes.
+    /// Saves the values that a backjump to the level takes.
     fn save_above(&mut self, trail: &Trail, level: u32)
-        requires { self.old.queue.vars ≡ trail.now.vars }
-        ensures { self.new.queue.vars ≡ self.old.queue.vars }
+        requires { self.old.vars ≡ trail.now.vars }
+        ensures { self.new.vars ≡ self.old.vars }
     {
         let mut position = trail.len();
         while position > 0 {
@@ -95,8 +106,8 @@ impl DecisionRule {
     /// Saves the value that the clause asserts, as if it had been set before a restart.
     fn save_asserted(&mut self, trail: &Trail, clause: &[Lit])
         requires exist { VariablesExist trail.now.vars clause.now }
-        requires vars { self.old.queue.vars ≡ trail.now.vars }
-        ensures { self.new.queue.vars ≡ self.old.queue.vars }
+        requires vars { self.old.vars ≡ trail.now.vars }
+        ensures { self.new.vars ≡ self.old.vars }
     {
         for lit in clause {
             if trail.level_of(lit.var) == Some(trail.level()) {

@@ -7,11 +7,11 @@ ghost use Rattle.sat_solver.specs.inner.Choice.{AllSet};
 ghost use Rattle.sat_solver.specs.inner.Learner.{IsNewLearner, LearnsOne, RefutesBy};
 ghost use Rattle.sat_solver.specs.inner.Search.{KeepsClauses};
 
-use super::analysis::{Derivation, refute};
+use super::analysis::{Derivation, derive_empty};
 use super::conflict::learn_from;
 use super::decision_rule::DecisionRule;
 use super::false_lits::FalseLits;
-use super::search::search;
+use super::search::find_conflict;
 use super::search_stats::SearchStats;
 use clause_core::Formula;
 use list_base::{NoMemory, Seq};
@@ -54,7 +54,7 @@ impl<'f> Learner<'f> {
     pub fn search(&mut self, vars: u32, stats: &mut SearchStats) -> Option<u32>
         requires sound { IsTrail self.old.trail }
         requires vars { vars ≡ self.old.trail.vars }
-        requires rule { self.old.rule.queue.vars ≡ self.old.trail.vars }
+        requires rule { self.old.rule.vars ≡ self.old.trail.vars }
         ensures keeps { KeepsClauses self.old.trail self.new.trail }
         ensures falsified { let values = values_of self.new.trail.entries in
             IfSome result (IsFalsified (numbering_of self.new.trail) values) }
@@ -63,9 +63,9 @@ impl<'f> Learner<'f> {
         ensures all_set { IfNone result (AllSet self.new.trail) }
         ensures steps { self.new.steps ≡ self.old.steps }
         ensures lits { self.new.lits ≡ self.old.lits }
-        ensures rule { self.new.rule.queue.vars ≡ self.old.rule.queue.vars }
+        ensures rule { self.new.rule.vars ≡ self.old.rule.vars }
     {
-        search(&mut self.trail, vars, &mut self.rule, stats)
+        find_conflict(&mut self.trail, vars, &mut self.rule, stats)
     }
 
     /// Learns a clause from the false one of this number, above level 0.
@@ -76,7 +76,7 @@ impl<'f> Learner<'f> {
         requires above { 0 < self.old.trail.level }
         requires few { last_number self.old.trail + 1 < 2 ^ 32 }
         requires vars { self.old.lits.set.vars ≡ self.old.trail.vars }
-        requires rule { self.old.rule.queue.vars ≡ self.old.trail.vars }
+        requires rule { self.old.rule.vars ≡ self.old.trail.vars }
         ensures { OnOk result (LearnsOne self.old self.new) }
     {
         let chain = learn_from(
@@ -98,7 +98,12 @@ impl<'f> Learner<'f> {
         requires vars { self.old.lits.set.vars ≡ self.old.trail.vars }
         ensures { OnOk result (RefutesBy number self.old self.new) }
     {
-        let Derivation { chain, clause: _ } = refute(alloc, &self.trail, number, &mut self.lits)?;
+        let Derivation { chain, clause: _ } = derive_empty(
+            alloc,
+            &self.trail,
+            number,
+            &mut self.lits,
+        )?;
         self.steps.push(chain)
     }
 

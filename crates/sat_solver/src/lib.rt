@@ -1,4 +1,4 @@
-//! A solver that learns a clause at each conflict, with a log of what it learned.
+//! A solver that learns clauses, and logs what it learned.
 #![tactic(auto)]
 
 mod analysis;

@@ -5,7 +5,7 @@ use clause_core::Lit;
 use sat_trail::Trail;
 
 /// The last unset literal of the newest clause that is not satisfied (BerkMin, Goldberg and
-/// Novikov 2002). The clauses after `mark` are satisfied until the next way back.
+/// Novikov 2002). The clauses after `mark` are satisfied until the next backjump.
 pub fn newest_unsatisfied(trail: &Trail, mark: &mut u32) -> Option<Lit>
     requires { IsTrail trail.now }
 {

@@ -12,14 +12,14 @@ use super::search_stats::SearchStats;
 use sat_trail::Trail;
 
 /// Decides and propagates until a clause is false, whose number it gives, or all variables are set.
-pub fn search(
+pub fn find_conflict(
     trail: &mut Trail,
     vars: u32,
     rule: &mut DecisionRule,
     stats: &mut SearchStats,
 ) -> Option<u32>
     requires vars { vars ≡ trail.old.vars }
-    requires rule { rule.old.queue.vars ≡ trail.old.vars }
+    requires rule { rule.old.vars ≡ trail.old.vars }
     requires sound { IsTrail trail.old }
     ensures keeps { KeepsClauses trail.old trail.new }
     ensures falsified { let values = values_of trail.new.entries in
@@ -27,7 +27,7 @@ pub fn search(
     ensures propagated { let values = values_of trail.new.entries in
         IfNone result (IsPropagated values (numbering_of trail.new)) }
     ensures all_set { IfNone result (AllSet trail.new) }
-    ensures rule { rule.new.queue.vars ≡ rule.old.queue.vars }
+    ensures rule { rule.new.vars ≡ rule.old.vars }
 {
     let mut marks = Marks {
         clause: trail.last_number(),

@@ -1,4 +1,5 @@
 /// How much was done until an answer. Each number stays at its greatest value once it is there.
+/// The numbers are counted and not proved: no contract says how large they are.
 #[derive(Clone, Copy, Debug, PartialEq, Eq)]
 pub struct SearchStats {
     /// How many clauses were found false.

@@ -12,7 +12,7 @@ use Rattle.sat_trail.specs.declared.watch.Cell.{Cell}
 use Rattle.sat_trail.specs.Entry.{last_level}
 use Rattle.sat_trail.specs.State.{State}
 use Rattle.sat_trail.specs.Trail.{HasTwoOpen, IsStart}
-use Rattle.sat_trail.specs.inner.Attach.{ReservesCells, HasOpenTwo, AreChosen, IsAttached, IsAttachedTo, IsUnwatched}
+use Rattle.sat_trail.specs.inner.Attach.{ReservesCells, AreChosen, IsAttached, IsAttachedTo, IsUnwatched}
 use Rattle.sat_trail.specs.inner.Excuse.{Progress, WatchesTwo, WatchesNone, AreWatched}
 use Rattle.sat_trail.specs.inner.Growth.{Grows, IsGrown}
 use Rattle.sat_trail.specs.inner.Propagation.{IsKept, state_of}
@@ -74,22 +74,22 @@ IsKept-reserved clauses cells new heads new_heads set level head examined ready 
 })
 
 -- a new clause has two open literals, if it has two
-pub open-two : (clauses : List (Option (List Lit))) (set : Assigned) (level : ℕ) (ready : Bool) (c : List Lit) → IsGrown (state_of clauses set level ready) → IsAscending c → (level ≡ 0) ⊎ HasTwoOpen (state_of clauses set level ready) c → 2 ≤ length c → HasOpenTwo set.entries level c
+pub open-two : (clauses : List (Option (List Lit))) (set : Assigned) (level : ℕ) (ready : Bool) (c : List Lit) → IsGrown (state_of clauses set level ready) → IsAscending c → (level ≡ 0) ⊎ HasTwoOpen set.entries level c → 2 ≤ length c → HasTwoOpen set.entries level c
 open-two clauses set level ready c trail ascending opens two = elim opens [
-  | inl low ↦ subst (λ k. HasOpenTwo set.entries k c) (sym low)
+  | inl low ↦ subst (λ k. HasTwoOpen set.entries k c) (sym low)
       (open-low set.entries c (subst (λ k. All (λ e. e.level ≤ k) set.entries) (trail.level ∙ low) (IsTop-grown (live clauses) [] set.entries trail.grown IsTop-none)) ascending two)
-  | inr open_two ↦ record { one = open_two.one; other = open_two.other; differ = open_two.differ; one_among = open_two.one_among; other_among = open_two.other_among; one_open = open_two.one_open; other_open = open_two.other_open }
+  | inr open_two ↦ open_two
 ]
 
 -- a clause of fewer literals comes at level 0
-short-low : (t : State) (c : List Lit) → (t.level ≡ 0) ⊎ HasTwoOpen t c → length c < 2 → t.level ≡ 0
+short-low : (t : State) (c : List Lit) → (t.level ≡ 0) ⊎ HasTwoOpen t.entries t.level c → length c < 2 → t.level ≡ 0
 short-low t c opens few = elim opens [
   | inl low ↦ low
   | inr two ↦ absurd (omega (arith, few, two-literals c two.one two.other two.differ two.one_among two.other_among))
 ]
 
 -- the parts of a trail with one clause more
-pub IsKept-add : (clauses new_clauses : List (Option (List Lit))) (cells new : List Cell) (heads new_heads : List ℕ) (set : Assigned) (level head examined : ℕ) (ready : Bool) (c : List Lit) (watched : Option (Lit × Lit)) → IsKept clauses cells heads set level head examined ready → VariablesExist set.vars c → length clauses + 1 < 4294967296 → (level ≡ 0) ⊎ HasTwoOpen (state_of clauses set level ready) c → length clauses + 1 < length cells → IfSome watched (λ pair. AreChosen set.entries level c pair.0 pair.1) → IfNone watched (length c < 2) → AreLinked set.vars new new_heads → IsAttachedTo cells new (length clauses + 1) watched → new_clauses ≡ clauses ++ Some c ∷ [] → IsKept new_clauses new new_heads set level head examined false
+pub IsKept-add : (clauses new_clauses : List (Option (List Lit))) (cells new : List Cell) (heads new_heads : List ℕ) (set : Assigned) (level head examined : ℕ) (ready : Bool) (c : List Lit) (watched : Option (Lit × Lit)) → IsKept clauses cells heads set level head examined ready → VariablesExist set.vars c → length clauses + 1 < 4294967296 → (level ≡ 0) ⊎ HasTwoOpen set.entries level c → length clauses + 1 < length cells → IfSome watched (λ pair. AreChosen set.entries level c pair.0 pair.1) → IfNone watched (length c < 2) → AreLinked set.vars new new_heads → IsAttachedTo cells new (length clauses + 1) watched → new_clauses ≡ clauses ++ Some c ∷ [] → IsKept new_clauses new new_heads set level head examined false
 IsKept-add clauses new_clauses cells new heads new_heads set level head examined ready c watched kept exist few opens room chosen none linked attached grows = rw grows (record {
   few = omega (arith, few, length-append clauses (Some c ∷ []));
   trail = IsGrown-add clauses set level ready c kept.trail exist opens;
@@ -108,7 +108,7 @@ IsKept-add clauses new_clauses cells new heads new_heads set level head examined
     p = record { level = level; head = head; examined = examined }
 
 -- the same, by what the calls say
-pub IsKept-attached : (clauses new_clauses : List (Option (List Lit))) (cells new : List Cell) (heads new_heads : List ℕ) (set : Assigned) (level head examined : ℕ) (ready : Bool) (c lits : List Lit) (watched : Option (Lit × Lit)) (len vars : ℕ) → len ≡ length clauses → vars ≡ set.vars → lits ≡ c → IsKept clauses cells heads set level head examined ready → VariablesExist set.vars c → length clauses + 1 < 4294967296 → (level ≡ 0) ⊎ HasTwoOpen (state_of clauses set level ready) c → len + 1 < length cells → IfSome watched (λ pair. AreChosen set.entries level lits pair.0 pair.1) → IfNone watched (length lits < 2) → AreLinked vars new new_heads → IsAttachedTo cells new (len + 1) watched → new_clauses ≡ clauses ++ Some c ∷ [] → IsKept new_clauses new new_heads set level head examined false
+pub IsKept-attached : (clauses new_clauses : List (Option (List Lit))) (cells new : List Cell) (heads new_heads : List ℕ) (set : Assigned) (level head examined : ℕ) (ready : Bool) (c lits : List Lit) (watched : Option (Lit × Lit)) (len vars : ℕ) → len ≡ length clauses → vars ≡ set.vars → lits ≡ c → IsKept clauses cells heads set level head examined ready → VariablesExist set.vars c → length clauses + 1 < 4294967296 → (level ≡ 0) ⊎ HasTwoOpen set.entries level c → len + 1 < length cells → IfSome watched (λ pair. AreChosen set.entries level lits pair.0 pair.1) → IfNone watched (length lits < 2) → AreLinked vars new new_heads → IsAttachedTo cells new (len + 1) watched → new_clauses ≡ clauses ++ Some c ∷ [] → IsKept new_clauses new new_heads set level head examined false
 IsKept-attached clauses new_clauses cells new heads new_heads set level head examined ready c lits watched len vars counted same_vars same kept exist few opens room chosen none linked attached grows =
     IsKept-add clauses new_clauses cells new heads new_heads set level head examined ready c watched kept exist few opens (omega (arith, room, counted))
     (subst (λ ls. IfSome watched (λ (pair : Lit × Lit). AreChosen set.entries level ls pair.0 pair.1)) same chosen)
@@ -173,8 +173,8 @@ attached-start vars clauses cells heads cells_are heads_are = record {
     unwatched n = subst IsUnwatched (sym (blank-cell n)) blank-unwatched
 
 -- a new clause has two open literals while no literal is set
-pub open-empty : (es : List Entry) (c : List Lit) → es ≡ [] → IsAscending c → 2 ≤ length c → HasOpenTwo es 0 c
-open-empty es c empty ascending two = subst (λ xs. HasOpenTwo xs 0 c) (sym empty) (open-low [] c (λ k d within. absurd (omega arith)) ascending two)
+pub open-empty : (es : List Entry) (c : List Lit) → es ≡ [] → IsAscending c → 2 ≤ length c → HasTwoOpen es 0 c
+open-empty es c empty ascending two = subst (λ xs. HasTwoOpen xs 0 c) (sym empty) (open-low [] c (λ k d within. absurd (omega arith)) ascending two)
 
 -- the next clause watches nothing yet
 pub attached-blank : (vars i n : ℕ) (clauses : List (List Lit)) (cells : List Cell) (heads : List ℕ) → n ≡ i → i < length clauses → IsAttached vars i clauses cells heads → IsUnwatched (cell_of cells (n + 1))

@@ -11,7 +11,8 @@ use Rattle.sat_trail.specs.declared.entry.Entry.{Entry}
 use Rattle.sat_trail.specs.declared.watch.Watch.{Watch}
 use Rattle.sat_trail.specs.declared.watch.Cell.{Cell}
 use Rattle.sat_trail.specs.Entry.{entry_of}
-use Rattle.sat_trail.specs.inner.Attach.{IsOpenAt, HasOpenTwo, MayWatch, AreChosen, IsUnwatched, ArePair, IsAttachedTo}
+use Rattle.sat_trail.specs.Trail.{IsOpen, HasTwoOpen}
+use Rattle.sat_trail.specs.inner.Attach.{MayWatch, AreChosen, IsUnwatched, ArePair, IsAttachedTo}
 use Rattle.sat_trail.specs.inner.Excuse.{Progress, is_new, IsWatched, WatchesTwo, WatchesNone, AreWatched}
 use Rattle.sat_trail.specs.inner.Watches.{blank, cell_of, watch, HasLink, by_one, by_other, Watches, WatchesApart, head_of, IsChain, IsListed, IsWithin, AreLinked}
 use Rattle.sat_trail.proofs.LiteralLemmas.{cases_literal}
@@ -135,10 +136,10 @@ AreLinked-link vars cells new heads new_heads n one other linked some within unw
 -- a new clause watches the literals that were chosen
 chosen-two : (es : List Entry) (p : Progress) (n : ℕ) (c : List Lit) (l other : Lit) → IsOnce es → p.examined < n → MayWatch es p.level c l other → IsWatched es p n c l other
 chosen-two es p n c l other once late may = record {
-  among = may.among;
-  differs = may.differs;
+  among = may.left.among;
+  differs = may.left.differs;
   excused = λ i e got fails.
-      let last = may.last (value-false es i e l once got fails) in
+      let last = may.left.last (value-false es i e l once got fails) in
       let found : entry_of es l.var ≡ Some e = subst (λ (k : Lit). entry_of es k.var ≡ Some e) fails (entry_of-among es e once (at-among es i e got)) in
       is_new late (subst (λ o. IfSome o (λ f. f.level ≡ p.level)) found last.0) last.1;
 }
@@ -210,10 +211,10 @@ AreWatched-add clauses c cells new es p watched once room unwatched low chosen n
     }
     last-none (Some pair) is few =
         let are = chosen pair.0 pair.1 is in
-        absurd (omega (arith, few, two-literals c pair.0 pair.1 are.first.differs are.first.among are.second.among))
+        absurd (omega (arith, few, two-literals c pair.0 pair.1 are.first.left.differs are.first.left.among are.second.left.among))
 
 -- at level 0 each literal is open
-pub open-low : (es : List Entry) (c : List Lit) → All (λ e. e.level ≤ 0) es → IsAscending c → 2 ≤ length c → HasOpenTwo es 0 c
+pub open-low : (es : List Entry) (c : List Lit) → All (λ e. e.level ≤ 0) es → IsAscending c → 2 ≤ length c → HasTwoOpen es 0 c
 open-low es [] top ascending two = absurd (omega (arith, two))
 open-low es (k ∷ []) top ascending two = absurd (omega (arith, two))
 open-low es (k ∷ (h ∷ rest)) top ascending two = record {
@@ -226,7 +227,7 @@ open-low es (k ∷ (h ∷ rest)) top ascending two = record {
   other_open = opened h (entry_of es h.var) refl;
 }
   where
-    opened : (l : Lit) (o : Option Entry) → entry_of es l.var ≡ o → IsOpenAt es 0 l
+    opened : (l : Lit) (o : Option Entry) → entry_of es l.var ≡ o → IsOpen es 0 l
     opened l None is = subst (λ o. IfSome o (λ (e : Entry). e.level ≡ 0)) (sym is) tt
     opened l (Some e) is = subst (λ o. IfSome o (λ (f : Entry). f.level ≡ 0)) (sym is)
         (omega (arith, All-contains (λ (f : Entry). f.level ≤ 0) es e top (entry_of-member es l.var e is)))

@@ -1,5 +1,5 @@
--- What a decision, a new clause and a way back keep of a trail.
-use Rattle.std.proofs.Common.{◌≡◌, ◌≢◌, ℕ, zero, suc, ◌+◌, ◌<◌, ◌≤◌, Bool, false, Option, Some, None, option_map, IfSome, IsTrue, List, [], ◌∷◌, ◌++◌, ◌⊎◌, inl, inr, length, get_or, sym, ap, refl, ◌∙◌, subst, append-nil, arith, All, Contains, length-append}
+-- What a decision, a new clause and a backtrack keep of a trail.
+use Rattle.std.proofs.Common.{◌≡◌, ℕ, zero, suc, ◌+◌, ◌<◌, ◌≤◌, Bool, false, Option, Some, None, option_map, IfSome, IsTrue, List, [], ◌∷◌, ◌++◌, ◌⊎◌, inl, inr, length, get_or, sym, ap, refl, ◌∙◌, subst, append-nil, arith, All, length-append}
 use Rattle.std.proofs.lemmas.List.Elements.{All-contains, All-head, All-push}
 use Rattle.std.proofs.lemmas.List.{get_or_append_left}
 use Rattle.clause_core.specs.declared.literal.Lit.{Lit}
@@ -80,18 +80,8 @@ IsPropagated-widens values old clause new widens propagated settled = record {
   ];
 }
 
--- the clause is open at the level, over the entries
-record IsOpenClause (entries : List Entry) (level : ℕ) (clause : List Lit) : Type 0 where
-  one : Lit
-  other : Lit
-  differ : one ≢ other
-  one_among : Contains clause one
-  other_among : Contains clause other
-  one_open : IfSome (entry_of entries one.var) (λ e. e.level ≡ level)
-  other_open : IfSome (entry_of entries other.var) (λ e. e.level ≡ level)
-
 -- before a decision of the last level, or of an earlier one, propagation has nothing to do with the clause
-decision-add : (old : Numbering) (clause : List Lit) (new : Numbering) (before rest : List Entry) (e : Entry) (level : ℕ) → Widens old clause new → IsTop before → last_level before < level → IsDecision old before e → IsOpenClause (before ++ e ∷ rest) level clause → IsDecision new before e
+decision-add : (old : Numbering) (clause : List Lit) (new : Numbering) (before rest : List Entry) (e : Entry) (level : ℕ) → Widens old clause new → IsTop before → last_level before < level → IsDecision old before e → HasTwoOpen (before ++ e ∷ rest) level clause → IsDecision new before e
 decision-add old clause new before rest e level widens top low decision is_open = record {
   no_reason = decision.no_reason;
   raises = decision.raises;
@@ -102,13 +92,13 @@ decision-add old clause new before rest e level widens top low decision is_open 
 }
 
 -- entries follow one another over one clause more that is open
-Grows-add : (old : Numbering) (clause : List Lit) (new : Numbering) (before rest : List Entry) (level : ℕ) → Widens old clause new → Grows old before rest → IsTop before → last_level (before ++ rest) ≡ level → (level ≡ 0) ⊎ IsOpenClause (before ++ rest) level clause → Grows new before rest
+Grows-add : (old : Numbering) (clause : List Lit) (new : Numbering) (before rest : List Entry) (level : ℕ) → Widens old clause new → Grows old before rest → IsTop before → last_level (before ++ rest) ≡ level → (level ≡ 0) ⊎ HasTwoOpen (before ++ rest) level clause → Grows new before rest
 Grows-add old clause new before [] level widens follows top at_level is_open = tt
 Grows-add old clause new before (e ∷ rest) level widens follows top at_level is_open = (
   record { no_value = follows.0.no_value; cause = cause-add follows.0.cause },
   Grows-add old clause new (before ++ e ∷ []) rest level widens follows.1 (IsTop-push old before e follows.0 top)
       (ap last_level (moved before e rest) ∙ at_level)
-      (subst (λ es. (level ≡ 0) ⊎ IsOpenClause es level clause) (sym (moved before e rest)) is_open),
+      (subst (λ es. (level ≡ 0) ⊎ HasTwoOpen es level clause) (sym (moved before e rest)) is_open),
 )
   where
     reaches : e.level ≤ level
@@ -136,13 +126,6 @@ Grows-add old clause new before (e ∷ rest) level widens follows top at_level i
       | inr forced ↦ inr (forced-kept forced)
     ]
 
--- what the condition of an addition says over the entries
-open-clause : (t : State) (clause : List Lit) → (t.level ≡ 0) ⊎ HasTwoOpen t clause → (t.level ≡ 0) ⊎ IsOpenClause t.entries t.level clause
-open-clause t clause is_open = elim is_open [
-  | inl low ↦ inl low
-  | inr two ↦ inr (record { one = two.one; other = two.other; differ = two.differ; one_among = two.one_among; other_among = two.other_among; one_open = two.one_open; other_open = two.other_open })
-]
-
 -- below the first entry that is taken out a level is complete, and propagation had nothing to do
 back_to-parts : (clauses : List (Option (List Lit))) (old kept : List Entry) (first : Entry) (rest : List Entry) (level : ℕ) → Grows (live clauses) [] old → old ≡ kept ++ first ∷ rest → last_level kept ≤ level → level < first.level → (Grows (live clauses) [] kept) × (last_level kept ≡ level) × IsPropagated (values_of kept) (live clauses)
 back_to-parts clauses old kept first rest level follows whole low high =
@@ -150,7 +133,7 @@ back_to-parts clauses old kept first rest level follows whole low high =
     let last = decision-above (live clauses) kept first level parts.1.0 low high in
     (parts.0, last.0, last.1)
 
--- the parts of a trail after the way back, by what was taken out
+-- the parts of a trail after a backtrack, by what was taken out
 IsKept-dropped : (clauses : List (Option (List Lit))) (cells : List Cell) (heads : List ℕ) (old new : Assigned) (level level' head examined : ℕ) (ready : Bool) (dropped : List Entry) → IsKept clauses cells heads old level head examined ready → level' < level → new.vars ≡ old.vars → old.entries ≡ new.entries ++ dropped → All (λ e. level' < e.level) dropped → last_level new.entries ≤ level' → IsKept clauses cells heads new level' (length new.entries) examined false
 IsKept-dropped clauses cells heads old new level level' head examined ready [] kept lower vars whole above low =
     absurd (omega (arith, ap last_level (whole ∙ append-nil new.entries), kept.trail.level))
@@ -175,12 +158,12 @@ IsKept-dropped clauses cells heads old new level level' head examined ready (fir
     parts : (Grows (live clauses) [] new.entries) × (last_level new.entries ≡ level') × IsPropagated (values_of new.entries) (live clauses)
     parts = back_to-parts clauses old.entries new.entries first rest level' kept.trail.grown whole low (All-head (λ e. level' < e.level) first rest above)
 
--- the parts of a trail after the way back
+-- the parts of a trail after a backtrack
 pub IsKept-back : (clauses : List (Option (List Lit))) (cells : List Cell) (heads : List ℕ) (old new : Assigned) (level level' head head' examined : ℕ) (ready : Bool) → IsKept clauses cells heads old level head examined ready → level' < level → StartsWith level' old new → last_level new.entries ≤ level' → head' ≡ length new.entries → IsKept clauses cells heads new level' head' examined false
 IsKept-back clauses cells heads old new level level' head head' examined ready kept lower begins low at_end =
     rw at_end (IsKept-dropped clauses cells heads old new level level' head examined ready begins.dropped kept lower begins.vars begins.whole begins.above low)
 
--- the entries after the way back are those up to the level
+-- the entries after a backtrack are those up to the level
 back_to-entries : (clauses : List (Option (List Lit))) (cells : List Cell) (heads : List ℕ) (old new : Assigned) (level' head' examined : ℕ) → IsKept clauses cells heads new level' head' examined false → StartsWith level' old new → up_to level' old.entries ≡ new.entries
 back_to-entries clauses cells heads old new level' head' examined kept begins =
     ap (up_to level') begins.whole ∙ up_to-both level' new.entries begins.dropped
@@ -191,7 +174,7 @@ pub back_to-same : (clauses : List (Option (List Lit))) (set : Assigned) (level 
 back_to-same clauses set level ready trail = up_to-low level set.entries
     (subst (λ n. All (λ e. e.level ≤ n) set.entries) trail.level (IsTop-grown (live clauses) [] set.entries trail.grown IsTop-none))
 
--- what contracts see after the way back
+-- what contracts see after a backtrack
 pub back_to-state : (clauses : List (Option (List Lit))) (cells : List Cell) (heads : List ℕ) (old new : Assigned) (level level' head' examined : ℕ) (ready : Bool) → IsKept clauses cells heads new level' head' examined false → StartsWith level' old new → state_of clauses new level' false ≡ record (state_of clauses old level ready) { entries = up_to level' old.entries; level = level'; ready = false }
 back_to-state clauses cells heads old new level level' head' examined ready kept begins =
     ap (λ vars. let s : State = record { vars = vars; clauses = clauses; entries = new.entries; level = level'; ready = false } in s) begins.vars
@@ -225,9 +208,9 @@ Adds-push old clause new number grows counted = rw grows (record {
     next = counted ∙ ap (λ (s : State). length s.clauses) grows ∙ sym whole
 
 -- a trail with one clause more that is open
-pub IsGrown-add : (clauses : List (Option (List Lit))) (set : Assigned) (level : ℕ) (ready : Bool) (clause : List Lit) → IsGrown (state_of clauses set level ready) → VariablesExist set.vars clause → (level ≡ 0) ⊎ HasTwoOpen (state_of clauses set level ready) clause → IsGrown (state_of (clauses ++ Some clause ∷ []) set level false)
+pub IsGrown-add : (clauses : List (Option (List Lit))) (set : Assigned) (level : ℕ) (ready : Bool) (clause : List Lit) → IsGrown (state_of clauses set level ready) → VariablesExist set.vars clause → (level ≡ 0) ⊎ HasTwoOpen set.entries level clause → IsGrown (state_of (clauses ++ Some clause ∷ []) set level false)
 IsGrown-add clauses set level ready clause trail exist is_open = record {
-  grown = Grows-add (live clauses) clause (live (clauses ++ Some clause ∷ [])) [] set.entries level (Widens-push clauses clause) trail.grown IsTop-none trail.level (open-clause (state_of clauses set level ready) clause is_open);
+  grown = Grows-add (live clauses) clause (live (clauses ++ Some clause ∷ [])) [] set.entries level (Widens-push clauses clause) trail.grown IsTop-none trail.level is_open;
   level = trail.level;
   exist = trail.exist;
   clauses_exist = λ n c has. elim ((Widens-push clauses clause).only n c has) [

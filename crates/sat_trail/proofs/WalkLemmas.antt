@@ -13,8 +13,8 @@ use Rattle.sat_trail.specs.inner.Storage.{Assigned}
 use Rattle.sat_trail.specs.declared.propagation.Visit.TheVariants.{Stays, Moves, Fails}
 use Rattle.sat_trail.specs.inner.Visit.{IsFalseAt, CanVisit, IsVisit, KeepsLists}
 use Rattle.sat_trail.specs.inner.Walk.{IsWalk, AreOthersListed, Walks}
-use Rattle.sat_trail.specs.inner.Watches.{cell_of, IsTurn, HasLink, Watches, KeepsLits, head_of, IsDistinct, IsListed, AreLinked}
-use Rattle.sat_trail.proofs.ChainLemmas.{joined-cases, distinct-apart, chain-member, walk-start, walk-end, walk-member, walk-stays, walk-next, walk-none}
+use Rattle.sat_trail.specs.inner.Watches.{cell_of, IsTurn, HasLink, KeepsLits, head_of, IsDistinct, IsListed, AreLinked}
+use Rattle.sat_trail.proofs.ChainLemmas.{joined-cases, distinct-apart, chain-member, walk-start, walk-end, walk-stays, walk-next, walk-none}
 use Rattle.sat_trail.proofs.GrowthLemmas.{Runs, Runs-none, Runs-more}
 use Rattle.sat_trail.proofs.LiteralLemmas.{cases_literal}
 use Rattle.sat_trail.proofs.ValueLemmas.{IsTrueBy-more, at-left}

@@ -102,7 +102,7 @@ IsTrueBy-kept kept dropped level low l under above t = record {
   low = t.low;
 }
 
--- an excuse after the way back
+-- an excuse after a backtrack
 excused-back : (kept dropped : List Entry) (p q : Progress) (n : ℕ) (c : List Lit) (other : Lit) (i : ℕ) (e : Entry) (level : ℕ) → level < p.level → e.level ≤ level → (p.head ≤ i → e.level ≡ p.level) → All (λ f. level < f.level) dropped → IsExcused (kept ++ dropped) p n c other i e → IsExcused kept q n c other i e
 excused-back kept dropped p q n c other i e level lower low waiting above (is_satisfied t) = is_satisfied (IsTrueBy-kept kept dropped level e.level other low above t)
 excused-back kept dropped p q n c other i e level lower low waiting above (is_waiting past) = absurd (omega (arith, waiting past, low, lower))

@@ -57,19 +57,19 @@ pub record Removes (old : State) (number : ℕ) (new : State) : Type 0 where
   pub last : last_number new ≡ last_number old
   pub rest : new ≡ record old { clauses = new.clauses }
 
--- the literal is unset, or was set at the current level
-abbrev pub IsOpen : State → Lit → Type 0
-IsOpen t l = IfSome (entry_of t.entries l.var) (λ e. e.level ≡ t.level)
+-- the literal is unset, or was set at the level
+abbrev pub IsOpen : List Entry → ℕ → Lit → Type 0
+IsOpen entries level l = IfSome (entry_of entries l.var) (λ e. e.level ≡ level)
 
--- two literals of the clause are unset or were set at the current level
-pub record HasTwoOpen (t : State) (clause : List Lit) : Type 0 where
+-- two literals of the clause are unset or were set at the level
+pub record HasTwoOpen (entries : List Entry) (level : ℕ) (clause : List Lit) : Type 0 where
   pub one : Lit
   pub other : Lit
   pub differ : one ≢ other
   pub one_among : Contains clause one
   pub other_among : Contains clause other
-  pub one_open : IsOpen t one
-  pub other_open : IsOpen t other
+  pub one_open : IsOpen entries level one
+  pub other_open : IsOpen entries level other
 
 -- the entries that were added are of the current level and have reasons; the rest stays
 pub record Propagates (old new : State) : Type 0 where

@@ -1,4 +1,4 @@
-//! The trail of a solver: set literals with their levels and reasons, and unit propagation.
+//! The trail: set literals, levels, reasons and unit propagation.
 #![tactic(auto)]
 
 mod clause_store;

@@ -46,7 +46,7 @@ impl PackedLit {
         }
     }
 
-    /// The literal's place in a list with one item for each literal.
+    /// The literal's index in a list with one item for each literal.
     pub fn rank(self) -> usize
         ensures { result ≡ rank self }
     {

@@ -7,7 +7,6 @@ ghost use Rattle.sat_trail.specs.inner.Examination.{IsSettledAt};
 ghost use Rattle.sat_trail.specs.inner.Excuse.{IsTrueBy};
 ghost use Rattle.sat_trail.specs.inner.Propagation.{CanPropagate, Extends, HasWatches};
 ghost use Rattle.sat_trail.specs.inner.Visit.{IsLastLeft, CanPass, CanVisit, IsVisit, KeepsLists};
-ghost use Rattle.sat_trail.specs.declared.propagation.Cursor.{Cursor as Place};
 ghost use Rattle.sat_trail.specs.inner.Watches.{AreLinked};
 
 use super::clause_store::ClauseStore;
@@ -31,27 +30,7 @@ struct Cursor {
     number: u32,
 }
 
-impl Cursor {
-    /// The place of a clause in the list of the literal.
-    fn new(position: usize, lit: PackedLit, before: u32, number: u32) -> Cursor
-        ensures { let at : Place = record {
-          position = position;
-          lit = lit;
-          before = before;
-          number = number;
-        } in
-            result ≡ at }
-    {
-        Cursor {
-            position,
-            lit,
-            before,
-            number,
-        }
-    }
-}
-
-/// What becomes of a clause's place in the list of a literal that is false.
+/// What becomes of a clause in the list of a literal that is false.
 enum Visit {
     /// It stays. The clause of this number comes next.
     Stays(u32),
@@ -204,7 +183,12 @@ fn propagate_entry(
         if number == 0 {
             return None;
         }
-        let at = Cursor::new(position, lit, before, number);
+        let at = Cursor {
+            position,
+            lit,
+            before,
+            number,
+        };
         match visit_clause(store, lists, set, at, level) {
             Visit::Stays(next) => {
                 before = number;

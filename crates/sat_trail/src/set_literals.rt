@@ -187,3 +187,16 @@ impl Entries {
         self.slots[self.len - 1].level
     }
 }
+
+/// Takes the entries of the levels above this one out. The clauses and the lists of their watches
+/// are out of its reach, so that a backtrack changes none of them.
+pub fn backtrack(set: &mut Entries, head: &mut usize, level: &mut u32, to: u32)
+    ensures dropped { StartsWith to set.old set.new }
+    ensures last { last_level set.new.entries ≤ to }
+    ensures head { head.new ≡ length set.new.entries }
+    ensures level { level.new ≡ to }
+{
+    set.back_to(to);
+    *level = to;
+    *head = set.len();
+}

@@ -10,7 +10,7 @@ ghost use Rattle.sat_trail.specs.Trail.{IsTrail, IsStart, Adds, HasTwoOpen, IsNo
 use super::clause_store::ClauseStore;
 use super::entry::Entry;
 use super::propagation::{examine_new, propagate_entries};
-use super::set_literals::Entries;
+use super::set_literals::{Entries, backtrack};
 use super::watch_choice::{choose, watch_all};
 use super::watch_lists::WatchLists;
 use clause_core::{Clause, Formula, Lit};
@@ -73,7 +73,7 @@ impl<'f> Trail<'f> {
     pub fn add(&mut self, c: Clause) -> Result<u32, NoMemory>
         requires exist { VariablesExist self.old.vars c }
         requires few { last_number self.old + 1 < 2 ^ 32 }
-        requires open { (self.old.level ≡ 0) ⊎ HasTwoOpen self.old c }
+        requires open { (self.old.level ≡ 0) ⊎ HasTwoOpen self.old.entries self.old.level c }
         ensures ok { IfOk result (Adds self.old c self.new) }
         ensures err { OnErr result (self.new ≡ self.old) }
         ensures sound { IsTrail self.new }
@@ -157,7 +157,8 @@ impl<'f> Trail<'f> {
         self.ready = false;
     }
 
-    /// Takes the literals of the levels above this one out.
+    /// Backtracks: takes the literals of the levels above this one out. The clauses and the lists of
+    /// their watches stay as they are.
     pub fn back_to(&mut self, level: u32)
         requires { level ≤ self.old.level }
         ensures kept { let entries = up_to level self.old.entries in
@@ -165,12 +166,9 @@ impl<'f> Trail<'f> {
         ensures sound { IsTrail self.new }
     {
         self.ready = false;
-        if level == self.level {
-            return;
+        if level < self.level {
+            backtrack(&mut self.set, &mut self.head, &mut self.level, level);
         }
-        self.set.back_to(level);
-        self.level = level;
-        self.head = self.set.len();
     }
 
     /// The number of decisions that hold.

@@ -4,8 +4,9 @@ ghost use Rattle.std.specs.Bool.{OnTrue, OnFalse};
 ghost use Rattle.clause_core.specs.Clause.{VariablesExist};
 ghost use Rattle.clause_core.specs.Propagation.{MakesFalse, OthersFalse};
 ghost use Rattle.sat_trail.specs.Entry.{values_of};
-ghost use Rattle.sat_trail.specs.inner.Attach.{IsOpenAt, HasOpenTwo, MayWatch, AreClosed, AreChosen};
-ghost use Rattle.sat_trail.specs.inner.Attach.{IsAttached};
+ghost use Rattle.sat_trail.specs.Trail.{IsOpen, HasTwoOpen};
+ghost use Rattle.sat_trail.specs.inner.Attach.{MayWatch, AreClosed, AreChosen};
+ghost use Rattle.sat_trail.specs.inner.Attach.{IsAttached, IsFreeBeside, IsNotFreeBeside, AreNotFree, IsLeft};
 ghost use Rattle.sat_trail.specs.inner.Watches.{blank};
 
 use super::packed_lit::PackedLit;
@@ -54,17 +55,43 @@ pub fn not_false(set: &Entries, clause: &[PackedLit], kept: PackedLit) -> Option
 fn is_spare(set: &Entries, lit: Lit, kept: Lit, level: u32) -> bool
     requires from_one { 0 < lit.var }
     requires exists { lit.var ≤ set.now.vars }
-    ensures yes { OnTrue result ((lit ≢ kept) × IsOpenAt set.now.entries level lit) }
-    ensures no { OnFalse result (lit ≢ kept → ¬ IsOpenAt set.now.entries level lit) }
+    ensures yes { OnTrue result ((lit ≢ kept) × IsOpen set.now.entries level lit) }
+    ensures no { OnFalse result (lit ≢ kept → ¬ IsOpen set.now.entries level lit) }
 {
     lit != kept && set.is_open(lit.var, level)
 }
 
-/// The literal of the clause that is to be watched, other than this one: one that is not false, if
-/// there is any, and else one that was set at the level.
-fn best(set: &Entries, clause: &[Lit], kept: Lit, level: u32) -> Option<Lit>
+/// Whether the literal is another one that has no value, or is true since the level.
+fn is_free(set: &Entries, lit: Lit, kept: Lit, level: u32) -> bool
+    requires from_one { 0 < lit.var }
+    requires exists { lit.var ≤ set.now.vars }
+    ensures yes { OnTrue result (IsFreeBeside set.now.entries level lit kept) }
+    ensures no { OnFalse result (IsNotFreeBeside set.now.entries level lit kept) }
+{
+    is_spare(set, lit, kept, level) && may_take(set, lit, kept)
+}
+
+/// The first literal of the clause, other than this one, that has no value or is true since the
+/// level.
+fn free(set: &Entries, clause: &[Lit], kept: Lit, level: u32) -> Option<Lit>
     requires exist { VariablesExist set.now.vars clause.now }
-    ensures found { IfSome result (λ l. MayWatch set.now.entries level clause.now l kept) }
+    ensures among { IfSome result (Contains clause.now) }
+    ensures found { IfSome result (λ l. IsFreeBeside set.now.entries level l kept) }
+    ensures none { IfNone result (AreNotFree set.now.entries level clause.now kept) }
+{
+    for lit in clause {
+        if is_free(set, *lit, kept, level) {
+            return Some(*lit);
+        }
+    }
+    None
+}
+
+/// A literal of the clause, other than this one, that is not false, if there is any, and else one
+/// that was set at the level.
+fn last_left(set: &Entries, clause: &[Lit], kept: Lit, level: u32) -> Option<Lit>
+    requires exist { VariablesExist set.now.vars clause.now }
+    ensures found { IfSome result (λ l. IsLeft set.now.entries level clause.now l kept) }
     ensures none { IfNone result (AreClosed set.now.entries level clause.now kept) }
 {
     let mut found = None;
@@ -79,10 +106,24 @@ fn best(set: &Entries, clause: &[Lit], kept: Lit, level: u32) -> Option<Lit>
     found
 }
 
+/// The literal of the clause that is to be watched, other than this one: first of all one that has
+/// no value or is true since the level, then another that is true, and else one that was set at
+/// the level.
+fn best(set: &Entries, clause: &[Lit], kept: Lit, level: u32) -> Option<Lit>
+    requires exist { VariablesExist set.now.vars clause.now }
+    ensures found { IfSome result (λ l. MayWatch set.now.entries level clause.now l kept) }
+    ensures none { IfNone result (AreClosed set.now.entries level clause.now kept) }
+{
+    if let Some(lit) = free(set, clause, kept, level) {
+        return Some(lit);
+    }
+    last_left(set, clause, kept, level)
+}
+
 /// The two literals that a new clause is to watch, if it has as many.
 pub fn choose(set: &Entries, clause: &[Lit], level: u32) -> Option<(Lit, Lit)>
     requires exist { VariablesExist set.now.vars clause.now }
-    requires open { 2 ≤ length clause.now → HasOpenTwo set.now.entries level clause.now }
+    requires open { 2 ≤ length clause.now → HasTwoOpen set.now.entries level clause.now }
     ensures chosen { IfSome result
         (λ pair. AreChosen set.now.entries level clause.now pair.0 pair.1) }
     ensures none { IfNone result (length clause.now < 2) }

@@ -1,9 +1,8 @@
 ghost use Rattle.std.specs.Prelude.{◌≡◌, ◌≢◌, ◌+◌, ◌*◌, ◌^◌, ◌<◌, ◌≤◌, ◌∷◌, length, IfOk, OnOk, IfSome, replicate, slice_set};
 ghost use Rattle.clause_core.specs.Literal.{rank};
-ghost use Rattle.sat_trail.specs.inner.Watches.{blank, cell_of, Watches, IsTurn, IsPut};
-ghost use Rattle.sat_trail.specs.inner.Watches.{watch, head_of, AreLinked};
+ghost use Rattle.sat_trail.specs.inner.Watches.{blank, cell, cell_of, Watches, IsTurn, IsPut};
+ghost use Rattle.sat_trail.specs.inner.Watches.{head_of, AreLinked};
 ghost use Rattle.sat_trail.specs.inner.Attach.{ReservesCells, IsUnwatched, ArePair, IsAttachedTo};
-ghost use Rattle.sat_trail.specs.declared.watch.Cell.{Cell as SpecCell};
 ghost use Rattle.sat_trail.specs.inner.Walk.{AreOthersListed, SetsLink, PutsFront, MovesWatch};
 ghost use Rattle.sat_trail.specs.inner.Walk.{Unlinks, Walks, IsNewWatch};
 
@@ -14,7 +13,7 @@ use list_base::NoMemory;
 use std::alloc::Global;
 
 /// For each literal, a list of the clauses that watch it, linked by their numbers. A clause owns
-/// its two places in these lists.
+/// one link in each of its two lists.
 #[derive(Drop)]
 pub struct WatchLists {
     /// The first number of each list, or 0.
@@ -73,12 +72,8 @@ impl WatchLists {
         requires one { rank one < length self.old.heads.items }
         requires other { rank other < length self.old.heads.items }
         requires within { number < length self.old.cells.items }
-        ensures cells { let heads = self.old.heads.items in
-            let cell : SpecCell = record {
-              one = watch one (head_of heads one);
-              other = watch other (head_of heads other);
-            } in
-            self.new.cells.items ≡ slice_set self.old.cells.items number cell }
+        ensures cells { self.new.cells.items
+            ≡ slice_set self.old.cells.items number (cell self.old.heads.items one other) }
         ensures heads { let heads = slice_set self.old.heads.items (rank one) number in
             self.new.heads.items ≡ slice_set heads (rank other) number }
     {

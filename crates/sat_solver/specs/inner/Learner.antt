@@ -14,7 +14,7 @@ pub record IsNewLearner (f : Formula) (l : Learner) : Type 0 where
   pub start : IsStart f l.trail
   pub sound : IsTrail l.trail
   pub lits : l.lits.set.vars ≡ l.trail.vars
-  pub rule : l.rule.queue.vars ≡ l.trail.vars
+  pub rule : l.rule.vars ≡ l.trail.vars
 
 -- the last step derives a clause, which the trail then has
 pub record LearnsOne (old new : Learner) : Type 0 where
@@ -22,7 +22,7 @@ pub record LearnsOne (old new : Learner) : Type 0 where
   pub steps : new.steps ≡ old.steps ++ chain ∷ []
   pub learns : Learns old.trail new.trail chain
   pub lits : new.lits.set.vars ≡ old.trail.vars
-  pub rule : new.rule.queue.vars ≡ old.rule.queue.vars
+  pub rule : new.rule.vars ≡ old.rule.vars
 
 -- the last step derives the empty clause from the clause of the number
 pub record RefutesBy (number : ℕ) (old new : Learner) : Type 0 where
@@ -35,4 +35,4 @@ pub record RefutesBy (number : ℕ) (old new : Learner) : Type 0 where
 pub record IsLearning (f : Formula) (l : Learner) : Type 0 where
   pub learned : HasLearned f l.trail l.steps
   pub lits : l.lits.set.vars ≡ l.trail.vars
-  pub rule : l.rule.queue.vars ≡ l.trail.vars
+  pub rule : l.rule.vars ≡ l.trail.vars

@@ -1,42 +1,52 @@
 -- Which literals a new clause is to watch.
-use Rattle.std.specs.Prelude.{◌≡◌, ◌≢◌, ℕ, ◌<◌, ◌≤◌, Option, Some, None, List, [], length, take}
-use Rattle.std.specs.Prelude.{Contains, IfSome, map}
+use Rattle.std.specs.Prelude.{◌≡◌, ◌≢◌, ℕ, ◌<◌, ◌≤◌, ◌⊎◌, Option, Some, None, List, [], length, take}
+use Rattle.std.specs.Prelude.{Contains, map}
 use Rattle.clause_core.specs.declared.literal.Lit.{Lit}
 use Rattle.clause_core.specs.Propagation.{MakesFalse, OthersFalse}
 use Rattle.sat_trail.specs.declared.entry.Entry.{Entry}
 use Rattle.sat_trail.specs.declared.watch.Cell.{Cell}
-use Rattle.sat_trail.specs.Entry.{entry_of, values_of}
+use Rattle.sat_trail.specs.Entry.{values_of}
+use Rattle.sat_trail.specs.Trail.{IsOpen}
 use Rattle.clause_core.specs.Numbering.{live}
 use Rattle.sat_trail.specs.inner.Excuse.{AreWatched}
 use Rattle.sat_trail.specs.inner.Watches.{cell_of, Watches, AreLinked}
 
--- the literal was set at the level, if it was set
-abbrev pub IsOpenAt : List Entry → ℕ → Lit → Type 0
-IsOpenAt entries level l = IfSome (entry_of entries l.var) (λ e. e.level ≡ level)
+-- the literal is another one, and it is unset or true since the level
+pub record IsFreeBeside (entries : List Entry) (level : ℕ) (l other : Lit) : Type 0 where
+  pub differs : l ≢ other
+  pub is_open : IsOpen entries level l
+  pub unfalse : ¬ MakesFalse (values_of entries) l
 
--- two literals of the clause are open at the level
-pub record HasOpenTwo (entries : List Entry) (level : ℕ) (clause : List Lit) : Type 0 where
-  pub one : Lit
-  pub other : Lit
-  pub differ : one ≢ other
-  pub one_among : Contains clause one
-  pub other_among : Contains clause other
-  pub one_open : IsOpenAt entries level one
-  pub other_open : IsOpenAt entries level other
+-- if the literal is another one that is unset or was set at the level, it is false
+abbrev pub IsNotFreeBeside : List Entry → ℕ → Lit → Lit → Type 0
+IsNotFreeBeside entries level l other =
+    l ≢ other → IsOpen entries level l → MakesFalse (values_of entries) l
 
--- the literal may be watched beside another: if it is false, it was set at the level, and no
--- literal but the other one is left
-pub record MayWatch
+-- no other literal of the clause is free
+abbrev pub AreNotFree : List Entry → ℕ → List Lit → Lit → Type 0
+AreNotFree entries level clause other =
+    (m : Lit) → Contains clause m → IsNotFreeBeside entries level m other
+
+-- if the literal beside another is false, it was set at the level, and no literal but the other
+-- one is left
+pub record IsLeft
     (entries : List Entry) (level : ℕ) (clause : List Lit) (l other : Lit) : Type 0 where
   pub among : Contains clause l
   pub differs : l ≢ other
   pub last : MakesFalse (values_of entries) l →
-      IsOpenAt entries level l × OthersFalse (values_of entries) clause other
+      IsOpen entries level l × OthersFalse (values_of entries) clause other
+
+-- the literal may be watched beside another: it is unset or was set at the level, unless each such
+-- literal but the other one is false; and if it is false, no literal but the other one is left
+pub record MayWatch
+    (entries : List Entry) (level : ℕ) (clause : List Lit) (l other : Lit) : Type 0 where
+  pub left : IsLeft entries level clause l other
+  pub is_open : IsOpen entries level l ⊎ AreNotFree entries level clause other
 
 -- the other literals of the clause are false, and were not set at the level
 abbrev pub AreClosed : List Entry → ℕ → List Lit → Lit → Type 0
 AreClosed entries level clause kept = (m : Lit) → Contains clause m → m ≢ kept →
-    MakesFalse (values_of entries) m × (¬ IsOpenAt entries level m)
+    MakesFalse (values_of entries) m × (¬ IsOpen entries level m)
 
 -- the literals may be watched together
 pub record AreChosen

@@ -1,6 +1,6 @@
 -- How the clauses and the entries are stored, so that a number or a variable finds them.
 use Rattle.std.specs.Prelude.{◌≡◌, ◌≢◌, ℕ, ◌+◌, ◌-◌, ◌*◌, ◌^◌, ◌<◌, ◌≤◌, Bool, true, false, Option, Some, None}
-use Rattle.std.specs.Prelude.{List, [], ◌∷◌, ◌++◌, length, All, AllPairs, is_some, count_by, take}
+use Rattle.std.specs.Prelude.{List, ◌++◌, length, All, AllPairs, is_some, count_by, take}
 use Rattle.std.specs.Prelude.{slice_index_or, if◌then◌else◌}
 use Rattle.std.specs.Option.{option_map}
 use Rattle.clause_core.specs.declared.literal.Lit.{Lit}
@@ -9,12 +9,6 @@ use Rattle.sat_trail.specs.declared.entry.Entry.{Entry}
 use Rattle.sat_trail.specs.declared.value.Value.{Value}
 use Rattle.sat_trail.specs.declared.value.Value.TheVariants.{Unset, False, True}
 use Rattle.sat_trail.specs.Entry.{entry_of, values_of}
-
--- each clause whose mark says that it is live
-abbrev pub marked : List (List Lit) → List Bool → List (Option (List Lit))
-marked [] marks = []
-marked (c ∷ rest) [] = None ∷ marked rest []
-marked (c ∷ rest) (live ∷ marks) = (if live then Some c else None) ∷ marked rest marks
 
 -- the entries, over the variables from 1 to `vars`
 pub record Assigned : Type 0 where

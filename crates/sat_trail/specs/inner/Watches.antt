@@ -46,6 +46,11 @@ pub data IsPut (cell : Cell) (l : Lit) (w : Watch) (new : Cell) : Type 0 where
 abbrev pub head_of : List ℕ → Lit → ℕ
 head_of heads l = slice_index_or heads (rank l) 0
 
+-- the cell of a clause that comes first in the lists of these literals
+abbrev pub cell : List ℕ → Lit → Lit → Cell
+cell heads one other =
+    record { one = watch one (head_of heads one); other = watch other (head_of heads other) }
+
 -- the clauses are linked in this order, from the first number on
 abbrev pub IsChain : List Cell → Lit → ℕ → List ℕ → Type 0
 IsChain cells l first [] = first ≡ 0

@@ -24,7 +24,7 @@ pub returns-then-number-eq0-clause-linked : goal.returns-then-number-eq0-clause-
 returns-then-number-eq0-clause-linked c = walking-linked _ _ _ _ _ _ _ _ _ _ _ c.loop-passed.invariant.walking
 
 pub visit_clause-requires : goal.visit_clause-requires
-visit_clause-requires c = rw c.new-at.ensures
+visit_clause-requires c =
     (walking-visits _ _ _ _ _ _ _ _ _ _ _ c.loop-passed.invariant.walking c.if-number-eq0.false
     (false-extends c.args.store.now c.args.set.now c.loop-passed.set c.args.level c.args.position c.of-lit.result c.loop-passed.invariant.walking.runs.extends
     (record { entry = c.at.result; there = c.at.ensures.entry; fails = sym (c.of-lit.ensures ∙ c.negation.ensures.exact) }))
@@ -34,13 +34,13 @@ pub returns-in-Fails-clause-extends : goal.returns-in-Fails-clause-extends
 returns-in-Fails-clause-extends c = Extends-more _ _ _ c.loop-passed.set _ c.loop-passed.invariant.walking.runs.extends c.visit_clause.ensures.extends
 
 pub returns-in-Fails-clause-linked : goal.returns-in-Fails-clause-linked
-returns-in-Fails-clause-linked c = walking-failed _ _ _ c.visit_clause.new.set _ _ _ _ _ _ _ _ _ _ c.loop-passed.invariant.walking (rw c.new-at.ensures at c.in-Fails.ensures.visit)
+returns-in-Fails-clause-linked c = walking-failed _ _ _ c.visit_clause.new.set _ _ _ _ _ _ _ _ _ _ c.loop-passed.invariant.walking c.in-Fails.ensures.visit
 
 pub loop-passed-preserved : goal.loop-passed-preserved
 loop-passed-preserved c = record {
   walking = elim c.match-visit_clause.branch [
-    | in-Stays w ↦ rw (w.before-is, w.number-is) (walking-stayed _ _ _ c.visit_clause.new.set _ _ _ _ _ _ _ _ _ _ _ c.loop-passed.invariant.walking c.if-number-eq0.false c.visit_clause.ensures.extends (rw c.new-at.ensures at c.visit_clause.ensures.watched) (rw c.new-at.ensures at w.in-Stays.ensures.visit))
-    | in-Moves w ↦ rw (w.before-is, w.number-is) (walking-moved _ _ _ c.visit_clause.new.set _ _ _ _ _ _ _ _ _ _ _ c.loop-passed.invariant.walking c.if-number-eq0.false c.visit_clause.ensures.extends (rw c.new-at.ensures at c.visit_clause.ensures.watched) (rw c.new-at.ensures at c.visit_clause.ensures.linked) (rw c.new-at.ensures at w.in-Moves.ensures.visit))
+    | in-Stays w ↦ rw (w.before-is, w.number-is) (walking-stayed _ _ _ c.visit_clause.new.set _ _ _ _ _ _ _ _ _ _ _ c.loop-passed.invariant.walking c.if-number-eq0.false c.visit_clause.ensures.extends c.visit_clause.ensures.watched w.in-Stays.ensures.visit)
+    | in-Moves w ↦ rw (w.before-is, w.number-is) (walking-moved _ _ _ c.visit_clause.new.set _ _ _ _ _ _ _ _ _ _ _ c.loop-passed.invariant.walking c.if-number-eq0.false c.visit_clause.ensures.extends c.visit_clause.ensures.watched c.visit_clause.ensures.linked w.in-Moves.ensures.visit)
   ];
   cells = c.visit_clause.ensures.linked.cells_as_many ∙ c.loop-passed.invariant.cells;
 }

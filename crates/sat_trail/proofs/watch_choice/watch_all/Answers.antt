@@ -1,6 +1,6 @@
 -- One clause after the other is attached.
 use Rattle.std.proofs.Common.{◌+◌, ◌≤◌, length, sym, ap, subst, rules}
-use Rattle.sat_trail.specs.inner.Attach.{HasOpenTwo}
+use Rattle.sat_trail.specs.Trail.{HasTwoOpen}
 use Rattle.sat_trail.proofs.AdditionLemmas.{attached-start, open-empty, attached-blank, attached-next}
 use Rattle.sat_trail.proofs.watch_choice.watch_all.Goals as goal
 
@@ -9,7 +9,7 @@ loop-clause-init c = record { counted = search rules; attached = attached-start 
 
 pub choose-requires-clause-open : goal.choose-requires-clause-open
 choose-requires-clause-open c =
-    subst (λ lits. 2 ≤ length lits → HasOpenTwo c.args.set.now.entries 0 lits) (sym c.lits.ensures.same)
+    subst (λ lits. 2 ≤ length lits → HasTwoOpen c.args.set.now.entries 0 lits) (sym c.lits.ensures.same)
     (open-empty _ _ c.requires.none c.lits.ensures.ascending)
 
 pub attach-requires-clause-blank : goal.attach-requires-clause-blank

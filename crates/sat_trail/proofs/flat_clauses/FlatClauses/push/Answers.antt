@@ -1,5 +1,5 @@
 -- The last span is that of the new clause.
-use Rattle.std.proofs.Common.{length, ap, ◌∙◌, arith}
+use Rattle.std.proofs.Common.{◌∙◌, arith}
 use Rattle.sat_trail.proofs.FlatLemmas.{clauses_at-push}
 use Rattle.sat_trail.proofs.flat_clauses.FlatClauses.push.Goals as goal
 

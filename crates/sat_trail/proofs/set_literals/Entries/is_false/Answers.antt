@@ -1,6 +1,6 @@
 -- The value of a literal is that by its variable's entry.
 use Rattle.std.proofs.Common.{rules}
-use Rattle.sat_trail.proofs.StorageLemmas.{value-read, value_of-false}
+use Rattle.sat_trail.proofs.StorageLemmas.{value-read}
 use Rattle.sat_trail.proofs.set_literals.Entries.is_false.Goals as goal
 
 pub returns : goal.returns

@@ -1,6 +1,6 @@
 -- The value of a literal is that by its variable's entry, and variable 0 has no entry.
 use Rattle.std.proofs.Common.{rules}
-use Rattle.sat_trail.proofs.StorageLemmas.{value-read, value_of-true}
+use Rattle.sat_trail.proofs.StorageLemmas.{value-read}
 use Rattle.sat_trail.proofs.set_literals.Entries.is_true.Goals as goal
 
 pub returns : goal.returns

@@ -1,6 +1,6 @@
 -- The clause is open, so it was settled at each lower level.
 use Rattle.std.proofs.Common.{◌≤◌, Option, Some, length, sym, ap, subst, arith, false, List, [], ◌∷◌, length-append}
-use Rattle.sat_trail.specs.inner.Attach.{HasOpenTwo}
+use Rattle.sat_trail.specs.Trail.{HasTwoOpen}
 use Rattle.sat_trail.proofs.AdditionLemmas.{IsKept-reserved, IsKept-attached, open-two}
 use Rattle.sat_trail.proofs.AttachLemmas.{spare-unwatched}
 use Rattle.sat_trail.specs.inner.Watches.{AreLinked}
@@ -12,7 +12,7 @@ use Rattle.sat_trail.proofs.trail.Trail.add.Goals as goal
 
 pub choose-watched-requires-clause-open : goal.choose-watched-requires-clause-open
 choose-watched-requires-clause-open c =
-    subst (λ lits. 2 ≤ length lits → HasOpenTwo c.self.inside.set.entries c.self.inside.level lits) (sym c.lits.ensures.same)
+    subst (λ lits. 2 ≤ length lits → HasTwoOpen c.self.inside.set.entries c.self.inside.level lits) (sym c.lits.ensures.same)
     (open-two _ _ _ _ _ c.self.invariant.trail c.lits.ensures.ascending (rw (← c.self.view_is) at c.requires.open))
 
 pub invariant_of-self : goal.invariant_of-self

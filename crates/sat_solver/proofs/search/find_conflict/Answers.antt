@@ -3,7 +3,7 @@ use Rattle.std.proofs.Common.{◌∙◌, ap, rules}
 use Rattle.sat_trail.specs.State.{State}
 use Rattle.sat_solver.specs.inner.Search.{KeepsClauses}
 use Rattle.sat_solver.proofs.GrowthLemmas.{AreSetUpTo-more}
-use Rattle.sat_solver.proofs.search.search.Goals as goal
+use Rattle.sat_solver.proofs.search.find_conflict.Goals as goal
 
 pub choose-requires-clause-passed : goal.choose-requires-clause-passed
 choose-requires-clause-passed c =

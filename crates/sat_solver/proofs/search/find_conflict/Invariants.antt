@@ -2,12 +2,12 @@
 use Rattle.std.proofs.Common.{◌≡◌, ◌-◌, length}
 use Rattle.sat_solver.specs.inner.Choice.{AreSetUpTo}
 use Rattle.sat_solver.specs.inner.Search.{KeepsClauses}
-use Rattle.sat_solver.proofs.search.search.Given as goal
+use Rattle.sat_solver.proofs.search.find_conflict.Given as goal
 
 abbrev pub invariant-deciding : goal.invariant-deciding
 invariant-deciding l =
     KeepsClauses l.fn.trail l.trail × AreSetUpTo l.trail l.marks.lowest
-    × (l.rule.queue.vars ≡ l.fn.rule.queue.vars)
+    × (l.rule.vars ≡ l.fn.rule.vars)
 
 abbrev pub decreases-deciding : goal.decreases-deciding
 decreases-deciding l = l.trail.vars - length l.trail.entries

@@ -4,7 +4,7 @@ use Rattle.std.proofs.lemmas.Result.{IfOk-weaker}
 use Rattle.sat_solver.specs.inner.Analysis.{IsLearned}
 use Rattle.sat_solver.specs.inner.Gathered.{IsDerivationOf}
 use Rattle.sat_solver.proofs.UipLemmas.{HasCurrent-start, HasReason-last, Gathers-at, Gathers-after, HasCurrent-after, IsLearned-gathered, gathered-some}
-use Rattle.sat_solver.proofs.analysis.learn.Goals as goal
+use Rattle.sat_solver.proofs.analysis.derive_asserting.Goals as goal
 
 pub resolving-init : goal.resolving-init
 resolving-init c =

@@ -4,7 +4,7 @@ use Rattle.std.proofs.lemmas.Result.{IfOk-weaker}
 use Rattle.sat_solver.specs.inner.Analysis.{Refuted}
 use Rattle.sat_solver.specs.inner.Gathered.{IsDerivationOf}
 use Rattle.sat_solver.proofs.UipLemmas.{HasReason-0, Refuted-end}
-use Rattle.sat_solver.proofs.analysis.refute.Goals as goal
+use Rattle.sat_solver.proofs.analysis.derive_empty.Goals as goal
 
 pub step-requires-clause-reason : goal.step-requires-clause-reason
 step-requires-clause-reason c = HasReason-0 c.args.trail.now c.loop-position.lits.set.lits _ c.requires.sound c.requires.at_0
