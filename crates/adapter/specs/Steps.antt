@@ -1,5 +1,5 @@
 -- What an agent's steps at a desk answer, and what they leave.
-use Rattle.std.specs.Prelude.{◌≡◌, ℕ, ◌==◌, ◌%◌, ◌<◌, ◌≤◌, ◌⊎◌, if◌then◌else◌, length}
+use Rattle.std.specs.Prelude.{◌≡◌, ℕ, ◌+◌, ◌==◌, ◌%◌, ◌<◌, ◌≤◌, ◌⊎◌, if◌then◌else◌, length}
 use Rattle.std.specs.Prelude.{Option, None, Some, slice_get, IsSomeAnd}
 use Rattle.rand_pcg.specs.Lcg.{Lcg}
 use Rattle.rand_pcg.specs.Pcg.{pcg32}
@@ -16,7 +16,7 @@ use Rattle.local_store.specs.Emission.{IsEmission}
 use Rattle.local_store.specs.Reception.{IsReceipt}
 use Rattle.local_store.specs.State.{StoreState, acts_of, with_entry}
 use Rattle.played_runs.specs.Played.{IsPlayed}
-use Rattle.reorder_net.specs.Inbox.{Inbox, after_spending}
+use Rattle.reorder_net.specs.Inbox.{Inbox, after_spending, put_last}
 use Rattle.reorder_net.specs.Losses.{copies_of}
 use Rattle.adapter.specs.Desk.{DeskState}
 use Rattle.adapter.specs.Next.{IsNext}
@@ -92,3 +92,9 @@ TakesNone g d = (length d.inbox.envelopes ≡ 0) ⊎ ((last_stamp d.store.entrie
 abbrev pub IsTaking : Lcg → DeskState → Option Receipt → DeskState → Type 0
 IsTaking g old None new = TakesNone g old × (new ≡ old)
 IsTaking g old (Some r) new = IsTaken (picked_index g old.inbox) old r new
+
+-- the envelope comes last in the desk's inbox, unless it has no copies; it takes one place at most
+pub record Accepts (old : DeskState) (e : Envelope) (new : DeskState) : Type 0 where
+  pub store : new.store ≡ old.store
+  pub envelopes : new.inbox.envelopes ≡ put_last old.inbox.envelopes e
+  pub spare : old.inbox.spare ≤ new.inbox.spare + 1

@@ -1,4 +1,4 @@
-//! What one role's agent does at its store and its inbox, without threads.
+//! What a role's agent does next at its store.
 #![tactic(auto)]
 
 mod arrival;

@@ -1,4 +1,4 @@
-//! The texts that report on a run, on the verdicts of a protocol, and on a world of its agents.
+//! The texts of verdicts, replays and worlds.
 #![tactic(auto)]
 
 mod count;

@@ -1,4 +1,4 @@
-//! Tests of one role's store, of what a plan loses, and of a world in which all roles play.
+//! Tests of the agents' crates by their public calls.
 #![tactic(auto)]
 
 #[cfg(test)]

@@ -109,8 +109,8 @@ received_arrives job desks role k d entry i target sound is target_at got = arri
     subst (λ (f : DeskState). Arrives f i) same (inl (received_is job desks role d target i sound is.desk is.own is.among (message_of job.protocol i.message).receiver target_at got)))
 
 -- an envelope with the emission is owed otherwise
-pub owed_of : (job : Job) (desks : List DeskState) (role k : ℕ) (d : DeskState) (entry : Entry) (e : Envelope) (n : ℕ) (target : DeskState) → AllPairs ◌≢◌ job.script.keys → AreSound job desks → EmissionAt job desks role k d entry e.message.instance → e.to ≡ (message_of job.protocol e.message.instance.message).receiver → e.message.stamp ≡ entry.stamp → e.message.number ≡ k → IsNumber (rules_of job) n e.message.instance.key → e.copies ≡ copies_of job.plan e.message.instance.message n → e.copies ≢ 0 → slice_get desks e.to ≡ Some target → (IsReceived (acts_of target.store) e.message.instance.key e.message.instance.message → ⊥) → IsOwed job desks entry e
-owed_of job desks role k d entry e n target distinct sound is to stamp number at_number copies some target_at none =
+pub owed_of : (job : Job) (desks : List DeskState) (role k : ℕ) (d : DeskState) (entry : Entry) (e : Envelope) (n : ℕ) (target : DeskState) → AllPairs ◌≢◌ job.script.keys → AreSound job desks → EmissionAt job desks role k d entry e.message.instance → e.from ≡ role → e.to ≡ (message_of job.protocol e.message.instance.message).receiver → e.message.stamp ≡ entry.stamp → e.message.number ≡ k → IsNumber (rules_of job) n e.message.instance.key → e.copies ≡ copies_of job.plan e.message.instance.message n → e.copies ≢ 0 → slice_get desks e.to ≡ Some target → (IsReceived (acts_of target.store) e.message.instance.key e.message.instance.message → ⊥) → IsOwed job desks entry e
+owed_of job desks role k d entry e n target distinct sound is from to stamp number at_number copies some target_at none =
     let i : Instance = e.message.instance in
     let m : ℕ = i.message in
     record {
@@ -122,6 +122,7 @@ owed_of job desks role k d entry e n target distinct sound is to stamp number at
         emitted = is.emitted;
         stamped = sym stamp;
       };
+      from = from ∙ sym is.own;
       is_for = record {
         fits = is.fits;
         to_role = refl;

@@ -30,9 +30,10 @@ use Rattle.reorder_net.specs.Losses.{copies_of, is_lost}
 use Rattle.stamped_history.specs.declared.entry.Entry.{Entry}
 use Rattle.stamped_history.specs.Explained.{history_at}
 use Rattle.stamped_history.specs.Extended.{EmissionKeepsExplained}
+use Rattle.world_run.specs.Sent.{IsSent}
 use Rattle.world_run.specs.World.{histories_of, HistoriesGrow}
 use Rattle.world_run.specs.inner.Steps.{IsProgress}
-use Rattle.world_run.specs.inner.Underway.{AreSound, AreWhole, Extend, IsSent}
+use Rattle.world_run.specs.inner.Underway.{AreSound, AreWhole, Extend}
 use Rattle.world_run.specs.inner.Work.{copies_in, work_left, work_of}
 use Rattle.world_run.proofs.GrowLemmas.{clock_bounded, grow, grow_twice, history_here, run_short}
 use Rattle.world_run.proofs.InboxLemmas.{put_all, put_copies, put_holds, put_keeps}

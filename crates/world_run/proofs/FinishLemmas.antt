@@ -30,7 +30,7 @@ use Rattle.played_runs.specs.Rules.{IsNumber}
 use Rattle.reorder_net.specs.Losses.{is_lost}
 use Rattle.stamped_history.specs.Entries.{events_of}
 use Rattle.stamped_history.specs.Explained.{history_at}
-use Rattle.world_run.specs.Finished.{IsFinished}
+use Rattle.world_run.specs.inner.Ending.{AreEnded}
 use Rattle.world_run.specs.Laws.{MergePlayed}
 use Rattle.world_run.specs.World.{histories_of}
 use Rattle.world_run.specs.inner.Idle.{AreIdle}
@@ -112,27 +112,28 @@ module _ (job : Job) (desks : List DeskState) (distinct : AllPairs ◌≢◌ job
       passed_over d history is (inr (inr cannot)) = cannot (subst (λ (y : Expanded). CanEmit y (acts_of d.store) m key) (sym is.protocol_is) (subst (λ h. CanEmit job.protocol (events_of h) m key) history can))
 
   -- the desks are finished
-  pub finished : 0 < length job.script.keys → HistoriesSettle → MergePlayed job desks → IsFinished job desks
+  pub finished : 0 < length job.script.keys → HistoriesSettle → MergePlayed job desks → AreEnded job desks
   finished some settle merge =
       let histories = merge.run_is.histories_kept in
       record {
-        kept = sound.kept;
         empty = holds_none some;
-        local = merge.local;
-        explained = sound.explained;
-        run = merge.run;
-        merged = merge.merged;
-        played_out = record {
-          run_is = merge.run_is;
-          played = merge.played;
-          settled = settle job.protocol (rules_of job) merge.run (record {
-            delivered = λ n i number among kept.
-                subst (λ h. Contains h (Receive i)) (sym (histories (message_of job.protocol i.message).receiver))
-                (delivered n i some number (subst (λ h. Contains h (Emit i)) (histories (message_of job.protocol i.message).sender) among) kept);
-            exhausted = λ n m key number accepted never can.
-                exhausted n m key number accepted
-                (λ was. never (subst (λ h. IsEmitted h key m) (sym (histories (message_of job.protocol m).sender)) was))
-                (subst (λ h. CanEmit job.protocol h m key) (histories (message_of job.protocol m).sender) can);
-          });
+        finished = record {
+          local = merge.local;
+          explained = sound.explained;
+          run = merge.run;
+          merged = merge.merged;
+          played_out = record {
+            run_is = merge.run_is;
+            played = merge.played;
+            settled = settle job.protocol (rules_of job) merge.run (record {
+              delivered = λ n i number among kept.
+                  subst (λ h. Contains h (Receive i)) (sym (histories (message_of job.protocol i.message).receiver))
+                  (delivered n i some number (subst (λ h. Contains h (Emit i)) (histories (message_of job.protocol i.message).sender) among) kept);
+              exhausted = λ n m key number accepted never can.
+                  exhausted n m key number accepted
+                  (λ was. never (subst (λ h. IsEmitted h key m) (sym (histories (message_of job.protocol m).sender)) was))
+                  (subst (λ h. CanEmit job.protocol h m key) (histories (message_of job.protocol m).sender) can);
+            });
+          };
         };
       }

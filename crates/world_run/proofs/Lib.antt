@@ -1,3 +1,4 @@
+pub mod CourseLemmas
 pub mod EmissionLemmas
 pub mod EmitLemmas
 pub mod EntryLemmas

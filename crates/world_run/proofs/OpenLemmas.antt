@@ -29,9 +29,11 @@ use Rattle.played_runs.specs.Played.{Played}
 use Rattle.stamped_history.specs.declared.entry.Entry.{Entry}
 use Rattle.stamped_history.specs.Entries.{events_of}
 use Rattle.stamped_history.specs.Explained.{history_at}
+use Rattle.world_run.specs.Sent.{IsSent}
+use Rattle.world_run.specs.Settling.{AreNew}
 use Rattle.world_run.specs.World.{histories_of}
 use Rattle.world_run.specs.inner.Opening.{AreOpened, envelopes_to, events_of_role, IsOpened, opened_store, own}
-use Rattle.world_run.specs.inner.Underway.{AreSound, AreWhole, IsSent}
+use Rattle.world_run.specs.inner.Underway.{AreSound, AreWhole}
 use Rattle.world_run.proofs.WorldLemmas.{all_items, each_history, played_none}
 
 -- a filtered list is not longer
@@ -190,3 +192,11 @@ keys_of_script job s n count is = count ∙ ap (λ (t : Script). length t.keys) 
 -- the messages of the job's protocol
 pub messages_of_job : (job : Job) (a x : Expanded) (messages : List Message) → messages ≡ x.messages → x ≡ a → a ≡ job.protocol → messages ≡ job.protocol.messages
 messages_of_job job a x messages are same is = are ∙ ap (λ (y : Expanded). y.messages) (same ∙ is)
+
+-- new desks are kept, without events
+pub opened_new : (job : Job) (desks : List DeskState) → AreOpened job desks → AreNew job desks
+opened_new job desks opened =
+    record {
+      kept = (opened_sound job desks opened).kept;
+      none = λ role d at. ap (λ (s : StoreState). s.entries) (opened.each role d at).store;
+    }

@@ -26,9 +26,10 @@ use Rattle.reorder_net.specs.Inbox.{put_last}
 use Rattle.stamped_history.specs.declared.entry.Entry.{Entry}
 use Rattle.stamped_history.specs.Explained.{AreExplained, history_at, IsExplained}
 use Rattle.world_run.specs.Laws.{MergePlayed}
+use Rattle.world_run.specs.Sent.{IsSent}
 use Rattle.world_run.specs.World.{AreKept, HistoriesGrow, histories_of}
 use Rattle.world_run.specs.inner.Owed.{AreCleared, ArePosted, ArriveUpTo, EntryArrives, HasMore, IsOwed}
-use Rattle.world_run.specs.inner.Underway.{Arrives, AreSound, AreWhole, Extend, IsSent}
+use Rattle.world_run.specs.inner.Underway.{Arrives, AreSound, AreWhole, Extend}
 use Rattle.world_run.proofs.GrowLemmas.{grow_none, histories_same}
 use Rattle.world_run.proofs.InboxLemmas.{put_all, put_holds, put_keeps}
 use Rattle.world_run.proofs.SetLemmas.{item_after, set_same}
@@ -300,14 +301,26 @@ renewed_whole job start desks count all renewed = whole_of job desks (λ role wi
 pub record ClearedTo (start desks : List DeskState) (count : ℕ) : Type 0 where
   pub stores : map (λ (d : DeskState). d.store) desks ≡ map (λ (d : DeskState). d.store) start
   pub empty : (k : ℕ) (d : DeskState) → k < count → slice_get desks k ≡ Some d → d.inbox.envelopes ≡ []
+  pub room : (k : ℕ) (before d : DeskState) → slice_get start k ≡ Some before → slice_get desks k ≡ Some d → before.inbox.spare ≤ d.inbox.spare
+  pub rest : (k : ℕ) (d : DeskState) → count ≤ k → slice_get desks k ≡ Some d → slice_get start k ≡ Some d
+
+-- one item at an index
+one_item : (desks : List DeskState) (k : ℕ) (a b : DeskState) → slice_get desks k ≡ Some a → slice_get desks k ≡ Some b → a ≡ b
+one_item desks k a b at other = sym (get_or_from_slice_get desks k a a at) ∙ get_or_from_slice_get desks k b a other
 
 -- before the first one
 pub cleared_start : (desks : List DeskState) → ClearedTo desks desks 0
-cleared_start desks = record { stores = refl; empty = λ k d within at. absurd (omega (arith, within)) }
+cleared_start desks =
+    record {
+      stores = refl;
+      empty = λ k d within at. absurd (omega (arith, within));
+      room = λ k before d at other. omega (arith, ap (λ (f : DeskState). f.inbox.spare) (one_item desks k before d at other));
+      rest = λ k d past at. at;
+    }
 
 -- one more
-pub cleared_more : (start desks : List DeskState) (count : ℕ) (old new : DeskState) → ClearedTo start desks count → slice_get desks count ≡ Some old → new.store ≡ old.store → new.inbox.envelopes ≡ [] → ClearedTo start (slice_set desks count new) (count + 1)
-cleared_more start desks count old new before at same empty =
+pub cleared_more : (start desks : List DeskState) (count : ℕ) (old new : DeskState) → ClearedTo start desks count → slice_get desks count ≡ Some old → new.store ≡ old.store → new.inbox.envelopes ≡ [] → old.inbox.spare ≤ new.inbox.spare → ClearedTo start (slice_set desks count new) (count + 1)
+cleared_more start desks count old new before at same empty room =
     record {
       stores =
           map-set (λ (d : DeskState). d.store) desks count new
@@ -317,6 +330,16 @@ cleared_more start desks count old new before at same empty =
         | inl here ↦ subst (λ (f : DeskState). f.inbox.envelopes ≡ []) here.1 empty
         | inr there ↦ before.empty k d (omega (arith, within, there.0)) there.1
       ];
+      room = λ k first d first_at d_at. elim (item_after desks count new k d d_at) [
+        | inl here ↦
+            let first_is : first ≡ old = one_item start k first old first_at (subst (λ i. slice_get start i ≡ Some old) (sym here.0) (before.rest count old (omega (arith)) at)) in
+            omega (arith, room, ap (λ (f : DeskState). f.inbox.spare) first_is, ap (λ (f : DeskState). f.inbox.spare) here.1)
+        | inr there ↦ before.room k first d first_at there.1
+      ];
+      rest = λ k d past d_at. elim (item_after desks count new k d d_at) [
+        | inl here ↦ absurd (omega (arith, past, here.0))
+        | inr there ↦ before.rest k d (omega (arith, past)) there.1
+      ];
     }
 
 -- all
@@ -325,6 +348,7 @@ cleared_all start desks count all cleared =
     record {
       stores = cleared.stores;
       empty = all_items (λ (d : DeskState). d.inbox.envelopes ≡ []) desks (λ k d at. cleared.empty k d (omega (arith, all, slice_get_within desks k d at)) at);
+      room = cleared.room;
     }
 
 -- as many desks as before

@@ -1,10 +1,12 @@
 -- Steps one after another.
-use Rattle.std.proofs.Common.{◌≡◌, ℕ, ◌+◌, ◌<◌, Bool, true, false, List, inl, inr, refl, sym, subst, arith}
+use Rattle.std.proofs.Common.{◌≡◌, ℕ, ◌+◌, ◌<◌, Bool, true, false, None, Some, List, [], slice_get, inl, inr, refl, sym, subst, arith}
 use Rattle.std.specs.Prelude.{◌||◌}
 use Rattle.std.proofs.lemmas.Bool.{cases_eq}
 use Rattle.adapter.specs.Desk.{DeskState}
+use Rattle.adapter.specs.Next.{IsNext}
 use Rattle.agent_scripts.specs.Job.{Job}
 use Rattle.world_run.specs.World.{histories_of}
+use Rattle.world_run.specs.inner.Idle.{IsIdleAt}
 use Rattle.world_run.specs.inner.Steps.{IsProgress}
 use Rattle.world_run.specs.inner.Underway.{AreSound, AreWhole, Extend}
 use Rattle.world_run.specs.inner.Work.{work_left}
@@ -73,3 +75,9 @@ steps_more Idle job old mid new a b count first extend progress idle =
         | inr other ↦ subst (λ ds. Idle ds k) (sym (progress.same (both_false a b rested).1)) (first.idle (both_false a b rested).0 k (omega (arith, within, other)))
       ];
     }
+
+-- after a turn in which nothing was taken and nothing emitted, the role is idle at the number
+pub idle_turn : (job : Job) (middle new : List DeskState) (role n : ℕ) (taken emitted : Bool) → (taken ≡ false → (d : DeskState) → slice_get middle role ≡ Some d → d.inbox.envelopes ≡ []) → IsProgress job middle emitted new → (emitted ≡ false → (d : DeskState) → slice_get new role ≡ Some d → IsNext job d.store n None) → (taken || emitted) ≡ false → (d : DeskState) → slice_get new role ≡ Some d → IsIdleAt job d n
+idle_turn job middle new role n taken emitted empty progress done rested d at =
+    let both = both_false taken emitted rested in
+    record { empty = empty both.0 d (subst (λ ds. slice_get ds role ≡ Some d) (progress.same both.1) at); done = done both.1 d at }

@@ -10,7 +10,7 @@ use Rattle.played_runs.specs.Settled.{Settled}
 use Rattle.stamped_history.specs.Explained.{AreExplained, AreLocal}
 use Rattle.stamped_history.specs.Laws.{IsRunOf}
 use Rattle.stamped_history.specs.Merged.{IsMerged}
-use Rattle.world_run.specs.World.{AreKept, histories_of}
+use Rattle.world_run.specs.World.{histories_of}
 
 -- the run is a legal one of the desks' histories, the agents play it by the job's rules, and
 -- nothing is left to do in it
@@ -19,13 +19,15 @@ pub record IsPlayedOut (job : Job) (desks : List DeskState) (run : List Event) :
   pub played : Played job.protocol (rules_of job) run
   pub settled : Settled job.protocol (rules_of job) run
 
--- the desks are kept, hold no envelope, and have local histories whose receipts are all explained
--- and that merge into a run that is played out
+-- the desks have local histories whose receipts are all explained and that merge into a run that
+-- is played out
 pub record IsFinished (job : Job) (desks : List DeskState) : Type 0 where
-  pub kept : AreKept job desks
-  pub empty : All (λ d. d.inbox.envelopes ≡ []) desks
   pub local : AreLocal job.protocol (histories_of desks)
   pub explained : AreExplained job.protocol (histories_of desks)
   pub run : List Event
   pub merged : IsMerged (histories_of desks) run
   pub played_out : IsPlayedOut job desks run
+
+-- no desk holds an envelope
+abbrev pub AreEmptied : List DeskState → Type 0
+AreEmptied desks = All (λ d. d.inbox.envelopes ≡ []) desks

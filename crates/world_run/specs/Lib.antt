@@ -2,5 +2,8 @@
 -- settled.
 pub mod World
 pub mod Finished
+pub mod Sent
+pub mod Course
+pub mod Settling
 pub mod Laws
 pub mod inner

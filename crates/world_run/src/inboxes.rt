@@ -1,4 +1,4 @@
-ghost use Rattle.std.specs.Prelude.{◌≡◌, ◌<◌, [], length, slice_get, Some, OnOk};
+ghost use Rattle.std.specs.Prelude.{◌≡◌, ◌<◌, ◌≤◌, [], length, slice_get, Some, OnOk};
 ghost use Rattle.stamped_history.specs.declared.entry.Entry.{Entry};
 ghost use Rattle.stamped_history.specs.Explained.{AreExplained, history_at};
 ghost use Rattle.world_run.specs.World.{AreKept, histories_of};
@@ -20,6 +20,7 @@ pub fn renew_inboxes(alloc: Global, job: &Job, desks: &mut DeskList) -> Result<(
     requires kept { AreKept job.now desks.old }
     requires explained { AreExplained job.now.protocol (histories_of desks.old) }
     ensures extend { Extend job.now desks.old desks.new }
+    ensures same { histories_of desks.new ≡ histories_of desks.old }
     ensures whole { OnOk result (AreWhole job.now desks.new) }
 {
     // law: kept desks whose receipts are explained have a legal run
@@ -46,6 +47,7 @@ fn clear_inboxes(alloc: Global, desks: &mut DeskList)
 fn clear_inbox(alloc: Global, desk: &mut Desk)
     ensures store { desk.new.store ≡ desk.old.store }
     ensures empty { desk.new.inbox.envelopes ≡ [] }
+    ensures room { desk.old.inbox.spare ≤ desk.new.inbox.spare }
 {
     let mut inbox = desk.swap_inbox(Inbox::new(alloc));
     'copies: while inbox.len() > 0 {
@@ -56,7 +58,7 @@ fn clear_inbox(alloc: Global, desk: &mut Desk)
     desk.swap_inbox(inbox);
 }
 
-/// Posts all that is owed for the role's events.
+/// Posts all that is undelivered of the role's events.
 fn post_all(desks: &mut DeskList, job: &Job, role: usize) -> Result<(), NoMemory>
     requires sound { AreSound job.now desks.old }
     requires role { role < length desks.old }
@@ -70,7 +72,7 @@ fn post_all(desks: &mut DeskList, job: &Job, role: usize) -> Result<(), NoMemory
     Ok(())
 }
 
-/// Posts what is owed for the role's event at the index.
+/// Posts what is undelivered of the role's event at the index.
 fn post(desks: &mut DeskList, job: &Job, role: usize, index: u32) -> Result<(), NoMemory>
     requires sound { AreSound job.now desks.old }
     requires role { role < length desks.old }

@@ -1,4 +1,4 @@
-//! All roles of a protocol in one world: their run on one thread, what it leaves, and its table.
+//! All roles at play on one thread, until it settles.
 #![tactic(auto)]
 
 mod desk_history;

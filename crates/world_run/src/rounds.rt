@@ -1,5 +1,6 @@
 ghost use Rattle.std.specs.Prelude.{◌≡◌, ◌<◌, false, length, IfOk, OnOk};
 ghost use Rattle.enactment_model.specs.Safety.{SafeProtocol};
+ghost use Rattle.world_run.specs.Course.{AreTurns, IsPlay, IsRound, state};
 ghost use Rattle.world_run.specs.inner.Idle.{AreIdle, IsIdleRole};
 ghost use Rattle.world_run.specs.inner.Steps.{IsProgress};
 ghost use Rattle.world_run.specs.inner.Underway.{AreSound, AreWhole, Extend};
@@ -18,6 +19,7 @@ pub fn play(desks: &mut DeskList, job: &Job, rng: &mut Pcg32) -> Result<(), NoMe
     ensures extend { Extend job.now desks.old desks.new }
     ensures whole { OnOk result (AreWhole job.now desks.new) }
     ensures idle { OnOk result (AreIdle job.now desks.new) }
+    ensures course { OnOk result (IsPlay job.now (state desks.old rng.old) (state desks.new rng.new)) }
 {
     'rounds: loop {
         let acted = round(desks, job, rng)?;
@@ -35,6 +37,7 @@ fn round(desks: &mut DeskList, job: &Job, rng: &mut Pcg32) -> Result<bool, NoMem
     ensures extend { Extend job.now desks.old desks.new }
     ensures progress { IfOk result (λ acted. IsProgress job.now desks.old acted desks.new) }
     ensures idle { IfOk result (λ acted. acted ≡ false → AreIdle job.now desks.new) }
+    ensures course { OnOk result (IsRound job.now (state desks.old rng.old) (state desks.new rng.new)) }
 {
     let mut acted = false;
     for role in 0..desks.len() {
@@ -52,6 +55,8 @@ fn turns(desks: &mut DeskList, job: &Job, role: usize, rng: &mut Pcg32) -> Resul
     ensures extend { Extend job.now desks.old desks.new }
     ensures progress { IfOk result (λ acted. IsProgress job.now desks.old acted desks.new) }
     ensures idle { IfOk result (λ acted. acted ≡ false → IsIdleRole job.now desks.new role) }
+    ensures course { OnOk result (AreTurns job.now role
+        (state desks.old rng.old) (state desks.new rng.new)) }
 {
     let mut acted = false;
     for index in 0..job.script().count() {

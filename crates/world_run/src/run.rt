@@ -1,8 +1,10 @@
-ghost use Rattle.std.specs.Prelude.{IfOk, OnOk};
+ghost use Rattle.std.specs.Prelude.{◌≡◌, IfOk, OnOk};
 ghost use Rattle.enactment_model.specs.Safety.{SafeProtocol};
 ghost use Rattle.stamped_history.specs.Explained.{AreExplained};
+ghost use Rattle.world_run.specs.Course.{generator_of};
 ghost use Rattle.world_run.specs.Finished.{IsFinished};
-ghost use Rattle.world_run.specs.World.{AreKept, HistoriesGrow, histories_of};
+ghost use Rattle.world_run.specs.Settling.{Continues, HaveRunWhole, Settles};
+ghost use Rattle.world_run.specs.World.{AreKept, histories_of};
 
 use super::inboxes::renew_inboxes;
 use super::laws::idle_desks_finish;
@@ -15,29 +17,27 @@ use rand_core::SeedableRng;
 use rand_pcg::Pcg32;
 use std::alloc::Global;
 
-/// Runs all roles on one thread, in an order that the plan's seed gives, and settles.
+/// Runs all roles on one thread, in the order that the plan's seed gives: it settles new desks.
 pub fn run_one(alloc: Global, job: &Job) -> Result<World, NoMemory>
     requires safe { SafeProtocol job.now.protocol }
-    ensures { IfOk result (λ world. IsFinished job.now world.desks) }
+    ensures finished { IfOk result (λ world. IsFinished job.now world.desks) }
+    ensures course { IfOk result (λ world. HaveRunWhole job.now world.desks) }
 {
-    let mut desks = open_desks(alloc, job)?;
-    play(&mut desks, job, &mut first_generator(job))?;
+    let desks = open_desks(alloc, job)?;
     let mut world = World { desks };
     settle(alloc, job, &mut world)?;
     Ok(world)
 }
 
-/// Delivers what is owed and lets the agents act until nothing is left. The inboxes are made anew,
-/// in their old room, so what they held before does not matter. Out of memory leaves longer
+/// Delivers what is undelivered and lets the agents act until nothing is left. The inboxes are made
+/// anew, in their old room, so what they held before does not matter. Out of memory leaves longer
 /// histories.
 pub fn settle(alloc: Global, job: &Job, world: &mut World) -> Result<(), NoMemory>
     requires safe { SafeProtocol job.now.protocol }
     requires kept { AreKept job.now world.old.desks }
     requires explained { AreExplained job.now.protocol (histories_of world.old.desks) }
-    ensures ok { OnOk result (IsFinished job.now world.new.desks) }
-    ensures grow { HistoriesGrow (histories_of world.old.desks) (histories_of world.new.desks) }
-    ensures kept { AreKept job.now world.new.desks }
-    ensures explained { AreExplained job.now.protocol (histories_of world.new.desks) }
+    ensures ok { OnOk result (Settles job.now world.old.desks world.new.desks) }
+    ensures continues { Continues job.now world.old.desks world.new.desks }
 {
     // law: desks at which nothing is left to do are finished
     idle_desks_finish(job);
@@ -46,6 +46,8 @@ pub fn settle(alloc: Global, job: &Job, world: &mut World) -> Result<(), NoMemor
 }
 
 /// The generator of the plan's seed.
-fn first_generator(job: &Job) -> Pcg32 {
+fn first_generator(job: &Job) -> Pcg32
+    ensures { result ≡ generator_of job.now }
+{
     Pcg32::seed_from_u64(job.plan().seed)
 }

@@ -1,7 +1,9 @@
 ghost use Rattle.std.specs.Prelude.{◌≡◌, ◌<◌, [], false, length, slice_get, Some, None, IfOk};
+ghost use Rattle.std.specs.Prelude.{OnOk};
 ghost use Rattle.adapter.specs.Desk.{DeskState};
 ghost use Rattle.adapter.specs.Next.{IsNext, IsWorkload};
 ghost use Rattle.enactment_model.specs.Safety.{SafeProtocol};
+ghost use Rattle.world_run.specs.Course.{Emits, IsTurn, Takes, state};
 ghost use Rattle.world_run.specs.inner.Idle.{IsIdleAt};
 ghost use Rattle.world_run.specs.inner.Steps.{IsProgress};
 ghost use Rattle.world_run.specs.inner.Underway.{AreSound, AreWhole, Extend};
@@ -31,6 +33,8 @@ pub fn turn(
     ensures progress { IfOk result (λ acted. IsProgress job.now desks.old acted desks.new) }
     ensures idle { IfOk result (λ acted. acted ≡ false → (d : DeskState) →
         slice_get desks.new role ≡ Some d → IsIdleAt job.now d n) }
+    ensures course { OnOk result (IsTurn job.now role n
+        (state desks.old rng.old) (state desks.new rng.new)) }
 {
     let taken = take(desks, job, role, rng);
     let emitted = emit(desks, job, role, n)?;
@@ -47,6 +51,7 @@ fn take(desks: &mut DeskList, job: &Job, role: usize, rng: &mut Pcg32) -> bool
     ensures progress { IsProgress job.now desks.old result desks.new }
     ensures empty { result ≡ false → (d : DeskState) → slice_get desks.new role ≡ Some d →
         d.inbox.envelopes ≡ [] }
+    ensures course { Takes role (state desks.old rng.old) (state desks.new rng.new) }
 {
     // law: one entry more leaves all receipts explained
     extended_stay_explained();
@@ -63,6 +68,7 @@ fn emit(desks: &mut DeskList, job: &Job, role: usize, n: u64) -> Result<bool, No
     ensures progress { IfOk result (λ acted. IsProgress job.now desks.old acted desks.new) }
     ensures done { IfOk result (λ acted. acted ≡ false → (d : DeskState) →
         slice_get desks.new role ≡ Some d → IsNext job.now d.store n None) }
+    ensures course { OnOk result (Emits job.now role n desks.old desks.new) }
 {
     // law: one entry more leaves all receipts explained
     extended_stay_explained();

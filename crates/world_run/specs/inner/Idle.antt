@@ -1,5 +1,5 @@
 -- When the agent of a desk has nothing left to do.
-use Rattle.std.specs.Prelude.{◌≡◌, ℕ, ◌+◌, ◌<◌, List, [], None, Some, slice_get}
+use Rattle.std.specs.Prelude.{◌≡◌, ℕ, List, [], None, Some, slice_get}
 use Rattle.adapter.specs.Desk.{DeskState}
 use Rattle.adapter.specs.Next.{IsNext, IsWorkload}
 use Rattle.agent_scripts.specs.Job.{Job}
@@ -9,18 +9,9 @@ pub record IsIdleAt (job : Job) (d : DeskState) (n : ℕ) : Type 0 where
   pub empty : d.inbox.envelopes ≡ []
   pub done : IsNext job d.store n None
 
--- at the first numbers, from 1
-abbrev pub IsIdleUpTo : Job → DeskState → ℕ → Type 0
-IsIdleUpTo job d count = (n : ℕ) → n < count → IsIdleAt job d (n + 1)
-
 -- at each workload number
 abbrev pub IsIdle : Job → DeskState → Type 0
 IsIdle job d = (n : ℕ) → IsWorkload job n → IsIdleAt job d n
-
--- the desks of the first roles are idle
-abbrev pub AreIdleUpTo : Job → List DeskState → ℕ → Type 0
-AreIdleUpTo job desks count = (role : ℕ) (d : DeskState) → role < count →
-    slice_get desks role ≡ Some d → IsIdle job d
 
 -- the role's desk is idle
 abbrev pub IsIdleRole : Job → List DeskState → ℕ → Type 0

@@ -1,5 +1,5 @@
 -- Which envelopes are owed, and what posting them changes.
-use Rattle.std.specs.Prelude.{◌≡◌, ℕ, ◌<◌, List, [], length, map, slice_get, Some}
+use Rattle.std.specs.Prelude.{◌≡◌, ℕ, ◌<◌, ◌≤◌, List, [], length, map, slice_get, Some}
 use Rattle.std.specs.List.{All}
 use Rattle.bspl_types.specs.declared.envelope.Envelope.{Envelope}
 use Rattle.bspl_types.specs.declared.event.Event.TheVariants.{Emit}
@@ -15,14 +15,16 @@ use Rattle.played_runs.specs.Rules.{IsNumber}
 use Rattle.reorder_net.specs.Losses.{copies_of}
 use Rattle.stamped_history.specs.declared.entry.Entry.{Entry}
 use Rattle.stamped_history.specs.Explained.{history_at}
+use Rattle.world_run.specs.Sent.{IsSent}
 use Rattle.world_run.specs.World.{histories_of}
-use Rattle.world_run.specs.inner.Underway.{Arrives, AreSound, IsSent, Survives}
+use Rattle.world_run.specs.inner.Underway.{Arrives, AreSound, Survives}
 
--- the envelope has the emission of that entry; its receiver did not receive the message under the
+-- the envelope has the emission of that entry, from its sender; its receiver did not receive the message under the
 -- key; it has as many copies as the plan gives, at least one
 pub record IsOwed (job : Job) (desks : List DeskState) (entry : Entry) (e : Envelope) : Type 0 where
   pub emitted : entry.event ≡ Emit e.message.instance
   pub sent : IsSent job.protocol (histories_of desks) e.message
+  pub from : e.from ≡ (message_of job.protocol e.message.instance.message).sender
   pub is_for : IsFor job e.to e
   pub within : e.to < length desks
   pub copies : (n : ℕ) → IsNumber (rules_of job) n e.message.instance.key →
@@ -54,7 +56,9 @@ pub record ArePosted (job : Job) (old new : List DeskState) : Type 0 where
   pub each : (role : ℕ) (d : DeskState) → slice_get new role ≡ Some d →
       (before : DeskState) × (slice_get old role ≡ Some before) × HasMore before d
 
--- the desks with empty inboxes
+-- the desks with empty inboxes, which keep their room
 pub record AreCleared (old new : List DeskState) : Type 0 where
   pub stores : map (λ d. d.store) new ≡ map (λ d. d.store) old
   pub empty : All (λ d. d.inbox.envelopes ≡ []) new
+  pub room : (role : ℕ) (before d : DeskState) → slice_get old role ≡ Some before →
+      slice_get new role ≡ Some d → before.inbox.spare ≤ d.inbox.spare

@@ -1,7 +1,6 @@
 -- What is true of the desks of a world while their agents act.
 use Rattle.std.specs.Prelude.{◌≡◌, ◌⊎◌, ℕ, ◌≤◌, false, List, length, map, slice_get, Some}
 use Rattle.std.specs.List.{All, Contains, sum_by}
-use Rattle.bspl_types.specs.declared.envelope.Stamped.{Stamped}
 use Rattle.bspl_types.specs.declared.event.Event.{Event}
 use Rattle.bspl_types.specs.declared.event.Event.TheVariants.{Emit, Receive}
 use Rattle.bspl_types.specs.declared.event.Instance.{Instance}
@@ -14,22 +13,9 @@ use Rattle.agent_scripts.specs.Job.{Job}
 use Rattle.local_store.specs.State.{acts_of}
 use Rattle.played_runs.specs.Rules.{IsNumber}
 use Rattle.reorder_net.specs.Losses.{is_lost}
-use Rattle.stamped_history.specs.declared.entry.Entry.{Entry}
 use Rattle.stamped_history.specs.Explained.{AreExplained, history_at}
+use Rattle.world_run.specs.Sent.{AreSent}
 use Rattle.world_run.specs.World.{AreKept, HasHistories, HistoriesGrow, histories_of}
-
--- the sender's entry of the message's number is its emission, with the message's stamp
-pub record IsSent (x : Expanded) (histories : List (List Entry)) (m : Stamped) : Type 0 where
-  pub emission : Entry
-  pub numbered : slice_get (history_at histories (message_of x m.instance.message).sender) m.number
-      ≡ Some emission
-  pub emitted : emission.event ≡ Emit m.instance
-  pub stamped : emission.stamp ≡ m.stamp
-
--- what every inbox holds was sent
-abbrev pub AreSent : Expanded → List DeskState → Type 0
-AreSent x desks = (role : ℕ) (d : DeskState) → slice_get desks role ≡ Some d →
-    All (λ e. IsSent x (histories_of desks) e.message) d.inbox.envelopes
 
 -- a legal run of exactly the desks' events; no stamp exceeds their number
 pub record HaveRun (x : Expanded) (desks : List DeskState) : Type 0 where

@@ -141,10 +141,11 @@ returns c = λ entry at.
     let fitting : IsFittingScript job.script.keys job.script.rules = subst (λ (s : Script). IsFittingScript s.keys s.rules) c.script.ensures.same c.count.ensures.fits in
     let given : entry.number ≡ c.number-2.result = number_is d.store.entries c.args.index entry c.number-2.result shown.at
     (subst (λ (s : StoreState). slice_get {X = ℕ} (numbers s) c.args.index ≡ Some c.number-2.result) c.store-store.ensures c.number-2.ensures) in
+    let from : c.role.result ≡ role = c.role.ensures ∙ ap (λ (s : StoreState). s.role) c.store-store.ensures ∙ (c.requires.sound.kept.each role d c.at.ensures).role_is in
     owed_of job desks role c.args.index d entry (record {
       to = c.at-2.result.now.receiver;
       from = c.role.result;
       message = record { instance = i; stamp = c.event-event.result.1; number = c.number-2.result };
       copies = c.copies-copies.result;
-    }) c.in-Some.n target fitting.distinct c.requires.sound is (ap (λ (m : Message). m.receiver) (sym message)) (sym shown.stamp_is) (sym given ∙ is.number) number copies c.if-copies-eq0.false c.at-3.ensures
+    }) c.in-Some.n target fitting.distinct c.requires.sound is from (ap (λ (m : Message). m.receiver) (sym message)) (sym shown.stamp_is) (sym given ∙ is.number) number copies c.if-copies-eq0.false c.at-3.ensures
     (λ got. absurd (grind (arith, c.if-received.false, c.received.ensures.1 (subst (λ (s : StoreState). IsReceived (acts_of s) i.key i.message) (sym c.store-receiver.ensures) got))))

@@ -11,7 +11,7 @@ at_mut-requires c = omega (arith, c.loop-role-test.true, c.len-role-end.ensures,
 
 pub loop-role-preserved : goal.loop-role-preserved
 loop-role-preserved c =
-    cleared_more c.args.desks.now c.loop-role.desks c.loop-role.role c.at_mut.result.now c.clear_inbox.new.desk c.loop-role.invariant c.at_mut.ensures.item c.clear_inbox.ensures.store c.clear_inbox.ensures.empty
+    cleared_more c.args.desks.now c.loop-role.desks c.loop-role.role c.at_mut.result.now c.clear_inbox.new.desk c.loop-role.invariant c.at_mut.ensures.item c.clear_inbox.ensures.store c.clear_inbox.ensures.empty c.clear_inbox.ensures.room
 
 pub returns : goal.returns
 returns c =

@@ -34,8 +34,8 @@ returns-clause-posted c =
     let is : IsKept c.args.job.now c.in-Some.envelope.to c.at_mut.result.now = c.requires.sound.kept.each c.in-Some.envelope.to c.at_mut.result.now c.at_mut.ensures.item in
     let entry = item_there (history_at (histories_of c.args.desks.now) c.args.role) c.args.index c.requires.index in
     posted_one c.args.job.now c.args.desks.now c.in-Some.envelope c.at_mut.result.now c.accept.new.desk c.requires.sound c.at_mut.ensures.item
-    (subst (λ r. IsKept c.args.job.now r c.accept.new.desk) is.role_is c.accept.ensures.kept) c.accept.ensures.store (c.in-Some.ensures entry.0 entry.1).sent c.in_ok-accept.ensures.ok
+    (subst (λ r. IsKept c.args.job.now r c.accept.new.desk) is.role_is c.accept.ensures.kept) c.in_ok-accept.ensures.ok.store (c.in-Some.ensures entry.0 entry.1).sent c.in_ok-accept.ensures.ok.envelopes
 
 pub returns-clause-arrive : goal.returns-clause-arrive
 returns-clause-arrive c = λ entry at.
-    owed_arrives c.args.job.now c.args.desks.now entry c.in-Some.envelope c.at_mut.result.now c.accept.new.desk (c.in-Some.ensures entry at) c.at_mut.ensures.item c.in_ok-accept.ensures.ok
+    owed_arrives c.args.job.now c.args.desks.now entry c.in-Some.envelope c.at_mut.result.now c.accept.new.desk (c.in-Some.ensures entry at) c.at_mut.ensures.item c.in_ok-accept.ensures.ok.envelopes

@@ -1,5 +1,5 @@
 -- One role more.
-use Rattle.std.proofs.Common.{arith, subst, sym}
+use Rattle.std.proofs.Common.{arith, ◌∙◌, subst, sym}
 use Rattle.stamped_history.specs.Explained.{AreExplained}
 use Rattle.world_run.proofs.OwedLemmas.{cleared_histories, cleared_kept, cleared_sound, renewed_extend, renewed_more, renewed_posted, renewed_whole}
 use Rattle.world_run.proofs.inboxes.renew_inboxes.Goals as goal
@@ -37,3 +37,9 @@ returns-clause-whole c =
     let kept = cleared_kept c.args.job.now c.args.desks.now c.clear_inboxes.new.desks c.requires.kept c.clear_inboxes.ensures in
     renewed_whole c.args.job.now c.args.desks.now c.loop-role.desks c.loop-role.role
     (omega (arith, c.loop-role.invariant.sound.kept.count, kept.count, c.len-role-end.ensures, c.loop-role-test.false)) c.loop-role.invariant
+
+pub returns-in_err-post_all-clause-same : goal.returns-in_err-post_all-clause-same
+returns-in_err-post_all-clause-same c = c.post_all.ensures.posted.histories ∙ c.loop-role.invariant.histories
+
+pub returns-clause-same : goal.returns-clause-same
+returns-clause-same c = c.loop-role.invariant.histories

@@ -1,6 +1,8 @@
 -- The rounds one after another.
 use Rattle.std.proofs.Common.{◌≡◌, false, arith}
-use Rattle.world_run.proofs.RoundLemmas.{extend_twice}
+use Rattle.world_run.specs.Course.{state}
+use Rattle.world_run.proofs.CourseLemmas.{no_rounds, round_more}
+use Rattle.world_run.proofs.RoundLemmas.{extend_none, extend_twice}
 use Rattle.world_run.proofs.rounds.play.Goals as goal
 
 pub returns-in_err-acted-clause-extend : goal.returns-in_err-acted-clause-extend
@@ -17,4 +19,17 @@ rounds-preserved c =
     record {
       extend = extend_twice c.args.job.now c.args.desks.now c.rounds.desks c.round.new.desks c.rounds.invariant.extend c.round.ensures.extend;
       whole = c.in_ok-acted.ensures.progress.whole;
+      course = round_more c.args.job.now (state c.args.desks.now c.args.rng.now) (state c.rounds.desks c.rounds.rng) (state c.round.new.desks c.round.new.rng) c.rounds.invariant.course c.in_ok-acted.ensures.course;
     }
+
+pub rounds-init : goal.rounds-init
+rounds-init c =
+    record {
+      extend = extend_none c.args.job.now c.args.desks.now c.requires.sound;
+      whole = c.requires.whole;
+      course = no_rounds c.args.job.now (state c.args.desks.now c.args.rng.now);
+    }
+
+pub returns-then-not-acted-clause-course : goal.returns-then-not-acted-clause-course
+returns-then-not-acted-clause-course c =
+    round_more c.args.job.now (state c.args.desks.now c.args.rng.now) (state c.rounds.desks c.rounds.rng) (state c.round.new.desks c.round.new.rng) c.rounds.invariant.course c.in_ok-acted.ensures.course

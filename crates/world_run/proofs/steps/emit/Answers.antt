@@ -1,5 +1,5 @@
 -- What an emission leaves, from its lemmas.
-use Rattle.std.proofs.Common.{◌≡◌, ℕ, None, Some, false, List, slice_get, slice_set, sym, ap, ◌∙◌, subst}
+use Rattle.std.proofs.Common.{◌≡◌, ℕ, None, Some, false, List, slice_get, slice_set, refl, sym, ap, ◌∙◌, subst}
 use Rattle.std.proofs.lemmas.Option.{get_or_from_slice_get}
 use Rattle.adapter.specs.Desk.{DeskState}
 use Rattle.adapter.specs.Kept.{IsFor, IsKept}
@@ -99,7 +99,7 @@ returns-clause-extend c =
     let target : DeskState = c.at_mut-2.result.now in
     let is : IsKept job e.to target = done.sound.kept.each e.to target c.at_mut-2.ensures.item in
     let kept_after : IsKept job e.to c.accept.new.desk = subst (λ r. IsKept job r c.accept.new.desk) is.role_is c.accept.ensures.kept in
-    let both = put_done job desks (slice_set desks role new) c.args.n e target c.accept.new.desk done c.at_mut-2.ensures.item kept_after c.accept.ensures.store c.in_ok-accept.ensures.ok in
+    let both = put_done job desks (slice_set desks role new) c.args.n e target c.accept.new.desk done c.at_mut-2.ensures.item kept_after c.in_ok-accept.ensures.ok.store c.in_ok-accept.ensures.ok.envelopes in
     both.0
 
 pub returns-clause-progress : goal.returns-clause-progress
@@ -115,5 +115,35 @@ returns-clause-progress c =
     let target : DeskState = c.at_mut-2.result.now in
     let is : IsKept job e.to target = done.sound.kept.each e.to target c.at_mut-2.ensures.item in
     let kept_after : IsKept job e.to c.accept.new.desk = subst (λ r. IsKept job r c.accept.new.desk) is.role_is c.accept.ensures.kept in
-    let both = put_done job desks (slice_set desks role new) c.args.n e target c.accept.new.desk done c.at_mut-2.ensures.item kept_after c.accept.ensures.store c.in_ok-accept.ensures.ok in
+    let both = put_done job desks (slice_set desks role new) c.args.n e target c.accept.new.desk done c.at_mut-2.ensures.item kept_after c.in_ok-accept.ensures.ok.store c.in_ok-accept.ensures.ok.envelopes in
     both.1
+
+pub returns-in_default-clause-course : goal.returns-in_default-clause-course
+returns-in_default-clause-course c =
+    record {
+      desk = c.at_mut.result.now;
+      at = c.at_mut.ensures.item;
+      envelope = None;
+      next = c.in_default.ensures.plan;
+      after = c.desk_emit.new.desk;
+      emitted = c.in_default.ensures.changed;
+      posted = refl;
+    }
+
+pub returns-clause-course : goal.returns-clause-course
+returns-clause-course c =
+    record {
+      desk = c.at_mut.result.now;
+      at = c.at_mut.ensures.item;
+      envelope = Some c.in-Some.envelope;
+      next = c.in-Some.ensures.plan;
+      after = c.desk_emit.new.desk;
+      emitted = c.in-Some.ensures.changed;
+      posted = record {
+        receiver = c.at_mut-2.result.now;
+        at = c.at_mut-2.ensures.item;
+        after = c.accept.new.desk;
+        accepted = c.in_ok-accept.ensures.ok;
+        desks = refl;
+      };
+    }

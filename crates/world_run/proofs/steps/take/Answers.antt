@@ -1,5 +1,5 @@
 -- What a taking leaves, from its lemmas.
-use Rattle.std.proofs.Common.{ℕ, List, slice_set, sym, ◌∙◌, subst}
+use Rattle.std.proofs.Common.{ℕ, List, slice_set, refl, sym, ◌∙◌, subst}
 use Rattle.adapter.specs.Desk.{DeskState}
 use Rattle.adapter.specs.Kept.{IsKept}
 use Rattle.agent_scripts.specs.Job.{Job}
@@ -39,3 +39,15 @@ returns-clause-empty c = λ rested d d_at.
     let kept : IsKept job role new = subst (λ r. IsKept job r new) (c.requires.sound.kept.each role old c.at_mut.ensures.item).role_is c.desk_take.ensures.kept in
     let left : Taken job desks role c.desk_take.result (slice_set desks role new) = taken c.extended_stay_explained.ensures.receipt job desks role old new c.requires.safe c.requires.sound c.requires.whole c.at_mut.ensures.item kept c.args.rng.now c.desk_take.result c.desk_take.ensures.taken in
     left.empty (sym c.is_some.ensures ∙ rested) d d_at
+
+pub returns-clause-course : goal.returns-clause-course
+returns-clause-course c =
+    record {
+      desk = c.at_mut.result.now;
+      at = c.at_mut.ensures.item;
+      receipt = c.desk_take.result;
+      after = c.desk_take.new.desk;
+      taking = c.desk_take.ensures.taken;
+      desks = refl;
+      word = c.desk_take.ensures.word;
+    }
