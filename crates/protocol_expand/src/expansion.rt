@@ -14,7 +14,7 @@ use protocol_limits::{
     references_are_a_graph, survey,
 };
 use protocol_names::{DocumentFault, FaultKind, ProtocolTable, first_fault};
-use protocol_paths::{Skippable, paths_by_items};
+use protocol_paths::{Followed, paths_by_items};
 use std::alloc::Global;
 
 /// The expansion of the protocol of that name (Singh 2011), or why it has none: the document's
@@ -120,11 +120,11 @@ fn expand_found<'d>(
             messages,
             privates,
         } => {
-            let skippable = Skippable {
+            let followed = Followed {
                 messages: messages.as_slice(),
                 privates: privates.as_slice(),
             };
-            expand_top(alloc, table, &protocols[number], depth, &skippable)
+            expand_top(alloc, table, &protocols[number], depth, &followed)
         }
     }
 }

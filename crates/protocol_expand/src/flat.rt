@@ -6,7 +6,7 @@ ghost use Rattle.protocol_expand.specs.Repeats.{AreNamesDistinct};
 ghost use Rattle.bspl_parser.specs.declared.document.Declaration.{Declaration as SpecDeclaration};
 ghost use Rattle.protocol_paths.specs.Flat.{IsFlat};
 ghost use Rattle.protocol_paths.specs.ReferencePath.{IsWithinDepth};
-ghost use Rattle.protocol_paths.specs.Skippable.{AreSkippable};
+ghost use Rattle.protocol_paths.specs.Followed.{FollowsEnough};
 ghost use Rattle.protocol_expand.specs.inner.Flat.{ExpandsFlat, RefusesFlat, RefusesTop};
 
 use super::repeats::repeated_name;
@@ -14,7 +14,7 @@ use bspl_parser::Declaration;
 use bspl_types::{Expanded, Refusal};
 use flat_expansion::expansion_of_well_scoped;
 use protocol_names::{FlatProtocol, ProtocolTable};
-use protocol_paths::{Skippable, flatten};
+use protocol_paths::{Followed, flatten};
 use std::alloc::Global;
 
 /// The expansion of the top protocol, unless two names of what it stands for are equal. No path
@@ -24,16 +24,16 @@ pub fn expand_top<'d, 's>(
     table: &'s ProtocolTable<'d>,
     top: &'d Declaration<'d>,
     depth: usize,
-    skippable: &'s Skippable<'s>,
+    followed: &'s Followed<'s>,
 ) -> Result<Expanded, Refusal>
-    requires skippable { AreSkippable table.now.protocols.now skippable.now }
+    requires followed { FollowsEnough table.now.protocols.now followed.now }
     requires within_depth { IsWithinDepth table.now.protocols.now top.now depth }
     requires ready { (flat : SpecDeclaration) → IsFlat table.now.protocols.now top.now flat →
         AreNamesDistinct flat → IsWellScoped flat }
     ensures ok { IfOk result (ExpandsFlat table.now.protocols.now top.now) }
     ensures refused { IfErr result (RefusesTop table.now.protocols.now top.now) }
 {
-    let flat = flatten(alloc, table, top, depth, skippable)?;
+    let flat = flatten(alloc, table, top, depth, followed)?;
     expand_flat(alloc, &flat)
 }
 

@@ -1,4 +1,4 @@
-//! The expansion of a protocol that is composed of others, and its text.
+//! The expansion of a protocol, and its text.
 #![tactic(auto)]
 
 mod expansion;

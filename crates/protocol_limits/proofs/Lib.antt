@@ -3,7 +3,7 @@ mod GraphLemmas
 mod UnrolledLemmas
 mod MessageLemmas
 mod PrivateLemmas
-mod MarkLemmas
+mod FollowedLemmas
 mod OrderLemmas
 mod OversizedLemmas
 mod OversizedOrder

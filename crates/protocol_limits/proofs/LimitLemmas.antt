@@ -14,7 +14,7 @@ use Rattle.protocol_names.specs.Names.{key_words}
 use Rattle.reference_graph.specs.PathCounts.{saturated}
 use Rattle.protocol_limits.specs.declared.limit.Limit.{Limit}
 use Rattle.protocol_limits.specs.declared.outcome.LimitError.{LimitError}
-use Rattle.protocol_limits.specs.declared.outcome.LimitError.TheVariants.{OutOfMemory, TooMany}
+use Rattle.protocol_limits.specs.declared.outcome.LimitError.TheVariants.{NoMemory, TooMany}
 use Rattle.protocol_limits.specs.Counts.{key_count, param_count, private_count, role_count}
 use Rattle.protocol_limits.specs.Limits.{AreWithinLimits, is_over, limit, limits, saturated_limit}
 use Rattle.protocol_limits.specs.Survey.{IsLimitError}
@@ -75,7 +75,7 @@ first_over protocols top ls (TooMany what count) are named =
     some_of : (o : Option Limit) (l : Limit) → option_map saturated_limit o ≡ Some l → (over : Limit) × (o ≡ Some over) × (saturated_limit over ≡ l)
     some_of None l same = absurd cc
     some_of (Some over) l same = (over, refl, cc)
-first_over protocols top ls OutOfMemory are named = absurd named
+first_over protocols top ls NoMemory are named = absurd named
 
 -- what is counted of the top protocol itself
 pub roles_at : (protocols : List Declaration) (top : ℕ) (p : Declaration) → slice_get protocols top ≡ Some p → role_count protocols top ≡ length p.roles

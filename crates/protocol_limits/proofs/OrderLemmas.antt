@@ -11,7 +11,7 @@ use Rattle.protocol_limits.specs.Counts.{count_below, depth, message_count, own_
 use Rattle.protocol_limits.specs.Graph.{graph_of}
 use Rattle.protocol_limits.specs.inner.SortedDocument.{AreCounts}
 use Rattle.protocol_limits.proofs.GraphLemmas.{length_graph}
-use Rattle.protocol_limits.proofs.MarkLemmas.{count_of, start_index}
+use Rattle.protocol_limits.proofs.FollowedLemmas.{count_of, start_index}
 
 -- what holds of each item of a list holds of the one at an index
 pub all_at : (P : ℕ → Type 0) (xs : List ℕ) (k a : ℕ) → All P xs → slice_get xs k ≡ Some a → P a

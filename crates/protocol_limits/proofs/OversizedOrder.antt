@@ -17,7 +17,7 @@ use Rattle.protocol_limits.specs.Counts.{first_oversized, oversized_within}
 use Rattle.protocol_limits.specs.Graph.{graph_of, protocol_number, references_of, target_of}
 use Rattle.protocol_limits.specs.inner.Oversized.{first_oversized_in, oversized_item}
 use Rattle.protocol_limits.proofs.GraphLemmas.{length_graph, successors_at}
-use Rattle.protocol_limits.proofs.MarkLemmas.{start_index}
+use Rattle.protocol_limits.proofs.FollowedLemmas.{start_index}
 use Rattle.protocol_limits.proofs.OversizedLemmas.{nothing, oversized_suc, oversized_zero}
 
 -- what is found at the number of a protocol, through at most `n` references

@@ -3,7 +3,7 @@
 pub mod Graph
 pub mod Counts
 pub mod Limits
-pub mod Marking
+pub mod Reported
 pub mod Survey
 pub mod Laws
 -- what private functions alone cite

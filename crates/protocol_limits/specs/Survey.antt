@@ -5,12 +5,12 @@ use Rattle.bspl_parser.specs.declared.document.Declaration.{Declaration}
 use Rattle.reference_graph.specs.Cycle.{IsAcyclic, IsFirstCycle}
 use Rattle.protocol_paths.specs.ReferencePath.{IsWithinDepth}
 use Rattle.protocol_limits.specs.declared.outcome.LimitError.{LimitError}
-use Rattle.protocol_limits.specs.declared.outcome.LimitError.TheVariants.{OutOfMemory, TooMany}
+use Rattle.protocol_limits.specs.declared.outcome.LimitError.TheVariants.{NoMemory, TooMany}
 use Rattle.protocol_limits.specs.declared.outcome.Survey.{Survey}
 use Rattle.protocol_limits.specs.declared.outcome.Survey.TheVariants.{Cycle, Over, Within}
 use Rattle.protocol_limits.specs.Graph.{graph_of}
 use Rattle.protocol_limits.specs.Limits.{AreWithinLimits, IsFirstOver}
-use Rattle.protocol_limits.specs.Marking.{AreReported}
+use Rattle.protocol_limits.specs.Reported.{AreReported}
 
 -- no path of references from the protocol is a cycle
 abbrev pub IsUnrolled : List Declaration → ℕ → Type 0
@@ -23,13 +23,13 @@ pub record IsTooLarge (protocols : List Declaration) (top : ℕ) (what : What)
   pub over : IsFirstOver protocols top what count
 
 -- no path is a cycle, all counts are within their limits, no path has more references than the
--- depth, and the marks are right
+-- depth, and the flags are right
 pub record IsExpandable (protocols : List Declaration) (top depth : ℕ)
     (messages privates : List Bool) : Type 0 where
   pub unrolled : IsUnrolled protocols top
   pub within : AreWithinLimits protocols top
   pub deep : (p : Declaration) → slice_get protocols top ≡ Some p → IsWithinDepth protocols p depth
-  pub marks : AreReported protocols top messages privates
+  pub followed : AreReported protocols top messages privates
 
 -- the protocol where the first cycle ends, a count over its limit, or neither
 abbrev pub IsSurvey : List Declaration → ℕ → Survey → Type 0
@@ -41,4 +41,4 @@ IsSurvey protocols top (Within depth messages privates) =
 -- a count is over its limit, or memory ran out
 abbrev pub IsLimitError : List Declaration → ℕ → LimitError → Type 0
 IsLimitError protocols top (TooMany what count) = IsFirstOver protocols top what count
-IsLimitError protocols top OutOfMemory = Unit {0}
+IsLimitError protocols top NoMemory = Unit {0}

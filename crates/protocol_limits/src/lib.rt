@@ -1,12 +1,12 @@
-//! Whether a protocol may be expanded: the first cycle of its references, and the limits.
+//! The first cycle of references, or count over its limit.
 #![tactic(auto)]
 
 mod bounds;
 mod counts;
+mod followed;
 mod laws;
 mod limit;
 mod limits;
-mod marks;
 mod outcome;
 mod oversized;
 mod path_totals;

@@ -57,7 +57,7 @@ fn limits_of(
     [
         limit(
             What::Protocols,
-            document.directory.protocols.len() as u64,
+            document.table.protocols.len() as u64,
             PROTOCOL_LIMIT,
         ),
         limit(What::Depth, totals.depth, DEPTH_LIMIT),

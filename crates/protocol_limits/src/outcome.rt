@@ -29,16 +29,16 @@ pub(crate) enum LimitError {
     /// The first count over its limit.
     TooMany { what: What, count: u64 },
     /// Memory ran out.
-    OutOfMemory,
+    NoMemory,
 }
 
 impl From<NoMemory> for LimitError {
     ghost use Rattle.std.specs.Prelude.{◌≡◌};
-    ghost use Rattle.protocol_limits.specs.declared.outcome.LimitError.TheVariants.{OutOfMemory};
+    ghost use Rattle.protocol_limits.specs.declared.outcome.LimitError.TheVariants.{NoMemory as SpecNoMemory};
 
-    ghost from_gives = { λ _ error. error ≡ OutOfMemory };
+    ghost from_gives = { λ _ error. error ≡ SpecNoMemory };
 
     fn from(_error: NoMemory) -> LimitError {
-        LimitError::OutOfMemory
+        LimitError::NoMemory
     }
 }

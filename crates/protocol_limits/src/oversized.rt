@@ -19,29 +19,25 @@ pub(crate) fn first_oversized(document: &SortedDocument) -> Result<Option<u64>, 
 {
     // law: an order has no more nodes than the graph
     orders_are_short();
-    let protocols = document.directory.protocols;
-    let mut table = vec![in document.alloc; None; protocols.len()]?;
+    let protocols = document.table.protocols;
+    let mut counts = vec![in document.alloc; None; protocols.len()]?;
     for number in document.order {
         let body = protocols[*number as usize].body.as_slice();
-        let found = first_oversized_in(document.directory, &table, body);
-        table[*number as usize] = found;
+        let found = first_oversized_in(document.table, &counts, body);
+        counts[*number as usize] = found;
     }
-    Ok(table[document.top as usize])
+    Ok(counts[document.top as usize])
 }
 
 /// The first number that is found of the items: of a message itself, and of a reference what the
-/// table has of its target.
-fn first_oversized_in(
-    directory: &ProtocolTable,
-    table: &[Option<u64>],
-    body: &[Item],
-) -> Option<u64>
-    requires { length table.now ≡ length directory.now.protocols.now }
-    ensures { result ≡ first_oversized_in directory.now.protocols.now
-        (λ k. slice_index_or table.now k None) body.now }
+/// counts say of its target.
+fn first_oversized_in(table: &ProtocolTable, counts: &[Option<u64>], body: &[Item]) -> Option<u64>
+    requires { length counts.now ≡ length table.now.protocols.now }
+    ensures { result ≡ first_oversized_in table.now.protocols.now
+        (λ k. slice_index_or counts.now k None) body.now }
 {
     for item in body {
-        let found = oversized_item(directory, table, item);
+        let found = oversized_item(table, counts, item);
         if found.is_some() {
             return found;
         }
@@ -50,16 +46,16 @@ fn first_oversized_in(
 }
 
 /// The number that is found of one item.
-fn oversized_item(directory: &ProtocolTable, table: &[Option<u64>], item: &Item) -> Option<u64>
-    requires { length table.now ≡ length directory.now.protocols.now }
-    ensures { result ≡ oversized_item directory.now.protocols.now
-        (λ k. slice_index_or table.now k None) item.now }
+fn oversized_item(table: &ProtocolTable, counts: &[Option<u64>], item: &Item) -> Option<u64>
+    requires { length counts.now ≡ length table.now.protocols.now }
+    ensures { result ≡ oversized_item table.now.protocols.now
+        (λ k. slice_index_or counts.now k None) item.now }
 {
     if let Item::Message(schema) = item {
         return oversized_count(schema.params.len());
     }
-    match target_of(directory, item) {
-        Some(number) => table[number],
+    match target_of(table, item) {
+        Some(number) => counts[number],
         None => None,
     }
 }

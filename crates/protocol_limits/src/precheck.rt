@@ -3,9 +3,9 @@ ghost use Rattle.protocol_limits.specs.Survey.{IsSurvey, IsUnrolled};
 ghost use Rattle.protocol_limits.specs.inner.PathTotals.{AreChecked};
 ghost use Rattle.protocol_limits.specs.inner.SortedDocument.{IsSorted, sorted_protocols};
 
+use super::followed::followed_of;
 use super::laws::unrolled_paths_are_short;
 use super::limits::check_limits;
-use super::marks::marks_of;
 use super::outcome::{LimitError, Survey};
 use super::path_totals::PathTotals;
 use super::references::graph_of;
@@ -17,17 +17,17 @@ use std::alloc::Global;
 
 /// Whether the protocol of that number may be expanded: the first cycle of its references, the
 /// first count over its limit, or what an expansion may go by.
-pub fn survey(alloc: Global, directory: &ProtocolTable, top: u32) -> Result<Survey, NoMemory>
-    requires declared { top < length directory.now.protocols.now }
-    requires few { length directory.now.protocols.now < 2 ^ 32 }
-    ensures { IfOk result (IsSurvey directory.now.protocols.now top) }
+pub fn survey(alloc: Global, table: &ProtocolTable, top: u32) -> Result<Survey, NoMemory>
+    requires declared { top < length table.now.protocols.now }
+    requires few { length table.now.protocols.now < 2 ^ 32 }
+    ensures { IfOk result (IsSurvey table.now.protocols.now top) }
 {
-    let graph = graph_of(alloc, directory)?;
+    let graph = graph_of(alloc, table)?;
     match walk(alloc, &graph, top)? {
         WalkResult::Cycle(node) => Ok(Survey::Cycle(node)),
         WalkResult::Order(order) => survey_of(&SortedDocument {
             alloc,
-            directory,
+            table,
             graph: &graph,
             order: order.as_slice(),
             top,
@@ -41,11 +41,11 @@ fn survey_of(document: &SortedDocument) -> Result<Survey, NoMemory>
     ensures { IfOk result (IsSurvey (sorted_protocols document.now) document.now.top) }
 {
     no_cycle(document);
-    let top = &document.directory.protocols[document.top as usize];
+    let top = &document.table.protocols[document.top as usize];
     match check_limits(document, top) {
         Ok(totals) => within(document, &totals),
         Err(LimitError::TooMany { what, count }) => Ok(Survey::Over { what, count }),
-        Err(LimitError::OutOfMemory) => Err(NoMemory),
+        Err(LimitError::NoMemory) => Err(NoMemory),
     }
 }
 
@@ -69,8 +69,8 @@ fn within(document: &SortedDocument, totals: &PathTotals) -> Result<Survey, NoMe
     unrolled_paths_are_short();
     // law: the weight of a node is its own, and those of the nodes that it refers to
     weights_add_up();
-    let messages = marks_of(document, totals.messages.as_slice())?;
-    let privates = marks_of(document, totals.privates.as_slice())?;
+    let messages = followed_of(document, totals.messages.as_slice())?;
+    let privates = followed_of(document, totals.privates.as_slice())?;
     Ok(Survey::Within {
         depth: totals.depth as usize,
         messages,

@@ -6,7 +6,7 @@ use std::alloc::Global;
 #[derive(Drop)]
 pub(crate) struct SortedDocument<'d, 's, 'a> {
     pub alloc: Global,
-    pub directory: &'s ProtocolTable<'d>,
+    pub table: &'s ProtocolTable<'d>,
     pub graph: &'a Graph,
     /// What is reached, each protocol after all that it refers to.
     pub order: &'a [u32],

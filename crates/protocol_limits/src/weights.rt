@@ -15,7 +15,7 @@ pub(crate) fn message_counts(document: &SortedDocument) -> Result<Seq<u64>, NoMe
     ensures { IfOk result
         (AreCounts (message_count (sorted_protocols document.now)) document.now.order.now) }
 {
-    let own = own_messages(document.alloc, document.directory.protocols)?;
+    let own = own_messages(document.alloc, document.table.protocols)?;
     weights_below(
         document.alloc,
         document.graph,
@@ -30,7 +30,7 @@ pub(crate) fn private_counts(document: &SortedDocument) -> Result<Seq<u64>, NoMe
     ensures { IfOk result
         (AreCounts (private_count (sorted_protocols document.now)) document.now.order.now) }
 {
-    let own = own_privates(document.alloc, document.directory.protocols)?;
+    let own = own_privates(document.alloc, document.table.protocols)?;
     weights_below(
         document.alloc,
         document.graph,

@@ -4,14 +4,15 @@ use Rattle.std.specs.List.{enumerate_from, flat_map}
 use Rattle.std.proofs.lemmas.List.{append-nil, append_assoc}
 use Rattle.bspl_parser.specs.declared.document.Declaration.{Declaration}
 use Rattle.bspl_parser.specs.declared.document.Item.{Item}
-use Rattle.bspl_parser.specs.declared.document.Item.TheVariants.{Reference}
+use Rattle.bspl_parser.specs.declared.document.Item.TheVariants.{Message, Reference}
 use Rattle.bspl_parser.specs.declared.document.Reference.{Reference as SpecReference}
+use Rattle.bspl_parser.specs.declared.document.Schema.{Schema}
 use Rattle.bspl_parser.specs.declared.word.Word.{Word}
 use Rattle.protocol_names.specs.Names.{protocol_of}
-use Rattle.protocol_paths.specs.declared.skippable.Skippable.{Skippable}
+use Rattle.protocol_paths.specs.declared.followed.Followed.{Followed}
 use Rattle.protocol_paths.specs.Flat.{private_entries, privates_at}
-use Rattle.protocol_paths.specs.inner.AddsEach.{entries_after}
-use Rattle.protocol_paths.specs.Skippable.{AreSkippable, IsSkipped}
+use Rattle.protocol_paths.specs.inner.AddsEnds.{item_entries}
+use Rattle.protocol_paths.specs.Followed.{FollowsEnough, IsSkipped}
 use Rattle.protocol_paths.specs.Path.{Step, end_of, numbered, paths, private_words, steps, steps_at}
 use Rattle.protocol_paths.specs.Scope.{Scope, after, scope_at}
 use Rattle.protocol_paths.proofs.EmptyBelow.{fewer_words, flat_map-flat_map, flat_map-map, flat_map-same, flat_map_empty}
@@ -36,9 +37,15 @@ none_at_end scope path none =
 pub no_entries : (n : ℕ) (protocols : List Declaration) (scope : Scope) → private_words n protocols scope.protocol ≡ [] → private_entries n protocols scope ≡ []
 no_entries n protocols scope none = flat_map_empty (λ path. (end_of scope.protocol path).private) (λ path. privates_at (scope_at scope path)) (none_at_end scope) (paths n protocols scope.protocol) none
 
+-- without references nothing comes of the items
+no_items : (protocols : List Declaration) (scope : Scope) (items : List (ℕ × Item)) → flat_map (item_entries zero protocols scope) items ≡ []
+no_items protocols scope [] = refl
+no_items protocols scope (i ∷ items) = no_items protocols scope items
+
 -- of one protocol its own, and then those through each item
-entries_more : (n : ℕ) (protocols : List Declaration) (scope : Scope) → private_entries (suc n) protocols scope ≡ privates_at scope ++ flat_map (entries_after n protocols scope) (numbered scope.protocol)
-entries_more n protocols scope = ap (λ (list : List Entry). privates_at scope ++ list) (
+pub entries_more : (n : ℕ) (protocols : List Declaration) (scope : Scope) → private_entries n protocols scope ≡ privates_at scope ++ flat_map (item_entries n protocols scope) (numbered scope.protocol)
+entries_more zero protocols scope = ap (λ (list : List Entry). privates_at scope ++ list) (sym (no_items protocols scope (numbered scope.protocol)))
+entries_more (suc n) protocols scope = ap (λ (list : List Entry). privates_at scope ++ list) (
     flat_map-flat_map (λ path. privates_at (scope_at scope path)) (λ s. map (λ path. s ∷ path) (paths n protocols s.target)) (steps protocols scope.protocol)
     ∙ flat_map-same (λ s. flat_map (λ path. privates_at (scope_at scope path)) (map (λ path. s ∷ path) (paths n protocols s.target))) (λ s. private_entries n protocols (after scope s)) (λ s. flat_map-map (λ path. privates_at (scope_at scope path)) (λ path. s ∷ path) (paths n protocols s.target)) (steps protocols scope.protocol)
     ∙ flat_map-flat_map (λ s. private_entries n protocols (after scope s)) (steps_at protocols) (numbered scope.protocol))
@@ -50,29 +57,33 @@ after_more f body i item own old mid new within is_item so_far one =
     ∙ ap (λ (list : List Entry). old ++ list) (append_assoc own (flat_map f (take i (enumerate_from 1 body))) (f (i + 1, item)))
     ∙ ap (λ (list : List Entry). old ++ (own ++ list)) (sym (made_more f body i item within is_item))
 
-pub after_all : (n i : ℕ) (protocols : List Declaration) (scope : Scope) (old new : List Entry) → 0 < n → length scope.protocol.body ≤ i → new ≡ old ++ (privates_at scope ++ flat_map (entries_after (n - 1) protocols scope) (take i (numbered scope.protocol))) → new ≡ old ++ private_entries n protocols scope
-after_all zero i protocols scope old new some past so_far = absurd (omega (arith, some))
-after_all (suc n) i protocols scope old new some past so_far =
-    let less : suc n - 1 ≡ n = omega arith in
+pub after_all : (n i : ℕ) (protocols : List Declaration) (scope : Scope) (old new : List Entry) → length scope.protocol.body ≤ i → new ≡ old ++ (privates_at scope ++ flat_map (item_entries n protocols scope) (take i (numbered scope.protocol))) → new ≡ old ++ private_entries n protocols scope
+after_all n i protocols scope old new past so_far =
     so_far
-    ∙ ap (λ m. old ++ (privates_at scope ++ flat_map (entries_after m protocols scope) (take i (numbered scope.protocol)))) less
-    ∙ ap (λ (list : List Entry). old ++ (privates_at scope ++ list)) (made_all (entries_after n protocols scope) scope.protocol.body i past)
+    ∙ ap (λ (list : List Entry). old ++ (privates_at scope ++ list)) (made_all (item_entries n protocols scope) scope.protocol.body i past)
     ∙ ap (λ (list : List Entry). old ++ list) (sym (entries_more n protocols scope))
 
--- through a message there is nothing
+-- nothing was added
 pub after_none : (list old : List Entry) → list ≡ [] → old ≡ old ++ list
 after_none list old none = sym (append-nil old) ∙ ap (λ (more : List Entry). old ++ more) (sym none)
 
--- nor through a reference that is passed over
-pub entries_skipped : (n : ℕ) (protocols : List Declaration) (skippable : Skippable) (scope : Scope) (position : ℕ) (r : SpecReference) → n ≤ length protocols → AreSkippable protocols skippable → IsSkipped protocols skippable.privates.now r.protocol.text → entries_after n protocols scope (position, Reference r) ≡ []
-entries_skipped n protocols skippable scope position r within allowed skipped =
+-- there is nothing through a message
+pub entries_of_message : (n : ℕ) (protocols : List Declaration) (scope : Scope) (position : ℕ) (m : Schema) → item_entries n protocols scope (position, Message m) ≡ []
+entries_of_message zero protocols scope position m = refl
+entries_of_message (suc n) protocols scope position m = refl
+
+-- nor through a reference that is skipped
+pub entries_skipped : (n : ℕ) (protocols : List Declaration) (followed : Followed) (scope : Scope) (position : ℕ) (r : SpecReference) → n ≤ length protocols → FollowsEnough protocols followed → ((q : Declaration) → protocol_of protocols r.protocol.text ≡ Some q → IsSkipped protocols followed.privates.now q) → item_entries n protocols scope (position, Reference r) ≡ []
+entries_skipped zero protocols followed scope position r within enough skipped = refl
+entries_skipped (suc n) protocols followed scope position r within enough skipped =
     no_step (λ s. private_entries n protocols (after scope s)) protocols position r
-    (λ q found. no_entries n protocols (after scope (step_by position r q)) (fewer_words n (length protocols) protocols q within (allowed.privates q (skipped q found))))
+    (λ q found. no_entries n protocols (after scope (step_by position r q)) (fewer_words n (length protocols) protocols q (omega (arith, within)) (enough.privates q (skipped q found))))
 
 -- those through a reference that is followed
-pub entries_through : (n : ℕ) (protocols : List Declaration) (scope next : Scope) (position : ℕ) (r : SpecReference) (q : Declaration) (i : Item) → i ≡ Reference r → protocol_of protocols r.protocol.text ≡ Some q → next ≡ after scope (step_by position r q) → private_entries n protocols next ≡ entries_after n protocols scope (position, i)
-entries_through n protocols scope next position r q i is found leads =
-    ap (private_entries n protocols) leads
-    ∙ sym (append-nil (private_entries n protocols (after scope (step_by position r q))))
-    ∙ sym (ap (flat_map (λ s. private_entries n protocols (after scope s))) (one_step protocols position r q found))
-    ∙ ap (λ (j : Item). entries_after n protocols scope (position, j)) (sym is)
+pub entries_through : (n : ℕ) (protocols : List Declaration) (scope : Scope) (position : ℕ) (r : SpecReference) (q : Declaration) → 0 < n → protocol_of protocols r.protocol.text ≡ Some q → item_entries n protocols scope (position, Reference r) ≡ private_entries (n - 1) protocols (after scope (step_by position r q))
+entries_through zero protocols scope position r q some found = absurd (omega (arith, some))
+entries_through (suc n) protocols scope position r q some found =
+    let less : n ≡ suc n - 1 = omega arith in
+    ap (flat_map (λ s. private_entries n protocols (after scope s))) (one_step protocols position r q found)
+    ∙ append-nil (private_entries n protocols (after scope (step_by position r q)))
+    ∙ ap (λ m. private_entries m protocols (after scope (step_by position r q))) less

@@ -1,11 +1,13 @@
 pub mod AddingLemmas
 pub mod CompositionLemmas
 pub mod DepthLemmas
+pub mod EndLemmas
 pub mod EmptyBelow
 pub mod EntryLemmas
 pub mod FlatLemmas
 pub mod Numbered
 pub mod OwnWordLemmas
+pub mod PathOrderLemmas
 pub mod Pieces
 pub mod PlainLemmas
 pub mod PositionLemmas

@@ -108,17 +108,17 @@ ends_lead : (n : ℕ) (protocols : List Declaration) (p : Declaration) → All (
 ends_lead n protocols p = all_gathered (Leads protocols p) (ends_at n protocols) (numbered p) (numbered_all (λ i. All (Leads protocols p) (ends_at n protocols i)) p (item_leads n protocols p))
 
 -- a member of a list that a member makes
-member_gathered : {X Y : Type 0} (f : X → List Y) (xs : List X) (x : X) (y : Y) → Contains xs x → Contains (f x) y → Contains (flat_map f xs) y
+pub member_gathered : {X Y : Type 0} (f : X → List Y) (xs : List X) (x : X) (y : Y) → Contains xs x → Contains (f x) y → Contains (flat_map f xs) y
 member_gathered f [] x y among made = absurd (omega (arith, among.1))
 member_gathered {X} f (z ∷ xs) x y (zero, within, is) made = Contains-append_left (f z) (flat_map f xs) y (subst (λ (w : X). Contains (f w) y) (sym is) made)
 member_gathered f (z ∷ xs) x y (suc k, within, is) made = Contains-append_right (f z) (flat_map f xs) y (member_gathered f xs x y (k, omega (arith, within), is) made)
 
 -- a member of a mapped list
-member_mapped : {X Y : Type 0} (f : X → Y) (xs : List X) (x : X) → Contains xs x → Contains (map f xs) (f x)
+pub member_mapped : {X Y : Type 0} (f : X → Y) (xs : List X) (x : X) → Contains xs x → Contains (map f xs) (f x)
 member_mapped f xs x among = (among.0, omega (arith, among.1, length-map xs f), get_or-map f xs among.0 x (f x) among.1 ∙ ap f among.2)
 
 -- the item at a position is among the numbered items
-item_numbered : (p : Declaration) (k : ℕ) (i : Item) → item_at p k ≡ Some i → Contains (numbered p) (k, i)
+pub item_numbered : (p : Declaration) (k : ℕ) (i : Item) → item_at p k ≡ Some i → Contains (numbered p) (k, i)
 item_numbered p zero i at = absurd cc
 item_numbered p (suc j) i at =
     let inside = slice_get_within p.body j i at in
@@ -177,7 +177,7 @@ earlier_below k e f begins later =
     subst (λ ks. IsLexBelow ks f.0) (sym begins.1) (subst (λ ls. IsLexBelow (k ∷ begins.0) ls) (sym later.2.1) (inl (omega (arith, later.1))))
 
 -- rising pairs in two lists, the first below the second
-pairs_append : {X : Type 0} (R : X → X → Type 0) (xs ys : List X) → AllPairs R xs → AllPairs R ys → All (λ x. All (R x) ys) xs → AllPairs R (xs ++ ys)
+pub pairs_append : {X : Type 0} (R : X → X → Type 0) (xs ys : List X) → AllPairs R xs → AllPairs R ys → All (λ x. All (R x) ys) xs → AllPairs R (xs ++ ys)
 pairs_append R [] ys one other across = other
 pairs_append {X} R (x ∷ xs) ys one other across =
     AllPairs-cons R x (xs ++ ys)

@@ -1,23 +1,18 @@
--- What a reference leads to, where it is followed and where it is passed over.
-use Rattle.std.proofs.Common.{◌≡◌, ℕ, zero, suc, ◌-◌, ◌<◌, ◌≤◌, List, [], ◌∷◌, ◌++◌, length, map, Option, Some, None, Result, refl, sym, ap, subst, ◌∙◌, arith}
-use Rattle.std.specs.Prelude.{OnOk}
+-- What a reference leads to, where it is followed and where it is skipped.
+use Rattle.std.proofs.Common.{◌≡◌, ℕ, zero, suc, ◌-◌, ◌<◌, ◌≤◌, List, [], ◌∷◌, ◌++◌, length, map, Option, Some, None, refl, ap, ◌∙◌, arith}
 use Rattle.std.specs.List.{flat_map}
 use Rattle.std.specs.Option.{option_map_or}
 use Rattle.std.proofs.lemmas.List.{append-nil}
 use Rattle.bspl_parser.specs.declared.document.Declaration.{Declaration}
-use Rattle.bspl_parser.specs.declared.document.Item.{Item}
 use Rattle.bspl_parser.specs.declared.document.Item.TheVariants.{Message, Reference}
 use Rattle.bspl_parser.specs.declared.document.Reference.{Reference as SpecReference}
 use Rattle.bspl_parser.specs.declared.document.Schema.{Schema}
 use Rattle.protocol_names.specs.Names.{protocol_of}
-use Rattle.protocol_paths.specs.declared.skippable.Skippable.{Skippable}
-use Rattle.protocol_paths.specs.inner.AddsEach.{AddsEach, IsImageMessage}
+use Rattle.protocol_paths.specs.declared.followed.Followed.{Followed}
 use Rattle.protocol_paths.specs.inner.Links.{IsLinkBy, step_of}
 use Rattle.protocol_paths.specs.declared.link.Link.{Link}
-use Rattle.protocol_paths.specs.Skippable.{AreSkippable, IsSkipped}
+use Rattle.protocol_paths.specs.Followed.{FollowsEnough, IsSkipped}
 use Rattle.protocol_paths.specs.Path.{Step, through, item_messages, message_paths, steps_at}
-use Rattle.protocol_paths.specs.Scope.{Scope, after}
-use Rattle.protocol_paths.proofs.AddingLemmas.{adds_after, on_ok}
 use Rattle.protocol_paths.proofs.EmptyBelow.{fewer_messages}
 
 -- the step by a reference to a protocol
@@ -54,20 +49,9 @@ messages_after (suc n) protocols position r q some found =
     ∙ append-nil (map (through (step_by position r q)) (message_paths n protocols q))
     ∙ ap (λ m. map (through (step_by position r q)) (message_paths m protocols q)) less
 
--- there are none through one that is passed over
-pub messages_skipped : (n : ℕ) (protocols : List Declaration) (skippable : Skippable) (position : ℕ) (r : SpecReference) → n ≤ length protocols → AreSkippable protocols skippable → IsSkipped protocols skippable.messages.now r.protocol.text → item_messages n protocols (position, Reference r) ≡ []
-messages_skipped zero protocols skippable position r within allowed skipped = refl
-messages_skipped (suc n) protocols skippable position r within allowed skipped =
+-- there are none through one that is skipped
+pub messages_skipped : (n : ℕ) (protocols : List Declaration) (followed : Followed) (position : ℕ) (r : SpecReference) → n ≤ length protocols → FollowsEnough protocols followed → ((q : Declaration) → protocol_of protocols r.protocol.text ≡ Some q → IsSkipped protocols followed.messages.now q) → item_messages n protocols (position, Reference r) ≡ []
+messages_skipped zero protocols followed position r within enough skipped = refl
+messages_skipped (suc n) protocols followed position r within enough skipped =
     no_step (λ s. map (through s) (message_paths n protocols s.target)) protocols position r
-    (λ q found. ap (map (through (step_by position r q))) (fewer_messages n (length protocols) protocols q (omega (arith, within)) (allowed.messages q (skipped q found))))
-
--- what has been added from the next scope has been added through the reference
-pub added_after : {T E : Type 0} (protocols : List Declaration) (scope next : Scope) (n position : ℕ) (r : SpecReference) (q : Declaration) (i : Item) (old new : List Schema) (result : Result T E) → i ≡ Reference r → 0 < n → protocol_of protocols r.protocol.text ≡ Some q → next ≡ after scope (step_by position r q) → OnOk result (AddsEach (IsImageMessage next) (message_paths (n - 1) protocols next.protocol) old new) → OnOk result (AddsEach (IsImageMessage scope) (item_messages n protocols (position, i)) old new)
-added_after protocols scope next n position r q i old new result is some found leads added = on_ok result to added
-  where
-    to : AddsEach (IsImageMessage next) (message_paths (n - 1) protocols next.protocol) old new → AddsEach (IsImageMessage scope) (item_messages n protocols (position, i)) old new
-    to adds =
-        let there : next.protocol ≡ q = ap (λ (p : Scope). p.protocol) leads in
-        let same : item_messages n protocols (position, i) ≡ map (through (step_by position r q)) (message_paths (n - 1) protocols next.protocol) =
-        ap (λ (j : Item). item_messages n protocols (position, j)) is ∙ messages_after n protocols position r q some found ∙ ap (λ (p : Declaration). map (through (step_by position r q)) (message_paths (n - 1) protocols p)) (sym there) in
-        subst (λ (xs : List (List Step × Schema)). AddsEach (IsImageMessage scope) xs old new) (sym same) (adds_after scope next (step_by position r q) (message_paths (n - 1) protocols next.protocol) old new leads adds)
+    (λ q found. ap (map (through (step_by position r q))) (fewer_messages n (length protocols) protocols q (omega (arith, within)) (enough.messages q (skipped q found))))

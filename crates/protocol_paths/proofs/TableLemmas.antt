@@ -1,12 +1,17 @@
 -- The tables at the index of a protocol.
-use Rattle.std.proofs.Common.{◌≡◌, ℕ, zero, suc, ◌<◌, List, [], ◌∷◌, length, get_or, Some, refl, ap, arith}
+use Rattle.std.proofs.Common.{◌≡◌, ℕ, zero, suc, ◌<◌, List, [], ◌∷◌, length, get_or, Some, Ok, Err, Result, refl, sym, ap, subst, arith}
+use Rattle.std.specs.Prelude.{IfOk}
 use Rattle.std.specs.List.{AllZip, position}
 use Rattle.std.specs.Str.{bytes_eq}
 use Rattle.std.proofs.lemmas.List.{length-map}
 use Rattle.std.proofs.lemmas.List.Quantifiers.{position-Some}
+use Rattle.std.proofs.lemmas.Option.{get_or_from_slice_get, slice_get_within}
+use Rattle.list_base.specs.declared.memory.NoMemory.{NoMemory}
 use Rattle.bspl_parser.specs.declared.document.Declaration.{Declaration}
 use Rattle.bspl_parser.specs.declared.word.Word.{Word}
 use Rattle.protocol_names.specs.Names.{protocol_words, texts}
+use Rattle.protocol_paths.specs.declared.name_tables.NameTables.{NameTables}
+use Rattle.protocol_paths.specs.inner.Tables.{AreTablesOf, HaveTables}
 
 -- lists whose items belong together are equally long
 pub same_length : {A B : Type 0} (R : A → B → Type 0) (xs : List A) (ys : List B) → AllZip R xs ys → length xs ≡ length ys
@@ -29,3 +34,18 @@ is_within protocols name k found =
     let one = length-map (protocol_words protocols) (λ (w : Word). w.text) in
     let other = length-map protocols (λ (p : Declaration). p.name) in
     omega (arith, bound, one, other)
+
+-- tables that were made one by one are those of the protocols by their numbers
+pub have_tables : (protocols : List Declaration) (tables : List NameTables) → AllZip AreTablesOf protocols tables → HaveTables protocols tables
+have_tables protocols tables all = record {
+  count = sym (same_length AreTablesOf protocols tables all);
+  each = λ k p t declared at.
+      let pair = pair_at AreTablesOf protocols tables k p t all (slice_get_within protocols k p declared) in
+      subst (λ (q : Declaration). AreTablesOf q t) (get_or_from_slice_get protocols k p p declared)
+      (subst (AreTablesOf (get_or protocols k p)) (get_or_from_slice_get tables k t t at) pair);
+}
+
+-- of an answer
+pub have_tables_of : (protocols : List Declaration) (limit : ℕ) (result : Result (List NameTables) NoMemory) → IfOk result (AllZip AreTablesOf protocols) → IfOk result (λ tables. 0 < limit → HaveTables protocols tables)
+have_tables_of protocols limit (Ok tables) all = λ some. have_tables protocols tables all
+have_tables_of protocols limit (Err e) all = tt

@@ -12,7 +12,7 @@ use Rattle.protocol_paths.specs.Composition.{param_composed, prefix_composed, ro
 use Rattle.protocol_paths.specs.Flat.{IsFlat}
 use Rattle.protocol_paths.specs.Path.{Step, end_of, item_messages, message_paths, paths, steps_at}
 use Rattle.protocol_paths.specs.Path.{private_words}
-use Rattle.protocol_paths.specs.Position.{ListsMessages}
+use Rattle.protocol_paths.specs.Position.{ListsMessages, ListsPaths}
 use Rattle.protocol_paths.specs.ReferencePath.{HasNoCycle, IsWithinDepth}
 use Rattle.protocol_paths.specs.Scope.{Scope, param_at, role_at, scope_at, start}
 
@@ -36,6 +36,12 @@ pub record LongerBoundsAddNothing : Type 0 where
 abbrev pub MessagePathsAreAll : Type 0
 MessagePathsAreAll = (n : ℕ) (protocols : List Declaration) (top : Declaration) →
     IsWithinDepth protocols top n → ListsMessages protocols top (message_paths n protocols top)
+
+-- within such a bound, the paths listed are all paths, by their positions: the private parameters
+-- of a flat protocol are those of the protocols at their ends, path after path
+abbrev pub PathsAreAll : Type 0
+PathsAreAll = (n : ℕ) (protocols : List Declaration) (top : Declaration) →
+    IsWithinDepth protocols top n → ListsPaths protocols top (paths n protocols top)
 
 -- in the scope at the end of a path, a name is what the composed maps of its references give
 pub record NamesAreComposed (top : Declaration) (outward : List Step) : Type 0 where

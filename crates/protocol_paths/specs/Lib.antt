@@ -4,7 +4,7 @@ pub mod Prefix
 pub mod Scope
 pub mod Substituted
 pub mod Flat
-pub mod Skippable
+pub mod Followed
 pub mod ReferencePath
 pub mod Position
 pub mod Composition

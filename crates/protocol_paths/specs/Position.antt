@@ -1,12 +1,12 @@
--- Paths of positions that lead to messages, and lists of the messages at their ends.
+-- Paths of positions, and lists of the protocols and of the messages to which they lead.
 use Rattle.std.specs.Prelude.{◌≡◌, ◌↔◌, ℕ, ◌<◌, ◌⊎◌, List, [], ◌∷◌, ◌++◌, map, Some}
-use Rattle.std.specs.List.{AllPairs, AllZip, Contains}
+use Rattle.std.specs.List.{All, AllPairs, AllZip, Contains}
 use Rattle.bspl_parser.specs.declared.document.Declaration.{Declaration}
 use Rattle.bspl_parser.specs.declared.document.Item.TheVariants.{Message, Reference}
 use Rattle.bspl_parser.specs.declared.document.Reference.{Reference as SpecReference}
 use Rattle.bspl_parser.specs.declared.document.Schema.{Schema}
 use Rattle.protocol_names.specs.Names.{protocol_of}
-use Rattle.protocol_paths.specs.Path.{Step}
+use Rattle.protocol_paths.specs.Path.{Step, end_of}
 use Rattle.protocol_paths.specs.ReferencePath.{IsReferencePath, item_at}
 
 -- the reference at the position leads to the protocol
@@ -15,6 +15,12 @@ pub record RefersTo (protocols : List Declaration) (p : Declaration) (k : ℕ) (
   pub reference : SpecReference
   pub item : item_at p k ≡ Some (Reference reference)
   pub target : protocol_of protocols reference.protocol.text ≡ Some q
+
+-- at each position is a reference that leads on, and after the last the protocol
+abbrev pub LeadsOn : List Declaration → Declaration → List ℕ → Declaration → Type 0
+LeadsOn protocols p [] q = p ≡ q
+LeadsOn protocols p (k ∷ more) q =
+    (r : Declaration) × RefersTo protocols p k r × LeadsOn protocols r more q
 
 -- at the last position is the message, at each one before it a reference that leads on
 abbrev pub LeadsTo : List Declaration → Declaration → List ℕ → Schema → Type 0
@@ -29,12 +35,28 @@ IsLexBelow ks [] = ⊥
 IsLexBelow [] (l ∷ ls) = Unit {0}
 IsLexBelow (k ∷ ks) (l ∷ ls) = (k < l) ⊎ ((k ≡ l) × IsLexBelow ks ls)
 
+-- the positions of the references of a path
+abbrev pub positions_of : List Step → List ℕ
+positions_of path = map (λ s. s.position) path
+
+-- these, and the protocol at the end of the path
+abbrev pub path_end : Declaration → List Step → List ℕ × Declaration
+path_end top path = (positions_of path, end_of top path)
+
+-- the list has exactly the paths of positions that lead to a protocol, each once, in rising order
+pub record ListsPaths (protocols : List Declaration) (top : Declaration)
+    (found : List (List Step)) : Type 0 where
+  pub steps : All (IsReferencePath protocols top) found
+  pub exact : (positions : List ℕ) (q : Declaration) →
+      Contains (map (path_end top) found) (positions, q) ↔ LeadsOn protocols top positions q
+  pub rising : AllPairs IsLexBelow (map positions_of found)
+
 -- the positions of the references that were passed, and then that of the message
 pub record HasPositions (protocols : List Declaration) (top : Declaration) (end : List ℕ × Schema)
     (found : List Step × Schema) : Type 0 where
   pub steps : IsReferencePath protocols top found.0
   pub last : ℕ
-  pub positions : end.0 ≡ map (λ s. s.position) found.0 ++ last ∷ []
+  pub positions : end.0 ≡ positions_of found.0 ++ last ∷ []
   pub message : end.1 ≡ found.1
 
 -- the list has exactly the paths of positions that lead to a message, each once, in rising order

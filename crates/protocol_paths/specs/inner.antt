@@ -1,6 +1,6 @@
 -- What private functions alone cite.
 pub mod AddsEach
-pub mod Header
+pub mod AddsEnds
 pub mod Tables
 pub mod Links
 pub mod OwnWords

@@ -1,16 +1,13 @@
-ghost use Rattle.std.specs.Prelude.{◌≡◌, ◌↔◌, ◌<◌, false, slice_get, IsTrue, MatchOption, Some};
-ghost use Rattle.protocol_paths.specs.Skippable.{IsSkipped};
-ghost use Rattle.protocol_paths.specs.inner.Links.{IsLinkBy};
-ghost use Rattle.protocol_paths.specs.inner.ScopeOf.{HasTables, protocols_of};
+ghost use Rattle.std.specs.Prelude.{◌<◌, ◌≤◌, length};
+ghost use Rattle.protocol_paths.specs.Followed.{FollowsEnough};
+ghost use Rattle.protocol_paths.specs.inner.Tables.{HaveTables};
 
-use super::link::Link;
+use super::followed::Followed;
 use super::name_tables::NameTables;
-use super::skippable::Skippable;
-use bspl_parser::Reference;
-use protocol_names::{ProtocolTable, names_find_protocols};
+use protocol_names::ProtocolTable;
 use std::alloc::Global;
 
-/// What is the same for all paths.
+/// What is the same for all paths, and how far they may still go.
 #[derive(Clone, Copy)]
 pub(crate) struct Context<'d, 'a> {
     /// Where memory comes from.
@@ -19,41 +16,11 @@ pub(crate) struct Context<'d, 'a> {
     pub table: &'a ProtocolTable<'d>,
     /// The names that each protocol declares, or nothing where no reference is followed.
     pub names: &'a [NameTables<'d>],
-    /// The protocols that need not be followed.
-    pub skippable: &'a Skippable<'a>,
-}
-
-/// The link of the reference at the position, unless the protocol that it leads to is skipped.
-pub(crate) fn kept_link<'d, 'a>(
-    context: &Context<'d, 'a>,
-    flags: &[bool],
-    position: usize,
-    reference: &'d Reference<'d>,
-) -> Option<Link<'d, 'a>>
-    requires counted { 0 < position }
-    requires tables { HasTables context.now }
-    ensures { MatchOption result
-        (IsSkipped (protocols_of context.now) flags.now reference.now.protocol.text)
-        (IsLinkBy (protocols_of context.now) position reference.now) }
-{
-    // law: the first protocol of a name is at the first index of the name
-    names_find_protocols();
-    let name = reference.protocol.text.as_slice();
-    let number = context.table.names.index(name)?;
-    if is_skipped(flags, number) {
-        return None;
-    }
-    Some(Link {
-        position,
-        reference,
-        target: &context.table.protocols[number],
-        names: &context.names[number],
-    })
-}
-
-/// Whether the protocol of the number is skipped.
-fn is_skipped(flags: &[bool], number: usize) -> bool
-    ensures { IsTrue result ↔ (slice_get flags.now number ≡ Some false) }
-{
-    flags.get(number) == Some(&false)
+    /// The protocols that are followed.
+    pub followed: &'a Followed<'a>,
+    /// The most references that a path may still have.
+    pub limit: usize,
+    pub ghost within: { limit ≤ length table.now.protocols.now },
+    pub ghost enough: { FollowsEnough table.now.protocols.now followed.now },
+    pub ghost tables: { 0 < limit → HaveTables table.now.protocols.now names.now },
 }

@@ -1,5 +1,5 @@
 ghost use Rattle.protocol_paths.specs.Laws.{LongerBoundsAddNothing, MessagePathsAreAll};
-ghost use Rattle.protocol_paths.specs.Laws.{NoCycleBoundsDepth, PathsByItems};
+ghost use Rattle.protocol_paths.specs.Laws.{NoCycleBoundsDepth, PathsAreAll, PathsByItems};
 ghost use Rattle.protocol_paths.specs.Laws.{PlainProtocolsAreFlat, ScopesCompose};
 
 /// A law: if no path from a protocol closes, each has at most as many references as there are
@@ -18,6 +18,12 @@ pub fn longer_bounds_add_nothing()
 /// lexicographic order.
 pub fn message_paths_are_all()
     ensures { MessagePathsAreAll }
+{}
+
+/// A law: the paths listed, whose ends give the private parameters, are those of positions that
+/// lead to a protocol, each once, in lexicographic order.
+pub fn paths_are_all()
+    ensures { PathsAreAll }
 {}
 
 /// A law: what becomes of a name at the end of a path is the composition of the maps of the

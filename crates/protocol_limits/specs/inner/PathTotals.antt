@@ -3,7 +3,7 @@ use Rattle.std.specs.Prelude.{◌≡◌, List, Some}
 use Rattle.std.specs.List.{find}
 use Rattle.protocol_limits.specs.declared.limit.Limit.{Limit}
 use Rattle.protocol_limits.specs.declared.outcome.LimitError.{LimitError}
-use Rattle.protocol_limits.specs.declared.outcome.LimitError.TheVariants.{OutOfMemory, TooMany}
+use Rattle.protocol_limits.specs.declared.outcome.LimitError.TheVariants.{NoMemory, TooMany}
 use Rattle.protocol_limits.specs.declared.path_totals.PathTotals.{PathTotals}
 use Rattle.protocol_limits.specs.declared.sorted_document.SortedDocument.{SortedDocument}
 use Rattle.protocol_limits.specs.Counts.{depth, message_count, private_count}
@@ -27,4 +27,4 @@ pub record AreChecked (document : SortedDocument) (totals : PathTotals) : Type 0
 abbrev pub NamesFirstOver : List Limit → LimitError → Type 0
 NamesFirstOver ls (TooMany what count) = (over : Limit) × (find is_over ls ≡ Some over)
     × (over.what ≡ what) × (over.count ≡ count)
-NamesFirstOver ls OutOfMemory = ⊥
+NamesFirstOver ls NoMemory = ⊥

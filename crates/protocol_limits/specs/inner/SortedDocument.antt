@@ -8,7 +8,7 @@ use Rattle.protocol_limits.specs.Graph.{graph_of}
 
 -- the protocols of the document
 abbrev pub sorted_protocols : SortedDocument → List Declaration
-sorted_protocols document = document.directory.now.protocols.now
+sorted_protocols document = document.table.now.protocols.now
 
 -- the graph is that of the document, and the order one of what is reached from the top
 pub record IsSorted (document : SortedDocument) : Type 0 where

@@ -15,13 +15,13 @@ bounds-protocols-number c = node_within (sorted_protocols c.args.document.now) c
 pub index_mut-requires : goal.index_mut-requires
 index_mut-requires c =
     let within = node_within (sorted_protocols c.args.document.now) c.args.document.now.order.now c.args.document.now.top c.loop-number.number-index c.requires.order c.loop-number-test.true in
-    omega (arith, within, c.loop-number.invariant.fits, c.loop-number.table.ok.0)
+    omega (arith, within, c.loop-number.invariant.fits, c.loop-number.counts.ok.0)
 
 pub loop-number-preserved : goal.loop-number-preserved
 loop-number-preserved c =
     let protocols = sorted_protocols c.args.document.now in
     let order = c.args.document.now.order.now in
-    let table = c.loop-number.table.items in
+    let counts = c.loop-number.counts.items in
     let i = c.loop-number.number-index in
     let a = get_or order i 0 in
     let p = get_or protocols a c.index-protocols-number.result in
@@ -32,16 +32,16 @@ loop-number-preserved c =
     let is : c.first_oversized_in-found.result ≡ f a =
     c.first_oversized_in-found.ensures
     ∙ ap (λ (xs : List (Option ℕ)). first_oversized_in protocols (λ k. get_or xs k None) c.as_slice-body.result.now) c.deref.ensures.value
-    ∙ ap (λ (body : List Item). first_oversized_in protocols (λ k. get_or table k None) body) c.as_slice-body.ensures
-    ∙ found_is c.orders_are_short.ensures protocols order table i a p c.requires.order.topological at stands c.loop-number.invariant.found in
+    ∙ ap (λ (body : List Item). first_oversized_in protocols (λ k. get_or counts k None) body) c.as_slice-body.ensures
+    ∙ found_is c.orders_are_short.ensures protocols order counts i a p c.requires.order.topological at stands c.loop-number.invariant.found in
     record {
-      fits = length-set table a c.first_oversized_in-found.result ∙ c.loop-number.invariant.fits;
-      found = subst (λ n. AreFilled None f order (set table a n) (i + 1)) (sym is)
-          (AreFilled-more None f order table i a at (omega (arith, within, c.loop-number.invariant.fits)) c.loop-number.invariant.found);
+      fits = length-set counts a c.first_oversized_in-found.result ∙ c.loop-number.invariant.fits;
+      found = subst (λ n. AreFilled None f order (set counts a n) (i + 1)) (sym is)
+          (AreFilled-more None f order counts i a at (omega (arith, within, c.loop-number.invariant.fits)) c.loop-number.invariant.found);
     }
 
 pub returns : goal.returns
 returns c =
     let document = c.args.document.now in
-    get_or_read c.loop-number.table.items document.top c.index.result.now (omega (arith, c.requires.declared, c.loop-number.invariant.fits)) c.index.ensures None
-    ∙ first_is (sorted_protocols document) document.order.now c.loop-number.table.items c.loop-number.number-index document.top c.requires.order c.loop-number-test.false c.loop-number.invariant.found
+    get_or_read c.loop-number.counts.items document.top c.index.result.now (omega (arith, c.requires.declared, c.loop-number.invariant.fits)) c.index.ensures None
+    ∙ first_is (sorted_protocols document) document.order.now c.loop-number.counts.items c.loop-number.number-index document.top c.requires.order c.loop-number-test.false c.loop-number.invariant.found

@@ -6,5 +6,5 @@ use Rattle.protocol_limits.proofs.oversized.first_oversized_in.Given as goal
 -- nothing was found of the items that were passed
 abbrev pub invariant-loop-item : goal.invariant-loop-item
 invariant-loop-item l =
-    first_oversized_in l.directory.protocols.now (λ k. slice_index_or l.table k None) (drop l.item-index l.body)
-    ≡ first_oversized_in l.directory.protocols.now (λ k. slice_index_or l.table k None) l.body
+    first_oversized_in l.table.protocols.now (λ k. slice_index_or l.counts k None) (drop l.item-index l.body)
+    ≡ first_oversized_in l.table.protocols.now (λ k. slice_index_or l.counts k None) l.body

@@ -1,9 +1,9 @@
--- The marks are right, and no path is longer than the depth.
+-- The flags are right, and no path is longer than the depth.
 use Rattle.std.proofs.Common.{sym, subst}
 use Rattle.protocol_paths.specs.ReferencePath.{IsWithinDepth}
 use Rattle.protocol_limits.specs.Counts.{message_count, private_count}
 use Rattle.protocol_limits.specs.inner.SortedDocument.{sorted_protocols}
-use Rattle.protocol_limits.proofs.MarkLemmas.{lent}
+use Rattle.protocol_limits.proofs.FollowedLemmas.{lent}
 use Rattle.protocol_limits.proofs.precheck.within.Goals as goal
 
 pub returns : goal.returns
@@ -18,7 +18,7 @@ returns c =
       unrolled = unrolled;
       within = checked.within;
       deep = λ p at. subst (λ n. IsWithinDepth protocols p n) (sym checked.counted.depth) (c.unrolled_paths_are_short.ensures.by_depth protocols document.top p at unrolled);
-      marks = record {
+      followed = record {
         of_messages = messages;
         of_privates = privates;
         lent = lent c.weights_add_up.ensures protocols document.top c.in_ok-messages.messages c.in_ok-privates.privates messages privates;

@@ -5,4 +5,4 @@ use Rattle.protocol_limits.proofs.references.graph_of.Given as goal
 
 -- the references of the protocols that were passed
 abbrev pub invariant-loop-protocol : goal.invariant-loop-protocol
-invariant-loop-protocol l = l.lists ≡ map (references_of l.directory.protocols.now) (take l.protocol-index l.protocol-items)
+invariant-loop-protocol l = l.lists ≡ map (references_of l.table.protocols.now) (take l.protocol-index l.protocol-items)

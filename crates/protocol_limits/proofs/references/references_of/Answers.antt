@@ -7,7 +7,7 @@ use Rattle.protocol_limits.proofs.references.references_of.Goals as goal
 
 pub loop-item-preserved : goal.loop-item-preserved
 loop-item-preserved c =
-    let protocols = c.args.directory.now.protocols.now in
+    let protocols = c.args.table.now.protocols.now in
     let items = c.as_slice-item-items.result.now in
     c.in_ok-add_target.ensures
     ∙ (λ j. c.loop-item.invariant j ++ cons_option (target_of protocols (c.item-item.is j)) [])

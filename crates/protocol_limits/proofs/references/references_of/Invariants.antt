@@ -6,4 +6,4 @@ use Rattle.protocol_limits.proofs.references.references_of.Given as goal
 
 -- the references of the items that were passed
 abbrev pub invariant-loop-item : goal.invariant-loop-item
-invariant-loop-item l = l.numbers ≡ filter_map (target_of l.directory.protocols.now) (take l.item-index l.item-items)
+invariant-loop-item l = l.numbers ≡ filter_map (target_of l.table.protocols.now) (take l.item-index l.item-items)

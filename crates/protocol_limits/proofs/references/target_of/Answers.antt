@@ -6,6 +6,6 @@ use Rattle.protocol_limits.proofs.references.target_of.Goals as goal
 
 pub returns-in-Reference-clause-target : goal.returns-in-Reference-clause-target
 returns-in-Reference-clause-target c =
-    let directory = c.args.directory.now in
-    c.index.ensures ∙ number_by_names directory.protocols.now directory.names c.as_slice.result.now directory.in_order
-    ∙ ap (protocol_number directory.protocols.now) c.as_slice.ensures ∙ ap (target_of directory.protocols.now) (sym c.in-Reference.is)
+    let table = c.args.table.now in
+    c.index.ensures ∙ number_by_names table.protocols.now table.names c.as_slice.result.now table.in_order
+    ∙ ap (protocol_number table.protocols.now) c.as_slice.ensures ∙ ap (target_of table.protocols.now) (sym c.in-Reference.is)

@@ -1,7 +1,7 @@
 -- What has been put at the end.
 use Rattle.std.proofs.Common.{◌≡◌, ◌++◌, map, take}
 use Rattle.protocol_paths.specs.Flat.{entry}
-use Rattle.protocol_paths.proofs.privates.add_own.Given as goal
+use Rattle.protocol_paths.proofs.ends.add_own.Given as goal
 
 -- the private parameters so far
 abbrev pub invariant-loop-word : goal.invariant-loop-word

@@ -1,25 +1,26 @@
 ghost use Rattle.std.specs.Prelude.{◌≡◌, ◌↔◌, ℕ, Some, slice_get, IfOk, IsTrue};
 ghost use Rattle.protocol_limits.specs.Graph.{graph_of};
-ghost use Rattle.protocol_limits.specs.Marking.{IsMarking};
+ghost use Rattle.protocol_limits.specs.Reported.{AreFollowed};
 ghost use Rattle.protocol_limits.specs.inner.SortedDocument.{AreCounts, IsSorted, sorted_protocols};
 
 use super::sorted_document::SortedDocument;
 use bspl_types::{NoMemory, Seq};
 use reference_graph::orders_have_the_reached;
 
-/// For each protocol a mark, which is false if the protocol is reached and counts nothing.
-pub(crate) fn marks_of(document: &SortedDocument, counts: &[u64]) -> Result<Seq<bool>, NoMemory>
+/// For each protocol whether it is followed, which it is not if it is reached and counts nothing.
+pub(crate) fn followed_of(document: &SortedDocument, counts: &[u64]) -> Result<Seq<bool>, NoMemory>
     requires { IsSorted document.now }
     ensures { (count : ℕ → ℕ) → AreCounts count document.now.order.now counts.now →
-        IfOk result (IsMarking (graph_of (sorted_protocols document.now)) document.now.top count) }
+        IfOk result
+        (AreFollowed (graph_of (sorted_protocols document.now)) document.now.top count) }
 {
     // law: an order has all nodes that are reached
     orders_have_the_reached();
-    let mut marks = vec![in document.alloc; true; document.directory.protocols.len()]?;
+    let mut followed = vec![in document.alloc; true; document.table.protocols.len()]?;
     for number in document.order {
-        marks[*number as usize] = !is_nothing(counts, *number);
+        followed[*number as usize] = !is_nothing(counts, *number);
     }
-    Seq::from_slice(document.alloc, &marks)
+    Seq::from_slice(document.alloc, &followed)
 }
 
 /// Whether the count of that number is 0.
