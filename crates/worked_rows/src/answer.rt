@@ -13,6 +13,15 @@ pub(crate) struct Answer {
     pub output: Bytes,
 }
 
+impl Answer {
+    /// Appends the status and the output.
+    pub(crate) fn push_found(&self, text: &mut Bytes) -> Result<(), NoMemory> {
+        text.append(self.status.as_bytes())?;
+        text.push(b'\n')?;
+        text.append(self.output.as_slice())
+    }
+}
+
 /// What the program of the command gives for its arguments and the input.
 pub(crate) fn answer_to(alloc: Global, command: &[u8], input: &[u8]) -> Result<Answer, NoMemory> {
     let words = words_of(alloc, command)?;

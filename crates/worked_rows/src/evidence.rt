@@ -1,8 +1,8 @@
 use super::answer::{Answer, answer_to};
 use list_base::{Bytes, NoMemory};
-use refutation_log::split_once;
 use std::alloc::Global;
 use std::mem;
+use text_lines::split_once;
 
 /// The lines of an output that were taken, and the block of evidence that is being read.
 #[derive(Drop)]

@@ -1,5 +1,4 @@
-//! Gives each worked row on standard input to its program, and prints those that are answered
-//! otherwise.
+//! The program that holds the programs against worked rows.
 #![tactic(auto)]
 
 mod answer;
@@ -10,10 +9,12 @@ mod tally;
 
 use bspl_io::{ReadRefusal, Sink, Source, StdSink, StdSource, WriteRefusal, read_all, write_all};
 use list_base::NoMemory;
-use std::alloc::Global;
-use std::io;
 use std::process::ExitCode;
-use tally::report_on;
+use std::{fs, io};
+use tally::Tally;
+
+/// The most bytes of a section.
+const SECTION_LIMIT: u64 = 16_777_216;
 
 /// Why there is no report.
 enum NoReport {
@@ -47,24 +48,42 @@ impl From<WriteRefusal> for NoReport {
     }
 }
 
+impl From<io::Error> for NoReport {
+    fn from(_error: io::Error) -> NoReport {
+        NoReport::Fault
+    }
+}
+
 fn main(rt: HostRuntime) -> ExitCode {
-    let mut input = StdSource::new(rt.reader());
     let mut output = StdSink::new(io::writer(&rt));
-    match report(rt.alloc(), &mut input, &mut output) {
+    match report(&rt, &mut output) {
         Ok(()) => ExitCode::from(0),
         Err(NoReport::Fault) => ExitCode::from(5),
         Err(NoReport::NoMemory) => ExitCode::from(7),
     }
 }
 
-/// Reads the rows and writes the report on them.
-fn report<R: Source, W: Sink>(
-    alloc: Global,
-    input: &mut R,
-    output: &mut W,
-) -> Result<(), NoReport> {
-    let rows = read_all(alloc, input, 16_777_216)?;
-    let report = report_on(alloc, rows.as_slice())?;
-    write_all(output, report.as_slice())?;
+/// Reads the names of the sections and the rows of each, and writes the report on them.
+fn report<W: Sink>(rt: &HostRuntime, output: &mut W) -> Result<(), NoReport> {
+    let names = read_all(rt.alloc(), &mut StdSource::new(rt.reader()), SECTION_LIMIT)?;
+    let mut tally = Tally::new(rt.alloc());
+    for name in names.as_slice().split(|b| *b == b'\n') {
+        if !name.is_empty() && !name.starts_with(b"# ") {
+            take_section(rt, &mut tally, name)?;
+        }
+    }
+    tally.report_counts(rt.alloc())?;
+    write_all(output, tally.report())?;
+    Ok(())
+}
+
+/// Tries the rows of the section in the file of this name.
+fn take_section(rt: &HostRuntime, tally: &mut Tally, name: &[u8]) -> Result<(), NoReport> {
+    let Ok(path) = str::from_utf8(name) else {
+        return Err(NoReport::Fault);
+    };
+    let mut file = StdSource::new(fs::open(rt, path)?);
+    let rows = read_all(rt.alloc(), &mut file, SECTION_LIMIT)?;
+    tally.take_section(rt.alloc(), name, rows.as_slice())?;
     Ok(())
 }

@@ -3,10 +3,14 @@ use super::evidence::without_evidence;
 use super::spelling::append_line;
 use list_base::{Bytes, NoMemory};
 use std::alloc::Global;
+use text_lines::split_once;
 
-/// A command and an input, with the status and the output that are wanted.
+/// A command and an input, with the status and the output that are wanted; and a name, and the line
+/// where the row begins.
 #[derive(Drop)]
 pub(crate) struct Row {
+    pub name: Bytes,
+    pub line: u64,
     pub command: Bytes,
     input: Bytes,
     status: Option<Bytes>,
@@ -16,10 +20,13 @@ pub(crate) struct Row {
 }
 
 impl Row {
-    /// A row with this command, a program's name and its arguments.
-    pub(crate) fn of(alloc: Global, command: &[u8]) -> Result<Row, NoMemory> {
+    /// A row that begins at the line with `NAME | COMMAND`, a program's name and its arguments.
+    pub(crate) fn of(alloc: Global, line: u64, head: &[u8]) -> Result<Row, NoMemory> {
+        let (name, command) = split_once(head, b'|');
         Ok(Row {
-            command: Bytes::from_slice(alloc, command)?,
+            name: Bytes::from_slice(alloc, name.trim_ascii())?,
+            line,
+            command: Bytes::from_slice(alloc, command.unwrap_or(b""))?,
             input: Bytes::new(alloc),
             status: None,
             is_tried: false,
@@ -75,5 +82,14 @@ impl Row {
         };
         status.as_slice() == answer.status.as_bytes()
             && self.output.as_slice() == answer.output.as_slice()
+    }
+
+    /// Appends the status and the output that are wanted.
+    pub(crate) fn push_wanted(&self, text: &mut Bytes) -> Result<(), NoMemory> {
+        if let Some(status) = &self.status {
+            text.append(status.as_slice())?;
+        }
+        text.push(b'\n')?;
+        text.append(self.output.as_slice())
     }
 }

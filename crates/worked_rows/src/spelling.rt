@@ -1,6 +1,6 @@
 use list_base::{Bytes, NoMemory};
-use refutation_log::{number_of, split_once};
 use std::alloc::Global;
+use text_lines::{read_decimal, split_once};
 
 /// Appends what the line of a row stands for. A line `* COUNT TEXT` stands for COUNT lines TEXT,
 /// numbered from 1; every other line has the number 0.
@@ -9,15 +9,15 @@ pub(crate) fn append_line(alloc: Global, out: &mut Bytes, line: &[u8]) -> Result
         return append_once(alloc, out, line, 0);
     };
     for before in 0..count {
-        append_once(alloc, out, text, u64::from(before).saturating_add(1))?;
+        append_once(alloc, out, text, before.saturating_add(1))?;
     }
     Ok(())
 }
 
 /// The count and the text of a line `* COUNT TEXT`.
-fn repetition(line: &[u8]) -> Option<(u32, &[u8])> {
+fn repetition(line: &[u8]) -> Option<(u64, &[u8])> {
     let (count, text) = split_once(line.strip_prefix(b"* ")?, b' ');
-    Some((number_of(count).ok()?, text?))
+    Some((read_decimal(count, 1_000_000).ok()?, text?))
 }
 
 /// Appends the text and its line end. A backslash at the end of the text takes the line end away.

@@ -3,32 +3,70 @@ use super::row::Row;
 use list_base::{Bytes, NoMemory};
 use std::alloc::Global;
 
-/// How many rows there were, how many of them were answered otherwise, and which; and the row that
-/// is being read.
+/// How many rows there were, how many of them were answered otherwise, and which; and the section,
+/// the line and the row that are being read.
 #[derive(Drop)]
-struct Tally {
+pub(crate) struct Tally {
     rows: u64,
     wrong: u64,
     report: Bytes,
+    section: Bytes,
+    line: u64,
     row: Option<Row>,
 }
 
 impl Tally {
+    /// Nothing was tried yet.
+    pub(crate) fn new(alloc: Global) -> Tally {
+        Tally {
+            rows: 0,
+            wrong: 0,
+            report: Bytes::new(alloc),
+            section: Bytes::new(alloc),
+            line: 0,
+            row: None,
+        }
+    }
+
+    /// The report so far.
+    pub(crate) fn report(&self) -> &[u8] {
+        self.report.as_slice()
+    }
+
+    /// Takes all lines of a section. A line `$ NAME | PROGRAM ARGUMENTS` begins a row, the lines
+    /// after it are the input, a line `= STATUS` or `~ STATUS` ends the input, and the lines after
+    /// that are the output. A line that begins with `# ` is passed over.
+    pub(crate) fn take_section(
+        &mut self,
+        alloc: Global,
+        name: &[u8],
+        rows: &[u8],
+    ) -> Result<(), NoMemory> {
+        self.section = Bytes::from_slice(alloc, name)?;
+        self.line = 0;
+        let lines = rows.strip_suffix(b"\n").unwrap_or(rows);
+        for line in lines.split(|b| *b == b'\n') {
+            self.line = self.line.saturating_add(1);
+            self.take_line(alloc, line)?;
+        }
+        self.end_row(alloc)
+    }
+
     /// Takes a line of the rows.
     fn take_line(&mut self, alloc: Global, line: &[u8]) -> Result<(), NoMemory> {
         if line.starts_with(b"# ") {
             return Ok(());
         }
         match line.strip_prefix(b"$") {
-            Some(command) => self.begin_row(alloc, command),
+            Some(head) => self.begin_row(alloc, head),
             None => self.go_on(alloc, line),
         }
     }
 
-    /// Begins a row with this command, after the one before it.
-    fn begin_row(&mut self, alloc: Global, command: &[u8]) -> Result<(), NoMemory> {
+    /// Begins a row with this name and command, after the one before it.
+    fn begin_row(&mut self, alloc: Global, head: &[u8]) -> Result<(), NoMemory> {
         self.end_row(alloc)?;
-        self.row = Some(Row::of(alloc, command)?);
+        self.row = Some(Row::of(alloc, self.line, head)?);
         Ok(())
     }
 
@@ -55,58 +93,32 @@ impl Tally {
         if row.wants(&answer) {
             return Ok(());
         }
-        self.report_wrong(alloc, row.command.as_slice(), &answer)
+        self.report_wrong(alloc, row, &answer)
     }
 
-    /// Reports the number of the row, its command and the answer.
-    fn report_wrong(
-        &mut self,
-        alloc: Global,
-        command: &[u8],
-        answer: &Answer,
-    ) -> Result<(), NoMemory> {
+    /// Reports the place and the name of the row, its command, what is wanted and what was found.
+    fn report_wrong(&mut self, alloc: Global, row: &Row, answer: &Answer) -> Result<(), NoMemory> {
         self.wrong = self.wrong.saturating_add(1);
-        self.report.append(b"row ")?;
-        append_number(alloc, &mut self.report, self.rows)?;
-        self.report.append(b" is answered otherwise\n$")?;
-        self.report.append(command)?;
-        self.report.append(b"\n= ")?;
-        self.report.append(answer.status.as_bytes())?;
-        self.report.push(b'\n')?;
-        self.report.append(answer.output.as_slice())
+        self.report.append(self.section.as_slice())?;
+        self.report.push(b':')?;
+        append_number(alloc, &mut self.report, row.line)?;
+        self.report.append(b": answered otherwise: ")?;
+        self.report.append(row.name.as_slice())?;
+        self.report.append(b"\n$")?;
+        self.report.append(row.command.as_slice())?;
+        self.report.append(b"\nwanted = ")?;
+        row.push_wanted(&mut self.report)?;
+        self.report.append(b"found = ")?;
+        answer.push_found(&mut self.report)
     }
 
     /// Reports how many rows there were, and how many of them were answered otherwise.
-    fn report_counts(&mut self, alloc: Global) -> Result<(), NoMemory> {
+    pub(crate) fn report_counts(&mut self, alloc: Global) -> Result<(), NoMemory> {
         append_number(alloc, &mut self.report, self.rows)?;
         self.report.append(b" rows, ")?;
         append_number(alloc, &mut self.report, self.wrong)?;
         self.report.append(b" answered otherwise\n")
     }
-
-    /// Takes all lines of the rows, and reports on them.
-    fn take_rows(&mut self, alloc: Global, rows: &[u8]) -> Result<(), NoMemory> {
-        let lines = rows.strip_suffix(b"\n").unwrap_or(rows);
-        for line in lines.split(|b| *b == b'\n') {
-            self.take_line(alloc, line)?;
-        }
-        self.end_row(alloc)?;
-        self.report_counts(alloc)
-    }
-}
-
-/// The report on the rows. A line `$ PROGRAM ARGUMENTS` begins a row, the lines after it are the
-/// input, a line `= STATUS` or `~ STATUS` ends the input, and the lines after that are the output.
-/// A line that begins with `# ` is passed over.
-pub(crate) fn report_on(alloc: Global, rows: &[u8]) -> Result<Bytes, NoMemory> {
-    let mut tally = Tally {
-        rows: 0,
-        wrong: 0,
-        report: Bytes::new(alloc),
-        row: None,
-    };
-    tally.take_rows(alloc, rows)?;
-    Ok(tally.report)
 }
 
 /// Appends the digits of the number.
