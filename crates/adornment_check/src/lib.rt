@@ -1,4 +1,4 @@
-//! Which expansions are admitted: each message goes to another role and binds the whole key.
+//! Which expansions are admitted, and why others are not.
 #![tactic(auto)]
 
 mod admission;

@@ -1,4 +1,4 @@
-//! The program: standard input, standard output and the arguments of the command line.
+//! The program that prints a formula of a protocol.
 #![tactic(auto)]
 
 ghost use Rattle.std.specs.Prelude.{◌≡◌, map, string_bytes, IfOk, IfErr};

@@ -1,4 +1,4 @@
-//! Where bytes come from and go to, and how a whole text is read and written.
+//! Byte sources and sinks; texts read or written whole.
 #![tactic(auto)]
 
 mod memory;

@@ -1,4 +1,4 @@
-//! Protocol texts: their tokens, their grammar, and the documents that they spell.
+//! Protocol texts: their tokens, their grammar and their documents.
 #![tactic(auto)]
 
 mod document;

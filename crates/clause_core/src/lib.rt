@@ -1,4 +1,4 @@
-//! Clauses over numbered variables, what an assignment satisfies, and resolution.
+//! Clauses, assignments and resolution over numbered variables.
 #![tactic(auto)]
 
 mod assignment;

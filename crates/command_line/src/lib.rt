@@ -1,4 +1,4 @@
-//! Which arguments are a command line, and what it asks for.
+//! Which arguments are a command line, and what they request.
 #![tactic(auto)]
 
 mod clap_args;

@@ -1,4 +1,4 @@
-//! Protocols of messages alone: their expansions, and the protocols of expansions.
+//! Protocols of messages alone, and their expansions.
 #![tactic(auto)]
 
 mod declaration;

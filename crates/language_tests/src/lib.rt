@@ -1,4 +1,4 @@
-//! Tests of the crates that read and write texts and protocols.
+//! Tests of the crates that read texts and protocols.
 #![tactic(auto)]
 
 #[cfg(test)]

@@ -1,4 +1,4 @@
-//! Lists that grow at their end, copies that may run out of memory, and lemmas on lists.
+//! Lists, copies that may run out of memory, and lemmas.
 #![tactic(auto)]
 
 mod memory;

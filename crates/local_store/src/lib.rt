@@ -1,4 +1,4 @@
-//! One role's store: its stamped history, the keys that it holds, and what it knows under each.
+//! A role's store: its history, keys and knowledge.
 #![tactic(auto)]
 
 mod act;

@@ -1,4 +1,4 @@
-//! A checker of resolution logs over any formula, which trusts nobody.
+//! A checker of logs over any formula, which trusts nobody.
 #![tactic(auto)]
 
 mod chains;

@@ -1,4 +1,4 @@
-//! Which runs agents play by their rules, and when such a run is at its end.
+//! Which runs agents play, and which have ended.
 #![tactic(auto)]
 
 mod laws;

@@ -1,4 +1,4 @@
-//! Which names a protocol document declares and uses, and its first fault.
+//! The names of a document, and its first fault.
 #![tactic(auto)]
 
 mod declared_names;

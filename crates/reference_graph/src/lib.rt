@@ -1,4 +1,4 @@
-//! Graphs of references: their cycles, how deep they are, and how many paths they have.
+//! Graphs of references: cycles, depths and numbers of paths.
 #![tactic(auto)]
 
 mod edge;

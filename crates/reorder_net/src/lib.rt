@@ -1,4 +1,4 @@
-//! What a plan loses, and the envelopes that are on their way to a role.
+//! What a plan loses, and the inbox of a role.
 #![tactic(auto)]
 
 mod choice;

@@ -1,4 +1,4 @@
-//! What one role knows under a key, and which messages it may emit.
+//! What a role knows under a key, and may emit.
 #![tactic(auto)]
 
 mod block;

@@ -1,4 +1,4 @@
-//! Legality, conflicts and rest of a run, in time linear in its events.
+//! The questions on a run, answered in linear time.
 #![tactic(auto)]
 
 mod conflicts;

@@ -1,4 +1,4 @@
-//! The reader of the text that says what scripted agents do.
+//! The script and the plan of statements that were read.
 #![tactic(auto)]
 
 mod agents;

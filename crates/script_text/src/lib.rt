@@ -1,4 +1,4 @@
-//! The reader of the lines that say what scripted agents do.
+//! Reads an agents text, or names its first bad line.
 #![tactic(auto)]
 
 mod decline_line;

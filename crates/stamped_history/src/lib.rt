@@ -1,4 +1,4 @@
-//! Stamped histories of single roles, and the run that the histories of all roles merge into.
+//! Stamped histories of roles, and the run they merge into.
 #![tactic(auto)]
 
 mod entry;
