@@ -23,13 +23,6 @@ impl<R: Read> StdSource<R> {
     {
         StdSource { reader, faults: 0 }
     }
-
-    /// Gives the reader back.
-    pub fn into_reader(self) -> R
-        ensures { R.remaining result ≡ ⟦<StdSource<R> as Source>⟧.remaining self }
-    {
-        self.reader
-    }
 }
 
 impl<R: Read> Source for StdSource<R> {
@@ -64,13 +57,6 @@ impl<W: Write> StdSink<W> {
         ensures faults { ⟦<StdSink<W> as Sink>⟧.faults result ≡ 0 }
     {
         StdSink { writer, faults: 0 }
-    }
-
-    /// Gives the writer back.
-    pub fn into_writer(self) -> W
-        ensures { W.contents result ≡ ⟦<StdSink<W> as Sink>⟧.contents self }
-    {
-        self.writer
     }
 }
 

@@ -1,11 +1,9 @@
--- The tests of equality decide it, and what a hash is made of.
-use Rattle.std.proofs.Common.{◌≡◌, Bool, true, List, ◌++◌, ap, refl, sym}
+-- The tests of equality decide it.
+use Rattle.std.proofs.Common.{◌≡◌, Bool, List, ap, refl, sym}
 use Rattle.std.proofs.lemmas.Bool.Decides.{Decides-eqb, Decides-like, same_from_decides}
 use Rattle.std.proofs.lemmas.Slice.Eq.{slice_eq-Decides}
 use Rattle.std.specs.Bool.{Decides}
 use Rattle.std.specs.Cmp.{IsEquivalence}
-use Rattle.std.specs.Hash as fed
-use Rattle.std.specs.Hash.{HashWrites}
 use Rattle.std.specs.Prelude.{nat_eq, ◌==◌}
 use lib.Pointwise.{pointwise}
 use Rattle.bspl_types.specs.declared.value.Value.{Value}
@@ -42,20 +40,3 @@ same_value_laws = decided_laws same_value same_value_decides
 
 pub equal_values_laws : IsEquivalence equal_values
 equal_values_laws = decided_laws equal_values equal_values_decides
-
--- a value is hashed by its variant and its number or bytes
-abbrev pub value_writes : Value → HashWrites
-value_writes (Number n) = fed.u8 0 ++ fed.u64 n
-value_writes (Text bytes) = fed.u8 1 ++ fed.slice fed.u8 bytes
-
--- and a list of values by its length and the values
-abbrev pub values_writes : List Value → HashWrites
-values_writes values = fed.slice value_writes values
-
--- equal values and equal lists are hashed alike
-pub same_value_writes : (v w : Value) → same_value v w ≡ true → value_writes v ≡ value_writes w
-same_value_writes v w same = ap value_writes ((same_value_decides v w).0 same)
-
-pub equal_values_writes : (vs ws : List Value)
-    → equal_values vs ws ≡ true → values_writes vs ≡ values_writes ws
-equal_values_writes vs ws same = ap values_writes ((equal_values_decides vs ws).0 same)

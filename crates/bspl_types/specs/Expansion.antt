@@ -26,7 +26,10 @@ no_param = record { name = []; adornment = None; key = false }
 abbrev pub param_name : Expanded → ℕ → List ℕ
 param_name x p = (slice_index_or x.params p no_param).name
 
--- message `m` has parameter `p` with that adornment
+-- the message has parameter `p` with that adornment
+abbrev pub IsAdorned : Message → Adornment → ℕ → Type 0
+IsAdorned m adornment p = Contains m.carried (record { param = p; adornment = adornment })
+
+-- the message of that number has parameter `p` with that adornment
 abbrev pub Adorns : Expanded → ℕ → Adornment → ℕ → Type 0
-Adorns x m adornment p =
-    Contains (message_of x m).carried (record { param = p; adornment = adornment })
+Adorns x m adornment p = IsAdorned (message_of x m) adornment p

@@ -25,3 +25,7 @@ IsRun x run = All (λ e. Fits x (instance_of e)) run
 -- the role's own acts, in order
 abbrev pub history_of : Expanded → ℕ → List Event → List Event
 history_of x role run = filter (λ e. role_of x e == role) run
+
+-- the history of the message's sender
+abbrev pub sender_history : Expanded → List Event → ℕ → List Event
+sender_history x run m = history_of x (message_of x m).sender run

@@ -57,6 +57,15 @@ impl Event {
     ghost use Rattle.bspl_types.specs.Instance.{Fits};
     ghost use Rattle.bspl_types.specs.History.{instance_of, role_of};
 
+    /// What is emitted or received.
+    pub fn instance(&self) -> &Instance
+        ensures { result.now ≡ instance_of self.now }
+    {
+        match self {
+            Event::Emit(instance) | Event::Receive(instance) => instance,
+        }
+    }
+
     /// Whose act it is.
     pub fn role(&self, x: &Expanded) -> u32
         requires { Fits x.now (instance_of self.now) }

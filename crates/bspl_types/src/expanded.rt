@@ -24,6 +24,8 @@ pub struct Expanded {
 }
 
 impl Expanded {
+    ghost use Rattle.std.specs.Prelude.{◌<◌, length};
+    ghost use Rattle.bspl_types.specs.Expansion.{message_of};
     ghost use Rattle.bspl_types.specs.Parts.{HasParts};
 
     /// The expansion with these parts, or nothing if they are not well formed.
@@ -63,6 +65,14 @@ impl Expanded {
         } else {
             Ok(None)
         }
+    }
+
+    /// The message of that number.
+    pub fn message_at(&self, message: u32) -> &Message
+        requires { message < length self.now.messages }
+        ensures { result.now ≡ message_of self.now message }
+    {
+        self.messages.at(message as usize)
     }
 }
 

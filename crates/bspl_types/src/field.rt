@@ -1,51 +1,23 @@
-ghost use Rattle.std.specs.Prelude.{◌≡◌, ◌≢◌, ℕ, ◌<◌, ◌^◌, ◌↔◌, false, List, [], ◌∷◌, ◌++◌, min};
+ghost use Rattle.std.specs.Prelude.{◌≡◌, ◌≢◌, ℕ, ◌<◌, ◌^◌, ◌↔◌, false, List, [], ◌∷◌, ◌++◌};
 ghost use Rattle.std.specs.Prelude.{IsTrue, MatchOption};
 ghost use Rattle.std.specs.Fmt.{decimal, digit_glyph};
-ghost use Rattle.std.specs.Str.Parse.{digits_value};
 ghost use Rattle.bspl_types.specs.ValueSpelling.{byte_spelling};
-ghost use Rattle.bspl_types.specs.inner.Spelling.{BeginsWithNone, IsNumeral, SpellsText};
+ghost use Rattle.bspl_types.specs.inner.Spelling.{BeginsWithNone, SpellsText};
 
 use super::buffer::Buffer;
-use super::names::are_digits;
 use super::spelling::is_plain;
 use super::text::Text32;
+use text_lines::{numerals_are_decimals, numerals_differ, read_decimal};
 
 /// The number that the field spells, if it spells one of 64 bits.
 pub fn read_number(field: &[u8]) -> Option<u64>
     ensures { MatchOption result
         ((n : ℕ) → n < 2 ^ 64 → field.now ≢ decimal n) (λ n. field.now ≡ decimal n) }
 {
-    if !is_numeral(field) {
-        return None;
-    }
-    let value = value_of(field);
-    if value <= u128::from(u64::MAX) {
-        Some(value as u64)
-    } else {
-        None
-    }
-}
-
-/// Whether the field is `0`, or digits of which the first is not 0.
-fn is_numeral(field: &[u8]) -> bool
-    ensures { IsTrue result ↔ IsNumeral field.now }
-{
-    match field {
-        [] => false,
-        [first, rest @ ..] => are_digits(field) && (*first != b'0' || rest.is_empty()),
-    }
-}
-
-/// What the digits amount to, or 2^64 if it is more.
-fn value_of(digits: &[u8]) -> u128
-    requires { IsNumeral digits.now }
-    ensures { result ≡ min (digits_value 10 digits.now) (2 ^ 64) }
-{
-    let mut value = 0;
-    for digit in digits {
-        value = (value * 10 + u128::from(*digit - b'0')).min(1 << 64);
-    }
-    value
+    // laws: a numeral is what the standard library writes, and that of one number
+    numerals_are_decimals();
+    numerals_differ();
+    read_decimal(field, u64::MAX).ok()
 }
 
 /// The text that is spelled before the closing quote, if that quote ends the field.

@@ -3,12 +3,10 @@ ghost use Rattle.std.specs.Prelude.{IsTrue};
 ghost use Rattle.std.specs.Cmp.{partial_equiv_from_equiv};
 ghost use Rattle.bspl_types.specs.Limits.{key_limit, carried_limit};
 ghost use Rattle.bspl_types.specs.Value.{equal_values};
-ghost use Rattle.bspl_types.specs.Equality.{equal_values_laws, equal_values_writes};
-ghost use Rattle.bspl_types.specs.Equality.{values_writes};
+ghost use Rattle.bspl_types.specs.Equality.{equal_values_laws};
 
 use super::limits::{CARRIED_LIMIT, KEY_LIMIT};
 use super::value::{Value, are_equal};
-use std::hash::{Hash, Hasher};
 use std::marker::Model;
 
 /// What fills the cells after the values.
@@ -102,16 +100,6 @@ impl PartialEq for Key {
 
 impl Eq for Key {
     ghost laws = { equal_values_laws };
-}
-
-impl Hash for Key {
-    ghost hash_input = { values_writes };
-
-    ghost respects_eq = { equal_values_writes };
-
-    fn hash<H: Hasher>(&self, state: &mut H) {
-        self.as_slice().hash(state);
-    }
 }
 
 /// The values of an instance, in the order of its message. Contracts see a list.
@@ -227,14 +215,4 @@ impl PartialEq for Values {
 
 impl Eq for Values {
     ghost laws = { equal_values_laws };
-}
-
-impl Hash for Values {
-    ghost hash_input = { values_writes };
-
-    ghost respects_eq = { equal_values_writes };
-
-    fn hash<H: Hasher>(&self, state: &mut H) {
-        self.as_slice().hash(state);
-    }
 }

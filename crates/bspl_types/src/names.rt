@@ -2,11 +2,12 @@ ghost use Rattle.std.specs.Prelude.{◌≡◌, ◌≤◌, ◌==◌, length};
 ghost use Rattle.bspl_types.specs.Name.{begins_name, goes_on, is_name_rest, is_plain_name};
 ghost use Rattle.bspl_types.specs.Name.{is_positive_number, is_group, is_grouped, is_reserved};
 ghost use Rattle.bspl_types.specs.Name.{is_name};
-ghost use Rattle.std.specs.Char.{is_ascii_digit};
 ghost use Rattle.std.specs.List.{list_all, position_or_len, slice_split};
 ghost use Rattle.std.specs.Option.{option_map};
 ghost use Rattle.std.specs.Str.{bytes_eq};
 ghost use Rattle.bspl_types.specs.inner.Pieces.{StartsPieces};
+
+use text_lines::are_digits;
 
 /// Whether the bytes are a name.
 #[tactic(auto, unfolding(crate::specs::Name::is_name))]
@@ -128,13 +129,6 @@ fn is_positive_number(text: &[u8]) -> bool
         [] => false,
         [first, rest @ ..] => first.is_ascii_digit() && *first != b'0' && are_digits(rest),
     }
-}
-
-/// Whether each byte is a digit.
-pub fn are_digits(text: &[u8]) -> bool
-    ensures { result ≡ list_all is_ascii_digit text.now }
-{
-    text.iter().all(|d| d.is_ascii_digit())
 }
 
 /// Whether the bytes are a word that is a token of its own.

@@ -57,6 +57,20 @@ pub struct ParamInfo {
     pub key: bool,
 }
 
+impl ParamInfo {
+    ghost use Rattle.bspl_types.specs.Shape.{is_public_value};
+
+    /// Whether it is public, and adorned `in` or `out`.
+    pub fn is_public_value(&self) -> bool
+        ensures { result ≡ is_public_value self.now.adornment }
+    {
+        match self.adornment {
+            None => false,
+            Some(adornment) => adornment.has_value(),
+        }
+    }
+}
+
 /// The parameters of a protocol, the public ones first.
 pub type ParamInfoList = Seq<ParamInfo>;
 

@@ -6,7 +6,7 @@ ghost use Rattle.bspl_types.specs.Shape.{key_indices, is_public_value};
 use super::limits::{CARRIED_LIMIT, KEY_LIMIT, MESSAGE_LIMIT, PARAM_LIMIT, ROLE_LIMIT};
 use super::named::are_named;
 use super::names::is_name;
-use super::protocol::{Adornment, Carried, Message, ParamInfo};
+use super::protocol::{Carried, Message, ParamInfo};
 use super::{Name, NumberList, Seq};
 use list_base::NoMemory;
 use std::alloc::Global;
@@ -67,19 +67,7 @@ fn are_public_values(params: &[ParamInfo]) -> bool
     ensures { IsTrue result ↔
         All (λ p. IsTrue p.key → IsTrue (is_public_value p.adornment)) params.now }
 {
-    params
-        .iter()
-        .all(|p| !p.key || is_public_value(p.adornment))
-}
-
-/// Whether it is public, and adorned `in` or `out`.
-fn is_public_value(adornment: Option<Adornment>) -> bool
-    ensures { result ≡ is_public_value adornment }
-{
-    match adornment {
-        None => false,
-        Some(adornment) => adornment.has_value(),
-    }
+    params.iter().all(|p| !p.key || p.is_public_value())
 }
 
 /// The indices of the parameters that are marked as keys.

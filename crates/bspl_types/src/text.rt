@@ -1,14 +1,10 @@
-ghost use Rattle.std.specs.Prelude.{◌≡◌, ◌<◌, ◌≤◌, ◌↔◌, length, nat_eq, slice_get, Some, IsTrue};
+ghost use Rattle.std.specs.Prelude.{◌≡◌, ◌<◌, ◌≤◌, length, nat_eq, slice_get, Some};
 ghost use Rattle.std.specs.Cmp.{partial_equiv_from_equiv};
-ghost use Rattle.std.specs.Cmp.Rules.{comparing, hashing};
-ghost use Rattle.std.specs.Hash as fed;
-ghost use Rattle.std.proofs.Common.{rules};
 ghost use Rattle.std.proofs.lemmas.Cmp.{nat_list_eq_equiv};
 ghost use lib.Pointwise.{pointwise};
 ghost use Rattle.bspl_types.specs.Limits.{value_text_limit};
 ghost use Rattle.bspl_types.specs.Text.{IsTextValue};
 
-use std::hash::{Hash, Hasher};
 use std::marker::Model;
 
 /// A text of at most 32 bytes, held in place. Contracts see its bytes, in order.
@@ -94,14 +90,4 @@ impl PartialEq for Text32 {
 
 impl Eq for Text32 {
     ghost laws = { nat_list_eq_equiv };
-}
-
-impl Hash for Text32 {
-    ghost hash_input = { fed.slice fed.u8 };
-
-    ghost respects_eq = { Prim.search (hashing, rules) };
-
-    fn hash<H: Hasher>(&self, state: &mut H) {
-        self.as_slice().hash(state);
-    }
 }

@@ -2,13 +2,12 @@ ghost use Rattle.std.specs.Prelude.{◌≡◌, ◌↔◌, ◌++◌, IsTrue, OnOk
 ghost use Rattle.std.specs.Cmp.{partial_equiv_from_equiv};
 ghost use Rattle.bspl_types.specs.Value.{same_value, equal_values, IsValue};
 ghost use Rattle.bspl_types.specs.ValueSpelling.{SpellsValue, value_spelling};
-ghost use Rattle.bspl_types.specs.Equality.{same_value_laws, same_value_writes, value_writes};
+ghost use Rattle.bspl_types.specs.Equality.{same_value_laws};
 
 use super::field::{read_number, read_text};
 use super::spelling::spelled;
 use super::text::Text32;
 use list_base::{Bytes, NoMemory};
-use std::hash::{Hash, Hasher};
 
 /// What a parameter is bound to.
 #[derive(Clone, Copy, Debug)]
@@ -71,25 +70,6 @@ impl PartialEq for Value {
 
 impl Eq for Value {
     ghost laws = { same_value_laws };
-}
-
-impl Hash for Value {
-    ghost hash_input = { value_writes };
-
-    ghost respects_eq = { same_value_writes };
-
-    fn hash<H: Hasher>(&self, state: &mut H) {
-        match self {
-            Value::Number(number) => {
-                state.write_u8(0);
-                number.hash(state);
-            }
-            Value::Text(text) => {
-                state.write_u8(1);
-                text.hash(state);
-            }
-        }
-    }
 }
 
 /// Whether two lists of values are equal.

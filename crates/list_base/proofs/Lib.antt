@@ -4,9 +4,11 @@ pub mod LentItem
 pub mod Mapped
 pub mod Members
 pub mod Membership
+pub mod Numerals
 pub mod OwnIndex
 pub mod Partners
 pub mod Pigeonhole
+pub mod Separators
 pub mod Settled
 pub mod Tables
 pub mod Zipped

@@ -1,5 +1,4 @@
 -- The definitions that the contracts cite, in reading order.
-pub mod Lines
 pub mod Fields
 pub mod Decimal
 pub mod inner

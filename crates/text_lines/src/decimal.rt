@@ -2,7 +2,8 @@ ghost use Rattle.std.specs.Prelude.{◌≡◌, ◌+◌, ◌++◌, ◌↔◌, IsT
 ghost use Rattle.std.specs.Char.{is_ascii_digit};
 ghost use Rattle.std.specs.List.{list_all};
 ghost use Rattle.std.specs.Str.Parse.{digits_value};
-ghost use Rattle.text_lines.specs.Decimal.{IsNumeral, IsReadUpTo, numeral};
+ghost use Rattle.list_base.specs.Numeral.{IsNumeral, numeral};
+ghost use Rattle.text_lines.specs.Decimal.{IsReadUpTo};
 
 use list_base::{Bytes, NoMemory};
 

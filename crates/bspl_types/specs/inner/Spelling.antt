@@ -1,7 +1,6 @@
 -- The parts of a spelling, as the functions read and write them.
-use Rattle.std.specs.Prelude.{◌≡◌, ◌≢◌, ℕ, ◌<◌, true, List, [], ◌∷◌, ◌++◌, length, slice_index}
-use Rattle.std.specs.Char.{is_ascii_digit}
-use Rattle.std.specs.List.{flat_map, list_all}
+use Rattle.std.specs.Prelude.{◌≡◌, ◌≢◌, ℕ, ◌<◌, List, [], ◌∷◌, ◌++◌}
+use Rattle.std.specs.List.{flat_map}
 use Rattle.bspl_types.specs.ValueSpelling.{byte_spelling}
 use Rattle.bspl_types.specs.Text.{IsTextValue}
 
@@ -17,9 +16,3 @@ pub record SpellsText (field : List ℕ) (bytes : List ℕ) : Type 0 where
 -- no byte's spelling begins the field
 abbrev pub BeginsWithNone : List ℕ → Type 0
 BeginsWithNone field = (b : ℕ) (after : List ℕ) → b < 256 → field ≢ byte_spelling b ++ after
-
--- digits, of which the first is not 0 unless it is the only one
-pub record IsNumeral (field : List ℕ) : Type 0 where
-  pub some : 0 < length field
-  pub digits : list_all is_ascii_digit field ≡ true
-  pub first : slice_index field 0 ≡ 48 → length field ≡ 1

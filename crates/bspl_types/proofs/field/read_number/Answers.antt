@@ -1,17 +1,22 @@
--- A number of 64 bits is spelled by a numeral of its value, and by no other field.
-use Rattle.std.proofs.Common.{decimal, ap, sym, subst, ◌∙◌, arith}
-use Rattle.std.proofs.lemmas.Bool.{iff_false}
-use Rattle.bspl_types.specs.inner.Spelling.{IsNumeral}
-use Rattle.bspl_types.proofs.NumberLemmas.{decimal_is_numeral, numeral_is_decimal, value_of_decimal}
+-- A number of 64 bits in decimal is read, and the standard library writes it in the same way.
+use Rattle.std.proofs.Common.{◌≡◌, ◌≢◌, ℕ, ◌<◌, ◌^◌, List, Result, Ok, Err, MatchOption, sym, subst, ◌∙◌, arith, decimal}
+use Rattle.std.specs.Result.{result_ok}
+use Rattle.text_lines.specs.Decimal.{IsReadUpTo, NumeralsAreDecimals, NumeralsDiffer}
+use Rattle.text_lines.specs.declared.decimal.DecimalError.{DecimalError}
+use Rattle.text_lines.specs.declared.decimal.DecimalError.TheVariants.{Form, TooLarge}
 use Rattle.bspl_types.proofs.field.read_number.Goals as goal
 
-pub returns-then-not-is_numeral : goal.returns-then-not-is_numeral
-returns-then-not-is_numeral c n small is = iff_false c.is_numeral.ensures c.if-not-is_numeral.true (subst IsNumeral (sym is) (decimal_is_numeral n small))
+abbrev IsRead : List ℕ → Result ℕ DecimalError → Type 0
+IsRead field read = MatchOption (result_ok read) ((n : ℕ) → n < 2 ^ 64 → field ≢ decimal n) (λ n. field ≡ decimal n)
 
-pub returns-then-value-from : goal.returns-then-value-from
-returns-then-value-from c =
-    let numeral = c.is_numeral.ensures.0 c.if-not-is_numeral.false in
-    numeral_is_decimal c.args.field.now numeral (omega (arith, c.value_of-value.ensures, c.if-value-from.true, c.from.ensures)) ∙ ap decimal (omega (arith, c.value_of-value.ensures, c.if-value-from.true, c.from.ensures))
+is_read : NumeralsAreDecimals → NumeralsDiffer → (field : List ℕ) (read : Result ℕ DecimalError) → IsReadUpTo 18446744073709551615 field read → IsRead field read
+is_read are differ field (Ok n) is = is.0 ∙ are n (omega (arith, is.1))
+is_read are differ field (Err Form) none = λ n small is. none n (is ∙ sym (are n small))
+is_read are differ field (Err TooLarge) large = λ n small is.
+    let same = differ large.0 n (sym large.1 ∙ is ∙ sym (are n small)) in
+    absurd (omega (arith, same, large.2))
 
-pub returns-else-value-from : goal.returns-else-value-from
-returns-else-value-from c n small is = absurd (omega (arith, value_of_decimal c.args.field.now n small is, c.value_of-value.ensures, c.if-value-from.false, c.from.ensures))
+pub returns : goal.returns
+returns c =
+    subst (λ o. MatchOption o ((n : ℕ) → n < 2 ^ 64 → c.args.field.now ≢ decimal n) (λ n. c.args.field.now ≡ decimal n)) (sym c.ok.ensures.value)
+    (is_read c.numerals_are_decimals.ensures c.numerals_differ.ensures c.args.field.now c.read_decimal.result c.read_decimal.ensures)

@@ -1,8 +1,8 @@
 -- The last digit follows those of a tenth of the number.
 use Rattle.std.proofs.Common.{◌≡◌, ◌+◌, ◌/◌, ◌%◌, [], ◌∷◌, ◌++◌}
 use Rattle.std.proofs.lemmas.List.{append_assoc}
-use Rattle.text_lines.specs.Decimal.{numeral}
-use Rattle.text_lines.proofs.Numerals.{numeral_digit, numeral_more}
+use Rattle.list_base.specs.Numeral.{numeral}
+use Rattle.list_base.proofs.Numerals.{numeral_digit, numeral_more}
 use Rattle.text_lines.proofs.decimal.+push_decimal.Goals as goal
 
 pub returns-then-number-lt10 : goal.returns-then-number-lt10

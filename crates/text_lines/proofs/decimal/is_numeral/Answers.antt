@@ -1,7 +1,7 @@
 -- Digits are a numeral if they are one alone, or do not begin with 0.
 use Rattle.std.proofs.Common.{◌≡◌, get_or, arith, sym, ◌∙◌}
 use Rattle.std.proofs.lemmas.Bool.{eqb-false, ne_eqb, not-true, not_from_false}
-use Rattle.text_lines.proofs.Numerals.{numeral_plain, is_spelled, tests_digits}
+use Rattle.list_base.proofs.Numerals.{numeral_plain, is_spelled, tests_digits}
 use Rattle.text_lines.proofs.decimal.is_numeral.Goals as goal
 
 pub returns-then-not-are_digits : goal.returns-then-not-are_digits

@@ -1,7 +1,7 @@
 -- A numeral is the numeral of its value.
 use Rattle.std.proofs.Common.{◌≡◌, ap, ◌∙◌, arith}
-use Rattle.text_lines.specs.Decimal.{numeral}
-use Rattle.text_lines.proofs.Numerals.{value_is, tests_digits}
+use Rattle.list_base.specs.Numeral.{numeral}
+use Rattle.list_base.proofs.Numerals.{value_is, tests_digits}
 use Rattle.text_lines.proofs.decimal.read_decimal.Goals as goal
 
 pub value_of-value-requires : goal.value_of-value-requires

@@ -4,7 +4,7 @@ use Rattle.std.specs.Str.Parse.{digits_value}
 use Rattle.std.proofs.lemmas.Int.Digits.{digits_value_more}
 use Rattle.std.proofs.lemmas.Str.{digit_value_digit}
 use Rattle.std.proofs.lemmas.Str.Parse.{digit_at}
-use Rattle.text_lines.proofs.Numerals.{digits, value_stops}
+use Rattle.list_base.proofs.Numerals.{digits, value_stops}
 use Rattle.text_lines.proofs.decimal.value_of.Goals as goal
 
 pub loop-digit-preserved : goal.loop-digit-preserved

@@ -2,7 +2,7 @@
 use Rattle.std.proofs.Common.{ℕ, ◌+◌, eqb, List, ◌∷◌, take, drop, sym, ap, subst, ◌∙◌}
 use Rattle.std.specs.List.{slice_split}
 use Rattle.std.proofs.lemmas.List.{take_all, take_rest}
-use Rattle.text_lines.proofs.Separators.{Lacks, split_there, parts_none, parts_at}
+use Rattle.list_base.proofs.Separators.{Lacks, split_there, parts_none, parts_at}
 use Rattle.text_lines.proofs.split.split_once.Goals as goal
 
 pub returns-then-byte-separator-clause-parts : goal.returns-then-byte-separator-clause-parts

@@ -1,6 +1,6 @@
 -- What is known of the bytes so far.
 use Rattle.std.proofs.Common.{take}
-use Rattle.text_lines.proofs.Separators.{Lacks}
+use Rattle.list_base.proofs.Separators.{Lacks}
 use Rattle.text_lines.proofs.split.split_once.Given as goal
 
 -- the separator is not among the bytes that were passed

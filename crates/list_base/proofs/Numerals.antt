@@ -10,7 +10,7 @@ use Rattle.std.proofs.lemmas.Int.Digits.{digits_of_step, digits_value_push, digi
 use Rattle.std.proofs.lemmas.Str.{digit_value_digit}
 use Rattle.std.proofs.lemmas.Str.Parse.{IsDigitsTest, IsNumeralModel, digit_at, numerals_by_value}
 use Rattle.std.proofs.lemmas.Fmt.{decimal_digit, decimal-digits_of}
-use Rattle.text_lines.specs.Decimal.{IsNumeral, numeral}
+use Rattle.list_base.specs.Numeral.{IsNumeral, numeral}
 
 -- each byte is a decimal digit
 abbrev pub AreDigits : List ℕ → Type 0

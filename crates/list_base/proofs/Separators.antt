@@ -5,7 +5,7 @@ use Rattle.std.proofs.lemmas.Bool.{ne_eqb, eq-eqb, cond-false}
 use Rattle.std.proofs.lemmas.List.{take-append-drop, drop_more}
 use Rattle.std.proofs.lemmas.List.Elements.{All-weaker, recursion_from_All}
 use Rattle.std.proofs.lemmas.List.Splits.{slice_split_none, slice_split_at}
-use Rattle.text_lines.specs.Lines.{lines_of}
+use Rattle.list_base.specs.Lines.{lines_of}
 
 -- none of the bytes is c
 abbrev pub Lacks : ℕ → List ℕ → Type 0
