@@ -1,7 +1,8 @@
 -- The chain of an index is extended at its front.
-use Rattle.std.proofs.Common.{◌≡◌, ℕ, ◌+◌, ◌-◌, ◌<◌, ◌≤◌, true, false, cond, nat_eq, List, [], ◌∷◌, ◌++◌, length, get_or, Option, Some, None, inl, inr, refl, sym, ap, ◌∙◌, subst, arith, length-append}
+use Rattle.std.proofs.Common.{◌≡◌, ℕ, ◌+◌, ◌-◌, ◌<◌, cond, nat_eq, List, [], ◌∷◌, ◌++◌, length, get_or, Some, inl, inr, refl, sym, ap, ◌∙◌, subst, arith, length-append}
 use Rattle.std.specs.Prelude.{MatchBool, slice_get, slice_index_or, unwrap_or}
-use Rattle.std.specs.HashMap.{HashMap, get}
+use Rattle.std.specs.BTreeMap.{BTreeMap, get}
+use Rattle.std.specs.Ordering.{is_eq}
 use Rattle.std.proofs.lemmas.Bool.{cases_Bool, cases_lt, true≢false}
 use Rattle.std.proofs.lemmas.Bool.Decides.{Decides-eqb}
 use Rattle.std.proofs.lemmas.List.{get_or_append_left, get_or_at}
@@ -9,7 +10,7 @@ use Rattle.std.proofs.lemmas.Option.{same_Some, slice_get-get_or, slice_get_with
 use Rattle.bspl_types.specs.declared.event.Event.{Event}
 use Rattle.bspl_types.specs.declared.value.Value.{Value}
 use Rattle.bspl_types.specs.History.{instance_of}
-use Rattle.bspl_types.specs.Value.{EqualValuesAreOne, equal_values}
+use Rattle.key_table.specs.KeyOrder.{TiedKeysAreOne, key_cmp}
 use Rattle.run_index.specs.FirstOfKey.{IsFirstOfKey, IsRepeatOfKey}
 use Rattle.run_index.specs.inner.Chain.{IsIndexFrom, IsNextUnder}
 
@@ -77,7 +78,7 @@ first_or_repeat run key position first event at is_key next = elim (cases_Bool (
 ]
 
 -- the empty index has no event of the run
-pub index_start : {S : Type 0} (run : List Event) (firsts : HashMap (List Value) ℕ S) → firsts.entries ≡ [] → IsIndexFrom run (length run) firsts []
+pub index_start : (run : List Event) (firsts : BTreeMap (List Value) ℕ) → firsts.entries ≡ [] → IsIndexFrom run (length run) firsts []
 index_start run firsts empty =
     record {
       count = omega arith;
@@ -86,15 +87,15 @@ index_start run firsts empty =
     }
 
 -- one more event at the front of the index
-pub index_more : {S : Type 0} → EqualValuesAreOne → (run : List Event) (n p next : ℕ) (event : Event) (firsts more : HashMap (List Value) ℕ S) (following : List ℕ) → n ≡ p + 1 → slice_get run p ≡ Some event → IsIndexFrom run n firsts following → next ≡ unwrap_or (get equal_values firsts (instance_of event).key) (length run) → ((q : List Value) → get equal_values more q ≡ cond (equal_values (instance_of event).key q) (Some p) (get equal_values firsts q)) → IsIndexFrom run p more (following ++ next ∷ [])
+pub index_more : TiedKeysAreOne → (run : List Event) (n p next : ℕ) (event : Event) (firsts more : BTreeMap (List Value) ℕ) (following : List ℕ) → n ≡ p + 1 → slice_get run p ≡ Some event → IsIndexFrom run n firsts following → next ≡ unwrap_or (get key_cmp firsts (instance_of event).key) (length run) → ((q : List Value) → get key_cmp more q ≡ cond (is_eq (key_cmp (instance_of event).key q)) (Some p) (get key_cmp firsts q)) → IsIndexFrom run p more (following ++ next ∷ [])
 index_more exact run n p next event firsts more following is_next at index is_old updates =
     let key = (instance_of event).key in
     let count : length following + n ≡ length run = index.count in
     record {
       count = omega (arith, length-append following (next ∷ []), count, is_next);
-      first = λ q. elim (cases_Bool (equal_values key q)) [
+      first = λ q. elim (cases_Bool (is_eq (key_cmp key q))) [
         | inl is_yes ↦ rw (updates q, is_yes) (subst (λ k. IsNextUnder run k p p) ((exact key q).0 is_yes) (first_here run p event at))
-        | inr is_no ↦ rw (updates q, is_no) (other_here run q p (unwrap_or (get equal_values firsts q) (length run)) event at (λ same. true≢false (sym ((exact key q).1 same) ∙ is_no)) (subst (λ k. IsNextUnder run q k (unwrap_or (get equal_values firsts q) (length run))) is_next (index.first q)))
+        | inr is_no ↦ rw (updates q, is_no) (other_here run q p (unwrap_or (get key_cmp firsts q) (length run)) event at (λ same. true≢false (sym ((exact key q).1 same) ∙ is_no)) (subst (λ k. IsNextUnder run q k (unwrap_or (get key_cmp firsts q) (length run))) is_next (index.first q)))
       ];
       next = λ k e from is. elim (cases_lt p k) [
         | inl later ↦
@@ -105,7 +106,7 @@ index_more exact run n p next event firsts more following is_next at index is_ol
             let same : event ≡ e = same_Some event e (sym at ∙ ap (slice_get run) is_p ∙ is) in
             let last : slice_index_or (following ++ next ∷ []) (length run - 1 - k) 0 ≡ next = get_or_at following next [] 0 (length run - 1 - k) (omega (arith, count, is_next, is_p)) in
             subst (IsNextUnder run (instance_of e).key (k + 1)) (sym (last ∙ is_old))
-            (subst (λ f. IsNextUnder run (instance_of f).key (k + 1) (unwrap_or (get equal_values firsts key) (length run))) same
-            (subst (λ j. IsNextUnder run key j (unwrap_or (get equal_values firsts key) (length run))) (is_next ∙ ap (λ j. j + 1) is_p) (index.first key)))
+            (subst (λ f. IsNextUnder run (instance_of f).key (k + 1) (unwrap_or (get key_cmp firsts key) (length run))) same
+            (subst (λ j. IsNextUnder run key j (unwrap_or (get key_cmp firsts key) (length run))) (is_next ∙ ap (λ j. j + 1) is_p) (index.first key)))
       ];
     }

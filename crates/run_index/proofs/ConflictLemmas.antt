@@ -1,5 +1,5 @@
 -- What the first event with a rival says of the run's conflicts.
-use Rattle.std.proofs.Common.{◌≡◌, ℕ, ◌+◌, ◌<◌, ◌≤◌, List, length, take, Some, inl, inr, refl, sym, ap, ◌∙◌, arith}
+use Rattle.std.proofs.Common.{◌≡◌, ℕ, ◌+◌, ◌≤◌, List, length, take, Some, inl, inr, refl, sym, ap, ◌∙◌, arith}
 use Rattle.std.specs.Prelude.{slice_get, ⊤}
 use Rattle.std.specs.List.{Any}
 use Rattle.std.proofs.lemmas.Bool.{cases_lt}
@@ -9,7 +9,6 @@ use Rattle.bspl_types.specs.declared.event.Event.{Event}
 use Rattle.bspl_types.specs.declared.event.Event.TheVariants.{Emit}
 use Rattle.bspl_types.specs.declared.expanded.Expanded.{Expanded}
 use Rattle.bspl_types.specs.declared.value.Value.{Value}
-use Rattle.enactment_model.specs.declared.conflicts.Conflict.{Conflict as SpecConflict}
 use Rattle.enactment_model.specs.LeastConflict.{IsLeastConflict}
 use Rattle.enactment_model.specs.Rivals.{HasNoRival, IsLeastRival}
 use Rattle.enactment_model.specs.Safety.{Conflict, HasNoConflict}

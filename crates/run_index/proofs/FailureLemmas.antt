@@ -1,20 +1,14 @@
 -- The least of the first failures under the keys is that of the run, and what it says of the run.
-use Rattle.std.proofs.Common.{◌≡◌, ℕ, ◌+◌, ◌<◌, ◌≤◌, min, List, ◌∷◌, ◌++◌, length, take, drop, Some, inl, inr, refl, sym, ap, ◌∙◌, subst, arith, length-take}
+use Rattle.std.proofs.Common.{◌≡◌, ℕ, ◌+◌, ◌≤◌, min, List, length, take, Some, inl, inr, refl, sym, ap, ◌∙◌, subst, arith}
 use Rattle.std.specs.Prelude.{slice_get, ⊤}
-use Rattle.std.specs.List.{Any}
 use Rattle.std.proofs.lemmas.Bool.{cases_lt}
 use Rattle.std.proofs.lemmas.Option.{same_Some, slice_get_within}
-use Rattle.list_base.proofs.Membership.{early_index, early_member}
 use Rattle.bspl_types.specs.declared.event.Event.{Event}
-use Rattle.bspl_types.specs.declared.event.Event.TheVariants.{Emit}
 use Rattle.bspl_types.specs.declared.expanded.Expanded.{Expanded}
-use Rattle.bspl_types.specs.declared.value.Value.{Value}
 use Rattle.bspl_types.specs.History.{instance_of}
-use Rattle.enactment_model.specs.Safety.{Conflict, HasNoConflict}
 use Rattle.run_index.specs.declared.demand.Demand.{Demand}
-use Rattle.run_index.specs.declared.demand.Demand.TheVariants as demands
 use Rattle.run_index.specs.FirstOfKey.{HasKeyBefore, IsRepeatOfKey}
-use Rattle.run_index.specs.inner.Demands.{IsRivalOf, Meets}
+use Rattle.run_index.specs.inner.Demands.{Meets}
 use Rattle.run_index.specs.inner.Failures.{IsFirstFailure}
 
 -- before the first key there is no failure

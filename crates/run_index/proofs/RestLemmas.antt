@@ -1,5 +1,5 @@
 -- How an enactment is left depends on its own events alone.
-use Rattle.std.proofs.Common.{◌≡◌, ℕ, List, Option, None, Some, inl, inr}
+use Rattle.std.proofs.Common.{ℕ, List, Option, None, Some, inl, inr}
 use Rattle.std.specs.Prelude.{IfSome}
 use Rattle.bspl_types.specs.declared.event.Event.{Event}
 use Rattle.bspl_types.specs.declared.event.Event.TheVariants.{Emit, Receive}

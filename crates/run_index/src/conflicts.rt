@@ -1,4 +1,4 @@
-ghost use Rattle.std.specs.Prelude.{◌≡◌, ◌↔◌, IfOk, IfSome, IsNone};
+ghost use Rattle.std.specs.Prelude.{◌↔◌, IfOk, IfSome, IsNone};
 ghost use Rattle.bspl_types.specs.History.{IsRun};
 ghost use Rattle.enactment_model.specs.LeastConflict.{IsLeastConflict};
 ghost use Rattle.enactment_model.specs.Safety.{HasNoConflict};

@@ -1,4 +1,4 @@
-ghost use Rattle.std.specs.Prelude.{◌≡◌, ◌↔◌, IsTrue};
+ghost use Rattle.std.specs.Prelude.{◌↔◌, IsTrue};
 ghost use Rattle.std.specs.List.{Any};
 ghost use Rattle.bspl_types.specs.History.{instance_of, IsRun};
 ghost use Rattle.bspl_types.specs.Instance.{Fits};

@@ -1,9 +1,8 @@
 ghost use Rattle.std.specs.Prelude.{◌≡◌, ◌↔◌, IsTrue, OnOk};
 ghost use Rattle.std.specs.List.{Contains};
-ghost use Rattle.bspl_types.specs.History.{instance_of};
 ghost use Rattle.run_index.specs.inner.Enactment.{IsAdded};
 
-use bspl_types::{Event, Key, Run};
+use bspl_types::{Event, Run};
 use list_base::NoMemory;
 
 /// Puts the event at the end, unless it is there: a repeated event tells nothing new.
@@ -34,14 +33,5 @@ fn is_same(other: &Event, event: &Event) -> bool
         (Event::Emit(emitted), Event::Emit(instance)) => emitted.same(instance),
         (Event::Receive(received), Event::Receive(instance)) => received.same(instance),
         (_, _) => false,
-    }
-}
-
-/// The key of what is emitted or received.
-pub(crate) fn key_of(event: &Event) -> Key
-    ensures { result ≡ (instance_of event.now).key }
-{
-    match event {
-        Event::Emit(instance) | Event::Receive(instance) => instance.key,
     }
 }

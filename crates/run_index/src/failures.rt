@@ -3,7 +3,7 @@ ghost use Rattle.bspl_types.specs.History.{instance_of, IsRun};
 ghost use Rattle.run_index.specs.inner.Failures.{IsFirstFailure};
 
 use super::demand::{Demand, meets};
-use super::enactment::{add_event, key_of};
+use super::enactment::add_event;
 use super::index::RunIndex;
 use bspl_types::{Expanded, Key};
 use list_base::{NoMemory, Seq};
@@ -25,7 +25,7 @@ pub(crate) fn first_failure(
     let mut least = run.len();
     for start in 0..run.len() {
         if index.is_first(start) {
-            let failure = failure_under(alloc, x, index, &key_of(&run[start]), demand)?;
+            let failure = failure_under(alloc, x, index, &run[start].instance().key, demand)?;
             least = least.min(failure);
         }
     }

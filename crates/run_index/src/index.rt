@@ -5,11 +5,12 @@ ghost use Rattle.run_index.specs.FirstOfKey.{IsFirstOfKey, IsRepeatOfKey};
 ghost use Rattle.run_index.specs.inner.Chain.{IsNextUnder};
 ghost use Rattle.run_index.specs.inner.Enactment.{HasEventsUnder};
 
-use super::enactment::{add_event, key_of};
-use bspl_types::{Event, Key, Run, equal_values_are_one};
+use super::enactment::add_event;
+use bspl_types::{Event, Key, Run};
+use key_table::{SortedKey, tied_keys_are_one};
 use list_base::{NoMemory, NumberList, Seq};
 use std::alloc::Global;
-use std::collections::HashMap;
+use std::collections::BTreeMap;
 use std::marker::Model;
 
 /// A run whose events are found by their keys. Contracts see the run.
@@ -19,7 +20,7 @@ use std::marker::Model;
 #[derive(Drop)]
 pub struct RunIndex<'a> {
     run: &'a [Event],
-    firsts: HashMap<Key, usize>,
+    firsts: BTreeMap<SortedKey, usize>,
     /// Backwards: the last event's comes first.
     following: Seq<usize>,
 }
@@ -41,14 +42,14 @@ impl<'a> RunIndex<'a> {
     pub fn of(alloc: Global, run: &'a [Event]) -> Result<RunIndex<'a>, NoMemory>
         ensures { IfOk result (λ index. index ≡ run.now) }
     {
-        // law: keys that the test finds equal are one key
-        equal_values_are_one();
-        let mut firsts = HashMap::new(alloc);
+        tied_keys_are_one(); // law: keys that are equal by their order are one key
+        let mut firsts = BTreeMap::new(alloc);
         let mut following = Seq::new(alloc);
         let mut position = run.len();
         while position > 0 {
             position -= 1;
-            let next = firsts.insert(key_of(&run[position]), position)?;
+            let key = SortedKey::of(&run[position].instance().key);
+            let next = firsts.insert(key, position)?;
             following.push(next.unwrap_or(run.len()))?;
         }
         Ok(RunIndex {
@@ -72,14 +73,14 @@ impl<'a> RunIndex<'a> {
             (IsRepeatOfKey self.now position) }
     {
         let run = self.events();
-        self.first(&key_of(&run[position])) == position
+        self.first(&run[position].instance().key) == position
     }
 
     /// The position of the first event under the key, or the length of the run.
     pub(crate) fn first(&self, key: &Key) -> usize
         ensures { IsNextUnder self.now key.now 0 result }
     {
-        match self.firsts.get(key) {
+        match self.firsts.get(&SortedKey::of(key)) {
             Some(position) => *position,
             None => self.run.len(),
         }

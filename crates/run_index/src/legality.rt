@@ -1,4 +1,4 @@
-ghost use Rattle.std.specs.Prelude.{◌≡◌, ◌↔◌, IfErr, IfOk, IsOk};
+ghost use Rattle.std.specs.Prelude.{◌↔◌, IfErr, IfOk, IsOk};
 ghost use Rattle.bspl_types.specs.History.{IsRun};
 ghost use Rattle.enactment_model.specs.BadEvent.{IsFirstBadEvent};
 ghost use Rattle.enactment_model.specs.Legal.{IsLegal};

@@ -1,11 +1,11 @@
 -- Where the next event under a key is.
 use Rattle.std.specs.Prelude.{◌≡◌, ◌≢◌, ℕ, ◌+◌, ◌-◌, ◌<◌, ◌≤◌, List, length, slice_get, slice_index_or}
 use Rattle.std.specs.Prelude.{Some, unwrap_or}
-use Rattle.std.specs.HashMap.{HashMap, get}
+use Rattle.std.specs.BTreeMap.{BTreeMap, get}
 use Rattle.bspl_types.specs.declared.event.Event.{Event}
 use Rattle.bspl_types.specs.declared.value.Value.{Value}
 use Rattle.bspl_types.specs.History.{instance_of}
-use Rattle.bspl_types.specs.Value.{equal_values}
+use Rattle.key_table.specs.KeyOrder.{key_cmp}
 
 -- the first position from one on with an event under the key, or else the length of the run
 pub record IsNextUnder (run : List Event) (key : List Value) (from found : ℕ) : Type 0 where
@@ -17,10 +17,10 @@ pub record IsNextUnder (run : List Event) (key : List Value) (from found : ℕ) 
 
 -- of the events from a position on: the map has the first one of each key, and the list, backwards,
 -- the one that follows each
-pub record IsIndexFrom {S : Type 0} (run : List Event) (from : ℕ)
-    (firsts : HashMap (List Value) ℕ S) (following : List ℕ) : Type 0 where
+pub record IsIndexFrom (run : List Event) (from : ℕ)
+    (firsts : BTreeMap (List Value) ℕ) (following : List ℕ) : Type 0 where
   pub count : length following + from ≡ length run
   pub first : (key : List Value) →
-      IsNextUnder run key from (unwrap_or (get equal_values firsts key) (length run))
+      IsNextUnder run key from (unwrap_or (get key_cmp firsts key) (length run))
   pub next : (k : ℕ) (e : Event) → from ≤ k → slice_get run k ≡ Some e →
       IsNextUnder run (instance_of e).key (k + 1) (slice_index_or following (length run - 1 - k) 0)

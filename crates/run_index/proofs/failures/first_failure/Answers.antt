@@ -23,7 +23,7 @@ loop-start-preserved c =
       | then-is_first+in_ok-failure w ↦
           let e = w.index-run-start.result in
           let at = read_at run c.events-run.result.now start e c.events-run.ensures c.loop-start-test.true w.index-run-start.is in
-          let found = subst (λ key. IsFirstFailure x c.args.demand run (λ f. (instance_of f).key ≡ key) w.in_ok-failure.failure) w.key_of.ensures w.in_ok-failure.ensures in
+          let found = subst (λ key. IsFirstFailure x c.args.demand run (λ f. (instance_of f).key ≡ key) w.in_ok-failure.failure) (ap (λ i. i.key) w.instance.ensures) w.in_ok-failure.ensures in
           subst (IsFirstFailure x c.args.demand run (HasKeyBefore run (start + 1))) (sym (w.least-is ∙ w.min-least.ensures))
           (key_reached x c.args.demand run start c.loop-start.least w.in_ok-failure.failure e at c.loop-start.invariant found)
       | else-is_first w ↦

@@ -2,7 +2,7 @@
 use Rattle.std.proofs.Common.{◌<◌, length, take, subst, arith}
 use Rattle.enactment_model.specs.BadEvent.{MayNotFollow}
 use Rattle.run_index.proofs.ChainLemmas.{read_at}
-use Rattle.run_index.proofs.LegalLemmas.{bad_at, legal_to_end}
+use Rattle.run_index.proofs.LegalLemmas.{bad_at}
 use Rattle.run_index.proofs.legality.legal.Goals as goal
 
 pub returns-in-Err-clause-bad : goal.returns-in-Err-clause-bad

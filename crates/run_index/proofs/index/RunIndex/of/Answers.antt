@@ -1,9 +1,10 @@
 -- The index begins with no event, and has one more after each turn.
-use Rattle.std.proofs.Common.{◌≡◌, ℕ, ◌+◌, ◌-◌, ◌<◌, cond, List, length, Some, refl, ap, ◌∙◌, subst, arith}
+use Rattle.std.proofs.Common.{◌≡◌, ◌+◌, ◌-◌, ◌<◌, cond, List, length, Some, refl, ap, ◌∙◌, subst, arith}
 use Rattle.std.specs.Prelude.{unwrap_or}
-use Rattle.std.specs.HashMap.{get}
+use Rattle.std.specs.BTreeMap.{get}
+use Rattle.std.specs.Ordering.{is_eq}
 use Rattle.bspl_types.specs.declared.value.Value.{Value}
-use Rattle.bspl_types.specs.Value.{equal_values}
+use Rattle.key_table.specs.KeyOrder.{key_cmp}
 use Rattle.run_index.proofs.ChainLemmas.{index_more, index_start, read_at}
 use Rattle.run_index.proofs.index.RunIndex.of.Goals as goal
 
@@ -18,6 +19,6 @@ loop-position-preserved c =
     let before : p < length run = omega (arith, c.loop-position.invariant.count, c.loop-position-test.true) in
     let is_next : c.loop-position.position ≡ p + 1 = omega (arith, c.loop-position-test.true) in
     let at = read_at run run p e refl before c.index-run-position.is in
-    let next_is = c.unwrap_or.ensures ∙ ap (λ old. unwrap_or old (length run)) (c.in_ok-next.ensures.old ∙ ap (get equal_values c.loop-position.firsts) c.key_of.ensures) in
-    let updates = subst (λ key. (q : List Value) → get equal_values c.insert.new.self q ≡ cond (equal_values key q) (Some p) (get equal_values c.loop-position.firsts q)) c.key_of.ensures c.in_ok-next.ensures.updates.0 in
-    rw c.in_ok-push.ensures.ok (index_more c.equal_values_are_one.ensures.lists run c.loop-position.position p c.unwrap_or.result e c.loop-position.firsts c.insert.new.self c.loop-position.following is_next at c.loop-position.invariant next_is updates)
+    let next_is = c.unwrap_or.ensures ∙ ap (λ old. unwrap_or old (length run)) (c.in_ok-next.ensures.old ∙ ap (get key_cmp c.loop-position.firsts) (c.of-key.ensures ∙ ap (λ i. i.key) c.instance.ensures)) in
+    let updates = subst (λ key. (q : List Value) → get key_cmp c.insert.new.self q ≡ cond (is_eq (key_cmp key q)) (Some p) (get key_cmp c.loop-position.firsts q)) (c.of-key.ensures ∙ ap (λ i. i.key) c.instance.ensures) c.in_ok-next.ensures.updates.0 in
+    rw c.in_ok-push.ensures.ok (index_more c.tied_keys_are_one.ensures run c.loop-position.position p c.unwrap_or.result e c.loop-position.firsts c.insert.new.self c.loop-position.following is_next at c.loop-position.invariant next_is updates)

@@ -1,0 +1,95 @@
+-- What a map of indices finds, with one key more too.
+use Rattle.std.proofs.Common.{◌≡◌, ◌≢◌, ℕ, get_or, ◌<◌, true, cond, List, [], ◌∷◌, ◌++◌, length, Some, inl, inr, slice_get, refl, sym, ap, ap₂, ◌∙◌, subst, arith}
+use Rattle.std.specs.BTreeMap.{BTreeMap, get}
+use Rattle.std.specs.List.{AllPairs, Contains}
+use Rattle.std.specs.Ordering.{is_eq, ordering_then}
+use Rattle.std.specs.declared.cmp.Ordering.{Ordering}
+use Rattle.std.specs.declared.cmp.Ordering.TheVariants.{Less, Equal, Greater}
+use Rattle.std.proofs.lemmas.Bool.{cases_Bool, cases_lt, true≢false}
+use Rattle.std.proofs.lemmas.Cmp.{tied_itself}
+use Rattle.std.proofs.lemmas.List.{get_or_append_left, get_or_at, length-append}
+use Rattle.std.proofs.lemmas.Map.Lookups.{CmpEqualImpliesEq, exact_bytes, exact_unsigned}
+use Rattle.std.proofs.lemmas.Option.{get_or_from_slice_get, same_Some, slice_get-get_or, slice_get_within}
+use Rattle.list_base.proofs.Membership.{member_at}
+use Rattle.bspl_types.specs.declared.value.Value.{Value}
+use Rattle.bspl_types.specs.declared.value.Value.TheVariants.{Number, Text}
+use Rattle.key_table.specs.KeyOrder.{TiedKeysAreOne, key_cmp, key_cmp_total, value_cmp}
+use Rattle.key_table.specs.inner.KeyIndex.{IsKeyIndex}
+
+-- values that tie are one value
+exact_values : CmpEqualImpliesEq value_cmp
+exact_values (Number a) (Number b) tie = ap Number (exact_unsigned a b tie)
+exact_values (Number a) (Text b) tie = absurd (cc)
+exact_values (Text a) (Number b) tie = absurd (cc)
+exact_values (Text a) (Text b) tie = ap Text (exact_bytes a b tie)
+
+-- of two answers in turn that tie each ties
+first_ties : (o p : Ordering) → ordering_then o p ≡ Equal → o ≡ Equal
+first_ties Less p tie = tie
+first_ties Equal p tie = refl
+first_ties Greater p tie = tie
+
+then_ties : (o p : Ordering) → o ≡ Equal → ordering_then o p ≡ Equal → p ≡ Equal
+then_ties o p is tie = sym (ap (λ first. ordering_then first p) is) ∙ tie
+
+-- keys that tie are one key
+exact_keys : CmpEqualImpliesEq key_cmp
+exact_keys [] [] tie = refl
+exact_keys [] (w ∷ ws) tie = absurd (cc)
+exact_keys (v ∷ vs) [] tie = absurd (cc)
+exact_keys (v ∷ vs) (w ∷ ws) tie =
+    let first = first_ties (value_cmp v w) (key_cmp vs ws) tie in
+    ap₂ (λ x xs. x ∷ xs) (exact_values v w first) (exact_keys vs ws (then_ties (value_cmp v w) (key_cmp vs ws) first tie))
+
+-- an answer that passes the test is a tie
+tie_is : (o : Ordering) → is_eq o ≡ true → o ≡ Equal
+tie_is Less is = absurd (true≢false (sym is))
+tie_is Equal is = refl
+tie_is Greater is = absurd (true≢false (sym is))
+
+-- a key is equal to itself, and to no other
+pub tied_is_one : TiedKeysAreOne
+tied_is_one k l = (
+  λ tie. exact_keys k l (tie_is (key_cmp k l) tie),
+  λ one. ap is_eq (sym (ap (key_cmp k) one) ∙ tied_itself key_cmp_total k),
+)
+
+-- no two keys with indices are equal
+pub indexed_once : (keys : List (List Value)) (indices : BTreeMap (List Value) ℕ) → IsKeyIndex keys indices → AllPairs (λ k l. k ≢ l) keys
+indexed_once keys indices index i j d less within same =
+    let first = (index (get_or keys i d) i).1 (slice_get-get_or keys i d (omega (arith, less, within))) in
+    let second = (index (get_or keys j d) j).1 (slice_get-get_or keys j d within) in
+    let one : i ≡ j = same_Some i j (sym first ∙ ap (get key_cmp indices) same ∙ second) in
+    omega (arith, less, one)
+
+-- the key that is added has the last index, and the others keep theirs
+pub one_more_indexed : (keys : List (List Value)) (key : List Value) (old new : BTreeMap (List Value) ℕ) → ¬ Contains keys key → IsKeyIndex keys old → ((q : List Value) → get key_cmp new q ≡ cond (is_eq (key_cmp key q)) (Some (length keys)) (get key_cmp old q)) → IsKeyIndex (keys ++ key ∷ []) new
+one_more_indexed keys key old new not index updates q i = elim (cases_Bool (is_eq (key_cmp key q))) [
+  | inl is_yes ↦
+      let one : key ≡ q = (tied_is_one key q).0 is_yes in
+      let found : get key_cmp new q ≡ Some (length keys) = rw (updates q, is_yes) refl in
+      let last : slice_get (keys ++ key ∷ []) (length keys) ≡ Some q = slice_get-get_or (keys ++ key ∷ []) (length keys) q (omega (arith, length-append keys (key ∷ []))) ∙ ap Some (get_or_at keys key [] q (length keys) refl ∙ one) in (
+        λ at. subst (λ n. slice_get (keys ++ key ∷ []) n ≡ Some q) (same_Some (length keys) i (sym found ∙ at)) last,
+        λ there. found ∙ ap Some (sym (elim (cases_lt i (length keys)) [
+          | inl early ↦ absurd (not (subst (Contains keys) (sym one) (member_at keys i q (sym (early_item keys key q i early) ∙ there))))
+          | inr late ↦ omega (arith, late, slice_get_within (keys ++ key ∷ []) i q there, length-append keys (key ∷ []))
+        ])),
+      )
+  | inr is_no ↦
+      let found : get key_cmp new q ≡ get key_cmp old q = rw (updates q, is_no) refl in (
+        λ at. let there = (index q i).0 (sym found ∙ at) in early_item keys key q i (slice_get_within keys i q there) ∙ there,
+        λ there. found ∙ (index q i).1 (elim (cases_lt i (length keys)) [
+          | inl early ↦ sym (early_item keys key q i early) ∙ there
+          | inr late ↦
+              let is : i ≡ length keys = omega (arith, late, slice_get_within (keys ++ key ∷ []) i q there, length-append keys (key ∷ [])) in
+              let one : key ≡ q = sym (get_or_at keys key [] q i (sym is)) ∙ get_or_from_slice_get (keys ++ key ∷ []) i q q there in
+              absurd (true≢false (sym ((tied_is_one key q).1 one) ∙ is_no))
+        ]),
+      )
+]
+  where
+    early_item : (keys : List (List Value)) (key q : List Value) (i : ℕ) → i < length keys → slice_get (keys ++ key ∷ []) i ≡ slice_get keys i
+    early_item keys key q i early =
+        slice_get-get_or (keys ++ key ∷ []) i q (omega (arith, early, length-append keys (key ∷ [])))
+        ∙ ap Some (get_or_append_left keys (key ∷ []) q i early)
+        ∙ sym (slice_get-get_or keys i q early)

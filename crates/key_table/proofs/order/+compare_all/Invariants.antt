@@ -1,0 +1,6 @@
+-- Each call has one value less.
+use Rattle.std.proofs.Common.{length}
+use Rattle.key_table.proofs.order.+compare_all.Given as goal
+
+abbrev pub decreases-compare_all : goal.decreases-compare_all
+decreases-compare_all l = length l.left.now
