@@ -1,4 +1,4 @@
-ghost use Rattle.std.specs.Prelude.{◌≡◌, ◌≢◌, ◌<◌, ◌↔◌, length, IfOk, IfErr, IfSome, IfNone};
+ghost use Rattle.std.specs.Prelude.{◌≡◌, ◌<◌, ◌↔◌, length, IfOk, IfErr};
 ghost use Rattle.std.specs.Prelude.{IsOk, IsTrue, MatchOption};
 ghost use Rattle.std.specs.List.{All, Any};
 ghost use Rattle.bspl_types.specs.Admission.{IsAdmittedMessage};

@@ -1,5 +1,5 @@
-ghost use Rattle.std.specs.Prelude.{◌≡◌, ◌≤◌, [], length, OnOk};
-ghost use Rattle.bspl_parser.specs.inner.ParseResult.{Gives};
+ghost use Rattle.std.specs.Prelude.{◌≡◌, [], OnOk};
+ghost use Rattle.bspl_parser.specs.inner.ParseResult.{Gives, Reads};
 ghost use Rattle.bspl_parser.specs.inner.TokenParsers.{parse_word};
 ghost use Rattle.bspl_parser.specs.inner.GrammarParsers.{parse_formal, parse_private};
 ghost use Rattle.bspl_parser.specs.inner.GrammarParsers.{parse_declaration, parse_from_roles};
@@ -44,9 +44,7 @@ impl<'t> Parse<'t> for Formal<'t> {
 /// Reads the private parameters, if there are any.
 #[tactic(auto, unfolding(crate::specs::inner::GrammarParsers::parse_private))]
 fn read_private<'t>(alloc: Global, stream: &mut TokenStream<'t>) -> Result<WordList<'t>, ParseError>
-    ensures gives { Gives result stream.new.tokens (parse_private stream.old.tokens) }
-    ensures same { stream.new.bad_byte ≡ stream.old.bad_byte }
-    ensures no_longer { OnOk result (length stream.new.tokens ≤ length stream.old.tokens) }
+    ensures { Reads result stream.old stream.new (parse_private stream.old.tokens) }
 {
     if stream.begins_with(Symbol::Private) {
         stream.symbol(Symbol::Private)?;
@@ -72,10 +70,7 @@ fn read_from_roles<'t>(
     stream: &mut TokenStream<'t>,
     name: Word<'t>,
 ) -> Result<Declaration<'t>, ParseError>
-    ensures gives { Gives result stream.new.tokens
-        (parse_from_roles name.entry stream.old.tokens) }
-    ensures same { stream.new.bad_byte ≡ stream.old.bad_byte }
-    ensures no_longer { OnOk result (length stream.new.tokens ≤ length stream.old.tokens) }
+    ensures { Reads result stream.old stream.new (parse_from_roles name.entry stream.old.tokens) }
 {
     stream.either(Symbol::Roles, Symbol::Role)?;
     let roles = read_list(alloc, stream)?;
@@ -89,10 +84,8 @@ fn read_from_public<'t>(
     name: Word<'t>,
     roles: WordList<'t>,
 ) -> Result<Declaration<'t>, ParseError>
-    ensures gives { Gives result stream.new.tokens
+    ensures { Reads result stream.old stream.new
         (parse_from_public name.entry roles.entry stream.old.tokens) }
-    ensures same { stream.new.bad_byte ≡ stream.old.bad_byte }
-    ensures no_longer { OnOk result (length stream.new.tokens ≤ length stream.old.tokens) }
 {
     stream.either(Symbol::Parameters, Symbol::Parameter)?;
     let public = read_list(alloc, stream)?;
@@ -109,10 +102,8 @@ fn read_from_body<'t>(
     public: FormalList<'t>,
     private: WordList<'t>,
 ) -> Result<Declaration<'t>, ParseError>
-    ensures gives { Gives result stream.new.tokens
+    ensures { Reads result stream.old stream.new
         (parse_from_body name.entry roles.entry public.entry private.entry stream.old.tokens) }
-    ensures same { stream.new.bad_byte ≡ stream.old.bad_byte }
-    ensures no_longer { OnOk result (length stream.new.tokens ≤ length stream.old.tokens) }
 {
     let body = read_more(alloc, stream, ListKind::Name, Seq::new(alloc))?;
     stream.symbol(Symbol::CloseBrace)?;

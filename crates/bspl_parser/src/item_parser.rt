@@ -1,6 +1,6 @@
-ghost use Rattle.std.specs.Prelude.{◌≡◌, ◌≤◌, [], ◌∷◌, length, OnOk};
+ghost use Rattle.std.specs.Prelude.{[], ◌∷◌};
 ghost use Rattle.bspl_parser.specs.declared.list_kind.ListKind.TheVariants.{CommaName};
-ghost use Rattle.bspl_parser.specs.inner.ParseResult.{Gives};
+ghost use Rattle.bspl_parser.specs.inner.ParseResult.{Reads};
 ghost use Rattle.bspl_parser.specs.inner.TokenParsers.{parse_word};
 ghost use Rattle.bspl_parser.specs.inner.GrammarParsers.{parse_message, parse_bracketed};
 ghost use Rattle.bspl_parser.specs.inner.GrammarParsers.{parse_reference};
@@ -24,9 +24,7 @@ fn read_message<'t>(
     stream: &mut TokenStream<'t>,
     sender: Word<'t>,
 ) -> Result<Schema<'t>, ParseError>
-    ensures gives { Gives result stream.new.tokens (parse_message sender.entry stream.old.tokens) }
-    ensures same { stream.new.bad_byte ≡ stream.old.bad_byte }
-    ensures no_longer { OnOk result (length stream.new.tokens ≤ length stream.old.tokens) }
+    ensures { Reads result stream.old stream.new (parse_message sender.entry stream.old.tokens) }
 {
     let receiver = stream.word_after(Symbol::Arrow)?;
     let name = stream.word_after(Symbol::Colon)?;
@@ -45,9 +43,7 @@ fn read_bracketed<'t>(
     alloc: Global,
     stream: &mut TokenStream<'t>,
 ) -> Result<FormalList<'t>, ParseError>
-    ensures gives { Gives result stream.new.tokens (parse_bracketed stream.old.tokens) }
-    ensures same { stream.new.bad_byte ≡ stream.old.bad_byte }
-    ensures no_longer { OnOk result (length stream.new.tokens ≤ length stream.old.tokens) }
+    ensures { Reads result stream.old stream.new (parse_bracketed stream.old.tokens) }
 {
     stream.symbol(Symbol::OpenBracket)?;
     let params = read_list(alloc, stream)?;
@@ -62,10 +58,8 @@ fn read_reference<'t>(
     stream: &mut TokenStream<'t>,
     protocol: Word<'t>,
 ) -> Result<Reference<'t>, ParseError>
-    ensures gives { Gives result stream.new.tokens
+    ensures { Reads result stream.old stream.new
         (parse_reference protocol.entry stream.old.tokens) }
-    ensures same { stream.new.bad_byte ≡ stream.old.bad_byte }
-    ensures no_longer { OnOk result (length stream.new.tokens ≤ length stream.old.tokens) }
 {
     stream.symbol(Symbol::OpenParen)?;
     let first = stream.word()?;
@@ -79,10 +73,8 @@ fn read_names<'t>(
     stream: &mut TokenStream<'t>,
     first: Word<'t>,
 ) -> Result<WordList<'t>, ParseError>
-    ensures gives { Gives result stream.new.tokens (with_prefix (first.entry ∷ [])
-        (parse_many CommaName parse_word stream.old.tokens)) }
-    ensures same { stream.new.bad_byte ≡ stream.old.bad_byte }
-    ensures no_longer { OnOk result (length stream.new.tokens ≤ length stream.old.tokens) }
+    ensures { Reads result stream.old stream.new
+        (with_prefix (first.entry ∷ []) (parse_many CommaName parse_word stream.old.tokens)) }
 {
     let mut prefix = Seq::new(alloc);
     prefix.push(first)?;
@@ -96,10 +88,8 @@ fn read_from_given<'t>(
     protocol: Word<'t>,
     roles: WordList<'t>,
 ) -> Result<Reference<'t>, ParseError>
-    ensures gives { Gives result stream.new.tokens
+    ensures { Reads result stream.old stream.new
         (parse_from_given protocol.entry roles.entry stream.old.tokens) }
-    ensures same { stream.new.bad_byte ≡ stream.old.bad_byte }
-    ensures no_longer { OnOk result (length stream.new.tokens ≤ length stream.old.tokens) }
 {
     let params = read_more(alloc, stream, ListKind::Comma, Seq::new(alloc))?;
     stream.symbol(Symbol::CloseParen)?;

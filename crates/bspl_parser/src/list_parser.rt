@@ -1,7 +1,7 @@
 ghost use Rattle.std.specs.Prelude.{◌≡◌, ◌<◌, ◌≤◌, false, List, Result, length, OnOk};
 ghost use Rattle.bspl_parser.specs.declared.parse_error.ErrorPosition.{ErrorPosition as SpecErrorPosition};
 ghost use Rattle.bspl_parser.specs.declared.token.Token.{Token as SpecToken};
-ghost use Rattle.bspl_parser.specs.inner.ParseResult.{Gives};
+ghost use Rattle.bspl_parser.specs.inner.ParseResult.{Gives, ReadsSome};
 ghost use Rattle.bspl_parser.specs.inner.GrammarParsers.{has_more, with_prefix, parse_many};
 ghost use Rattle.bspl_parser.specs.inner.GrammarParsers.{parse_list};
 
@@ -18,9 +18,7 @@ pub trait Parse<'t>: Drop {
 
     /// Reads one.
     fn read(alloc: Global, stream: &mut TokenStream<'t>) -> Result<Self, ParseError>
-        ensures gives { Gives result stream.new.tokens (at stream.old.tokens) }
-        ensures same { stream.new.bad_byte ≡ stream.old.bad_byte }
-        ensures shorter { OnOk result (length stream.new.tokens < length stream.old.tokens) };
+        ensures { ReadsSome result stream.old stream.new (at stream.old.tokens) };
 }
 
 /// Reads the further items of a list, and puts them after those that were read before.
@@ -51,9 +49,7 @@ pub fn read_list<'t, T: Parse<'t>>(
     alloc: Global,
     stream: &mut TokenStream<'t>,
 ) -> Result<Seq<T>, ParseError>
-    ensures gives { Gives result stream.new.tokens (parse_list T.at stream.old.tokens) }
-    ensures same { stream.new.bad_byte ≡ stream.old.bad_byte }
-    ensures shorter { OnOk result (length stream.new.tokens < length stream.old.tokens) }
+    ensures { ReadsSome result stream.old stream.new (parse_list T.at stream.old.tokens) }
 {
     let first = T::read(alloc, stream)?;
     let mut prefix = Seq::with_room(alloc, 2)?;

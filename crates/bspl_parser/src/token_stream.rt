@@ -1,5 +1,5 @@
 ghost use Rattle.std.specs.Prelude.{◌≡◌, ◌==◌, ◌<◌, ◌≤◌, [], drop, length, IfSome, IfNone, OnOk};
-ghost use Rattle.bspl_parser.specs.inner.ParseResult.{Returns, ReturnsRest};
+ghost use Rattle.bspl_parser.specs.inner.ParseResult.{Returns, ReturnsRest, Takes};
 ghost use Rattle.bspl_parser.specs.inner.Scan.{scan_from, with_token};
 ghost use Rattle.bspl_parser.specs.inner.TokenParsers.{begins_with, begins_with_name, parse_word};
 ghost use Rattle.bspl_parser.specs.inner.TokenParsers.{parse_symbol, parse_word_after};
@@ -134,9 +134,7 @@ impl<'t> TokenStream<'t> {
     /// Takes a name.
     #[tactic(auto, unfolding(crate::specs::inner::TokenParsers::parse_word))]
     pub fn word(&mut self) -> Result<Word<'t>, ErrorPosition>
-        ensures gives { Returns result self.new.tokens (parse_word self.old.tokens) }
-        ensures same { self.new.bad_byte ≡ self.old.bad_byte }
-        ensures shorter { OnOk result (length self.new.tokens < length self.old.tokens) }
+        ensures { Takes result self.old self.new (parse_word self.old.tokens) }
     {
         match self.next() {
             None => Err(ErrorPosition::End),
@@ -148,9 +146,7 @@ impl<'t> TokenStream<'t> {
     /// Takes that symbol, and returns its offset.
     #[tactic(auto, unfolding(crate::specs::inner::TokenParsers::parse_symbol))]
     pub fn symbol(&mut self, wanted: Symbol) -> Result<u64, ErrorPosition>
-        ensures gives { Returns result self.new.tokens (parse_symbol wanted self.old.tokens) }
-        ensures same { self.new.bad_byte ≡ self.old.bad_byte }
-        ensures shorter { OnOk result (length self.new.tokens < length self.old.tokens) }
+        ensures { Takes result self.old self.new (parse_symbol wanted self.old.tokens) }
     {
         match self.next() {
             None => Err(ErrorPosition::End),
@@ -168,9 +164,7 @@ impl<'t> TokenStream<'t> {
     /// Takes that symbol, and a name after it.
     #[tactic(auto, unfolding(crate::specs::inner::TokenParsers::parse_word_after))]
     pub fn word_after(&mut self, wanted: Symbol) -> Result<Word<'t>, ErrorPosition>
-        ensures gives { Returns result self.new.tokens (parse_word_after wanted self.old.tokens) }
-        ensures same { self.new.bad_byte ≡ self.old.bad_byte }
-        ensures shorter { OnOk result (length self.new.tokens < length self.old.tokens) }
+        ensures { Takes result self.old self.new (parse_word_after wanted self.old.tokens) }
     {
         let _offset = self.symbol(wanted)?;
         self.word()
@@ -178,9 +172,7 @@ impl<'t> TokenStream<'t> {
 
     /// Takes one of two symbols, and returns its offset.
     pub fn either(&mut self, one: Symbol, other: Symbol) -> Result<u64, ErrorPosition>
-        ensures gives { Returns result self.new.tokens (parse_either one other self.old.tokens) }
-        ensures same { self.new.bad_byte ≡ self.old.bad_byte }
-        ensures shorter { OnOk result (length self.new.tokens < length self.old.tokens) }
+        ensures { Takes result self.old self.new (parse_either one other self.old.tokens) }
     {
         if self.begins_with(one) {
             self.symbol(one)
@@ -192,9 +184,7 @@ impl<'t> TokenStream<'t> {
     /// Takes an adornment, and returns it with its offset.
     #[tactic(auto, unfolding(crate::specs::inner::TokenParsers::parse_adorn))]
     pub fn adornment(&mut self) -> Result<(Adorn, u64), ErrorPosition>
-        ensures gives { Returns result self.new.tokens (parse_adorn self.old.tokens) }
-        ensures same { self.new.bad_byte ≡ self.old.bad_byte }
-        ensures shorter { OnOk result (length self.new.tokens < length self.old.tokens) }
+        ensures { Takes result self.old self.new (parse_adorn self.old.tokens) }
     {
         let (symbol, offset) = match self.next() {
             None => return Err(ErrorPosition::End),

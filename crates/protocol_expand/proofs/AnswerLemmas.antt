@@ -9,10 +9,10 @@ use Rattle.bspl_parser.specs.declared.document.Document.{Document}
 use Rattle.protocol_names.specs.declared.fault.DocumentFault.{DocumentFault}
 use Rattle.protocol_names.specs.Fault.{HasNoFault, IsFault, IsFirstFault}
 use Rattle.protocol_limits.specs.Survey.{IsUnrolled}
-use Rattle.flat_expansion.specs.Expansion.{IsExpansionOf}
+use Rattle.protocol_expand.specs.FlatExpansion.{IsExpansionOf}
 use Rattle.bspl_parser.specs.Alike.{WordsAreEqual}
 use Rattle.reference_graph.specs.Laws.{CyclesAreOne}
-use Rattle.flat_expansion.specs.Laws as flat_laws
+use Rattle.protocol_expand.specs.FlatLaws as flat_laws
 use Rattle.protocol_expand.specs.Request.{IsDeclaredAs}
 use Rattle.protocol_expand.specs.Expansion.{Expands, IsExpansion}
 use Rattle.protocol_expand.specs.Refusals.{HasCycle, HasEqualNames, HasTooMany, IsMissing, refusal_at}
@@ -26,7 +26,7 @@ use Rattle.protocol_expand.proofs.Requested.{IsFlatRequest, declared, flat_reque
 pub record LowerLaws : Type 0 where
   pub words : WordsAreEqual
   pub cycles : CyclesAreOne
-  pub unique : flat_laws.ExpansionsAreUnique
+  pub unique : flat_laws.FlatExpansionsAreUnique
   pub names : flat_laws.ExpansionsKeepNames
 
 -- an expansion, or why there is none

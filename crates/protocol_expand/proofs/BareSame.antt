@@ -23,7 +23,7 @@ use Rattle.bspl_parser.specs.declared.document.Item.TheVariants as item
 use Rattle.bspl_parser.specs.declared.word.Word.{Word}
 use Rattle.bspl_parser.specs.Alike.{declaration_without_offsets, formal_without_offsets, item_without_offsets, key_without_offset, word_without_offset}
 use Rattle.bspl_parser.specs.Layout.{printed}
-use Rattle.flat_expansion.specs.Expansion.{adornment_of, private_param, public_param, IsCarried, IsExpansionOf, IsMessageOfItem}
+use Rattle.protocol_expand.specs.FlatExpansion.{adornment_of, private_param, public_param, IsCarried, IsExpansionOf, IsMessageOfItem}
 use Rattle.protocol_names.specs.Plain.{IsUnkeyed}
 use Rattle.protocol_expand.specs.Printed.{IsPrinted}
 use Rattle.protocol_expand.proofs.PlainPairs.{same_images, same_partners}

@@ -22,7 +22,7 @@ use Rattle.protocol_paths.specs.Laws.{PathsByItems}
 use Rattle.protocol_limits.specs.Counts.{first_oversized, is_oversized, key_count, message_count, oversized_within, param_count, private_count, role_count}
 use Rattle.protocol_limits.specs.Laws.{MessagesAreCounted, PrivatesAreCounted}
 use Rattle.protocol_limits.specs.Limits.{AreWithinLimits, carried_count, is_over, limit, limits}
-use Rattle.flat_expansion.specs.WellScoped.{CountsFit}
+use Rattle.protocol_expand.specs.WellScoped.{CountsFit}
 use Rattle.list_base.proofs.Mapped.{as_long}
 use Rattle.list_base.proofs.Zipped.{seconds}
 

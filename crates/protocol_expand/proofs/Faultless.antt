@@ -18,7 +18,7 @@ use Rattle.protocol_names.specs.Fault.{HasNoFault, IsDuplicate, repeated, IsFaul
 use Rattle.protocol_names.specs.FaultOrder.{HasNone, holds}
 use Rattle.protocol_names.specs.Names.{IsSameArity, names_of, param_words, params_used, protocol_of, roles_used, texts}
 use Rattle.list_base.proofs.FirstIndex.{has_index}
-use Rattle.flat_expansion.specs.WellScoped.{AreDistinct, IsAdorned}
+use Rattle.protocol_expand.specs.WellScoped.{AreDistinct, IsAdorned}
 
 -- the item's roles and parameters are declared, and adorned as an expansion's are
 pub record IsFaultless (p : Declaration) (i : Item) : Type 0 where

@@ -6,7 +6,7 @@ use Rattle.bspl_types.specs.declared.refusals.Refusal.{Refusal}
 use Rattle.bspl_types.specs.declared.refusals.Refusal.TheVariants.{Duplicate, NoMemory}
 use Rattle.bspl_parser.specs.declared.document.Declaration.{Declaration}
 use Rattle.protocol_paths.specs.Flat.{IsFlat}
-use Rattle.flat_expansion.specs.Expansion.{IsExpansionOf}
+use Rattle.protocol_expand.specs.FlatExpansion.{IsExpansionOf}
 use Rattle.protocol_expand.specs.inner.Flat.{ExpandsFlat, RefusesFlat, RefusesTop}
 
 -- its expansion

@@ -11,7 +11,7 @@ use Rattle.bspl_parser.specs.declared.document.Item.TheVariants.{Message, Refere
 use Rattle.bspl_parser.specs.declared.word.Word.{Word}
 use Rattle.bspl_parser.specs.Spelling.{IsDeclaration, IsFormal, IsItem, IsDocument}
 use Rattle.protocol_paths.specs.Flat.{IsFlat}
-use Rattle.flat_expansion.specs.WellScoped.{AreDistinct, IsAdorned, IsWellScoped, IsWellScopedItem}
+use Rattle.protocol_expand.specs.WellScoped.{AreDistinct, IsAdorned, IsWellScoped, IsWellScopedItem}
 use Rattle.protocol_limits.specs.Laws.{MessagesAreCounted, PrivatesAreCounted}
 use Rattle.protocol_paths.specs.Laws.{PathsByItems}
 use Rattle.protocol_expand.specs.Repeats.{AreNamesDistinct}

@@ -1,3 +1,12 @@
+mod DeclarationLemmas
+mod EndLemmas
+mod ExpansionIsUnique
+mod ExpansionLemmas
+mod KnownNamesLemmas
+mod ScanLemmas
+mod SchemaLemmas
+mod ShapeLemmas
+mod WellScopedLemmas
 mod Requested
 mod RequestLemmas
 mod FlatAnswers

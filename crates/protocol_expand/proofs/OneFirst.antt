@@ -13,7 +13,7 @@ use Rattle.protocol_names.specs.Names.{texts}
 use Rattle.reference_graph.specs.PathCounts.{saturated}
 use Rattle.protocol_limits.specs.declared.limit.Limit.{Limit}
 use Rattle.protocol_limits.specs.Limits.{IsFirstOver}
-use Rattle.flat_expansion.specs.WellScoped.{AreDistinct}
+use Rattle.protocol_expand.specs.WellScoped.{AreDistinct}
 use Rattle.protocol_expand.specs.Repeats.{RepeatsFirst}
 
 -- the kind of a rank

@@ -7,12 +7,12 @@ use Rattle.bspl_types.specs.declared.protocol.ParamInfo.{ParamInfo}
 use Rattle.bspl_parser.specs.declared.document.Declaration.{Declaration}
 use Rattle.bspl_parser.specs.declared.word.Word.{Word}
 use Rattle.protocol_names.specs.Names.{message_words, param_words, texts}
-use Rattle.flat_expansion.specs.Expansion.{IsExpansionOf}
-use Rattle.flat_expansion.specs.WellScoped.{AreDistinct}
+use Rattle.protocol_expand.specs.FlatExpansion.{IsExpansionOf}
+use Rattle.protocol_expand.specs.WellScoped.{AreDistinct}
 use Rattle.list_base.proofs.Mapped.{mapped_pairs, pairs_of_mapped}
 use Rattle.protocol_expand.specs.Repeats.{AreNamesDistinct, RepeatsName}
 use Rattle.protocol_expand.proofs.OneFirst.{none_repeated}
-use Rattle.flat_expansion.specs.Laws.{ExpansionsKeepNames}
+use Rattle.protocol_expand.specs.FlatLaws.{ExpansionsKeepNames}
 
 -- words are apart where what is named so is
 pub names_apart : {X : Type 0} (name : X → List ℕ) (xs : List X) (words : List Word) → map name xs ≡ texts words → AllPairs (λ a b. name a ≢ name b) xs → AreDistinct words

@@ -17,8 +17,8 @@ use Rattle.protocol_limits.specs.Graph.{protocol_number}
 use Rattle.protocol_limits.specs.Laws.{ReferencesAreAGraph}
 use Rattle.protocol_limits.specs.Limits.{AreWithinLimits}
 use Rattle.protocol_limits.specs.Survey.{IsUnrolled}
-use Rattle.flat_expansion.specs.Expansion.{IsExpansionOf}
-use Rattle.flat_expansion.specs.Laws.{ExpansionsKeepNames}
+use Rattle.protocol_expand.specs.FlatExpansion.{IsExpansionOf}
+use Rattle.protocol_expand.specs.FlatLaws.{ExpansionsKeepNames}
 use Rattle.protocol_expand.specs.Expansion.{Expands, IsExpansion, IsPlain}
 use Rattle.protocol_expand.proofs.OneFlat.{one_flat}
 use Rattle.protocol_expand.proofs.PlainCounts.{within_limits}

@@ -25,8 +25,8 @@ use Rattle.protocol_limits.specs.declared.limit.Limit.{Limit}
 use Rattle.protocol_limits.specs.Counts.{depth, first_oversized, is_oversized, key_count, message_count, param_count, role_count}
 use Rattle.protocol_limits.specs.Laws.{ReferencesAreAGraph}
 use Rattle.protocol_limits.specs.Limits.{AreWithinLimits, carried_count, is_over, limit}
-use Rattle.flat_expansion.specs.Expansion.{public_param, private_param, IsCarried, IsExpansionOf, IsMessageOfItem}
-use Rattle.flat_expansion.specs.Laws.{ExpansionsKeepNames}
+use Rattle.protocol_expand.specs.FlatExpansion.{public_param, private_param, IsCarried, IsExpansionOf, IsMessageOfItem}
+use Rattle.protocol_expand.specs.FlatLaws.{ExpansionsKeepNames}
 use Rattle.protocol_expand.specs.Expansion.{IsPlain}
 use Rattle.protocol_expand.proofs.Counted.{params_at, roles_at}
 use Rattle.protocol_expand.proofs.PlainGraph.{depth_here, messages_here, privates_here}

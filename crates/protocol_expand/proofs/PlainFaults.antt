@@ -21,11 +21,11 @@ use Rattle.protocol_names.specs.Fault.{IsDuplicate, IsFaultIn, IsForeignKey, IsI
 use Rattle.protocol_names.specs.FaultOrder.{EitherFault, HasNone, OfSome}
 use Rattle.protocol_names.specs.Names.{message_words, names_of, param_words, protocol_words, texts}
 use Rattle.list_base.proofs.FirstIndex.{has_index}
-use Rattle.flat_expansion.specs.Expansion.{adornment_of, param_index, role_index, IsCarried, IsExpansionOf, IsMessageOfItem}
+use Rattle.protocol_expand.specs.FlatExpansion.{adornment_of, param_index, role_index, IsCarried, IsExpansionOf, IsMessageOfItem}
 use Rattle.protocol_names.specs.Plain.{IsUnkeyed}
-use Rattle.flat_expansion.specs.WellScoped.{AreDistinct}
+use Rattle.protocol_expand.specs.WellScoped.{AreDistinct}
 use Rattle.protocol_names.specs.Laws.{FaultsHaveCauses}
-use Rattle.flat_expansion.specs.Laws.{ExpansionsKeepNames}
+use Rattle.protocol_expand.specs.FlatLaws.{ExpansionsKeepNames}
 use Rattle.protocol_expand.specs.Expansion.{IsPlain}
 use Rattle.protocol_expand.proofs.PlainPairs.{firsts}
 use Rattle.protocol_expand.proofs.OwnNames.{names_apart, own_names}

@@ -10,7 +10,7 @@ use Rattle.bspl_parser.specs.declared.document.Declaration.{Declaration}
 use Rattle.bspl_parser.specs.declared.document.Item.{Item}
 use Rattle.bspl_parser.specs.declared.document.Item.TheVariants as item
 use Rattle.protocol_names.specs.Plain.{IsMessage}
-use Rattle.flat_expansion.specs.Expansion.{adornment_of, public_param, private_param, IsExpansionOf}
+use Rattle.protocol_expand.specs.FlatExpansion.{adornment_of, public_param, private_param, IsExpansionOf}
 use Rattle.protocol_names.specs.Plain.{IsUnkeyed}
 use Rattle.list_base.proofs.Mapped.{all_of_mapped}
 use Rattle.protocol_expand.specs.Expansion.{IsPlain}

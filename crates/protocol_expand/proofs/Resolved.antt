@@ -17,7 +17,7 @@ use Rattle.protocol_names.specs.Names.{param_words, texts}
 use Rattle.protocol_paths.specs.Flat.{IsFlat, IsImage, IsImageFormal, IsImageItem, entry, privates_at}
 use Rattle.protocol_paths.specs.Path.{Step, message_paths, paths}
 use Rattle.protocol_paths.specs.Scope.{Scope, scope_at, start}
-use Rattle.flat_expansion.specs.WellScoped.{AreDistinct, IsAdorned}
+use Rattle.protocol_expand.specs.WellScoped.{AreDistinct, IsAdorned}
 use Rattle.list_base.proofs.Mapped.{all_of_mapped}
 use Rattle.list_base.proofs.Zipped.{seconds}
 use Rattle.protocol_paths.specs.Laws.{PathsByItems}

@@ -13,8 +13,8 @@ use Rattle.bspl_parser.specs.declared.document.Item.{Item}
 use Rattle.bspl_parser.specs.declared.document.Item.TheVariants as item
 use Rattle.bspl_parser.specs.declared.word.Word.{Word}
 use Rattle.bspl_parser.specs.Alike.{ReadsBack, declaration_without_offsets, formal_without_offsets, item_without_offsets, key_without_offset, word_without_offset}
-use Rattle.flat_expansion.specs.Expansion.{params_of, private_param, public_param, IsCarried, IsExpansionOf, IsMessageOfItem}
-use Rattle.flat_expansion.specs.Canonical.{IsCanonical}
+use Rattle.protocol_expand.specs.FlatExpansion.{params_of, private_param, public_param, IsCarried, IsExpansionOf, IsMessageOfItem}
+use Rattle.protocol_expand.specs.Canonical.{IsCanonical}
 use Rattle.protocol_names.specs.Plain.{IsUnkeyed}
 use Rattle.list_base.proofs.Mapped.{all_of_mapped}
 use Rattle.protocol_expand.specs.Expansion.{Expands, IsPlain}

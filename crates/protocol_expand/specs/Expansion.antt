@@ -6,7 +6,7 @@ use Rattle.bspl_types.specs.declared.expanded.Expanded.{Expanded}
 use Rattle.bspl_parser.specs.declared.document.Declaration.{Declaration}
 use Rattle.bspl_parser.specs.declared.document.Document.{Document}
 use Rattle.protocol_names.specs.Fault.{HasNoFault}
-use Rattle.flat_expansion.specs.Expansion.{IsExpansionOf}
+use Rattle.protocol_expand.specs.FlatExpansion.{IsExpansionOf}
 use Rattle.protocol_names.specs.Plain.{IsUnkeyed}
 use Rattle.protocol_expand.specs.Request.{IsFlattening, IsWithinLimits}
 

@@ -5,7 +5,7 @@ use Rattle.bspl_types.specs.declared.refusals.Refusal.{Refusal}
 use Rattle.bspl_types.specs.declared.refusals.Refusal.TheVariants.{NoMemory}
 use Rattle.bspl_parser.specs.declared.document.Declaration.{Declaration}
 use Rattle.bspl_parser.specs.declared.document.Document.{Document}
-use Rattle.flat_expansion.specs.Expansion.{IsExpansionOf}
+use Rattle.protocol_expand.specs.FlatExpansion.{IsExpansionOf}
 use Rattle.protocol_expand.specs.Expansion.{Expands, IsExpansion, IsPlain}
 use Rattle.protocol_expand.specs.Printed.{IsPrinted}
 use Rattle.protocol_expand.specs.Refusals.{IsNotExpanded}

@@ -1,5 +1,9 @@
--- The definitions that the contracts cite, in reading order: the protocol of a name, its expansion,
--- why there is none, its text, and the laws.
+-- The definitions that the contracts cite, in reading order: the expansion of a protocol of
+-- messages alone, the protocol of a name, its expansion, why there is none, its text, and the laws.
+pub mod FlatExpansion
+pub mod WellScoped
+pub mod Canonical
+pub mod FlatLaws
 pub mod Request
 pub mod Expansion
 pub mod Repeats

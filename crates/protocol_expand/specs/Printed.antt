@@ -5,8 +5,8 @@ use Rattle.bspl_parser.specs.declared.document.Declaration.{Declaration}
 use Rattle.bspl_parser.specs.declared.document.Document.{Document}
 use Rattle.bspl_parser.specs.Judgement.{IsText}
 use Rattle.bspl_parser.specs.Layout.{printed}
-use Rattle.flat_expansion.specs.Expansion.{IsExpansionOf}
-use Rattle.flat_expansion.specs.Canonical.{IsCanonical}
+use Rattle.protocol_expand.specs.FlatExpansion.{IsExpansionOf}
+use Rattle.protocol_expand.specs.Canonical.{IsCanonical}
 use Rattle.protocol_expand.specs.Expansion.{Expands}
 
 -- the layout of one protocol of messages alone that has this expansion, with the word `key` in no

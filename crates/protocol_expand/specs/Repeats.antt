@@ -4,7 +4,7 @@ use Rattle.std.specs.List.{Contains}
 use Rattle.bspl_parser.specs.declared.document.Declaration.{Declaration}
 use Rattle.bspl_parser.specs.declared.word.Word.{Word}
 use Rattle.protocol_names.specs.Names.{message_words, param_words, texts}
-use Rattle.flat_expansion.specs.WellScoped.{AreDistinct}
+use Rattle.protocol_expand.specs.WellScoped.{AreDistinct}
 
 -- the first word that has the name of one before it, and its offset
 pub record RepeatsFirst (words : List Word) (offset : ℕ) : Type 0 where

@@ -1,7 +1,7 @@
 ghost use Rattle.std.specs.Prelude.{IfOk, IfErr};
-ghost use Rattle.protocol_names.specs.Plain.{as_declaration};
-ghost use Rattle.flat_expansion.specs.Expansion.{IsExpansionOf};
-ghost use Rattle.flat_expansion.specs.WellScoped.{IsWellScoped};
+ghost use Rattle.protocol_paths.specs.FlatProtocol.{as_declaration};
+ghost use Rattle.protocol_expand.specs.FlatExpansion.{IsExpansionOf};
+ghost use Rattle.protocol_expand.specs.WellScoped.{IsWellScoped};
 ghost use Rattle.protocol_expand.specs.Repeats.{AreNamesDistinct};
 ghost use Rattle.bspl_parser.specs.declared.document.Declaration.{Declaration as SpecDeclaration};
 ghost use Rattle.protocol_paths.specs.Flat.{IsFlat};
@@ -9,12 +9,12 @@ ghost use Rattle.protocol_paths.specs.ReferencePath.{IsWithinDepth};
 ghost use Rattle.protocol_paths.specs.Followed.{FollowsEnough};
 ghost use Rattle.protocol_expand.specs.inner.Flat.{ExpandsFlat, RefusesFlat, RefusesTop};
 
+use super::flat_expansion::expansion_of_well_scoped;
 use super::repeats::repeated_name;
 use bspl_parser::Declaration;
 use bspl_types::{Expanded, Refusal};
-use flat_expansion::expansion_of_well_scoped;
-use protocol_names::{FlatProtocol, ProtocolTable};
-use protocol_paths::{Followed, flatten};
+use protocol_names::ProtocolTable;
+use protocol_paths::{FlatProtocol, Followed, flatten};
 use std::alloc::Global;
 
 /// The expansion of the top protocol, unless two names of what it stands for are equal. No path

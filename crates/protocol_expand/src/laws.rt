@@ -1,12 +1,28 @@
+ghost use Rattle.protocol_expand.specs.FlatLaws.{ExpansionsKeepNames};
+ghost use Rattle.protocol_expand.specs.FlatLaws.{FlatExpansionsAreUnique, WellScopedExpand};
 ghost use Rattle.protocol_expand.specs.Laws.{AnswersAreDistinct, ExpansionsAreUnique};
 ghost use Rattle.protocol_expand.specs.Laws.{PlainStandsForItself, RefusalsAreUnique, TextsAreUnique};
 
 use bspl_parser::equal_words;
-use flat_expansion::{expansions_are_unique, expansions_keep_names};
 use protocol_limits::references_are_a_graph;
 use protocol_names::faults_have_causes;
 use protocol_paths::{paths_by_items, plain_protocols_are_flat};
 use reference_graph::{cycles_are_one, weights_add_up};
+
+/// A law: a well-scoped protocol has an expansion.
+pub fn well_scoped_protocols_expand()
+    ensures { WellScopedExpand }
+{}
+
+/// A law: no protocol of messages alone has two expansions.
+pub fn expansions_are_unique()
+    ensures { FlatExpansionsAreUnique }
+{}
+
+/// A law: an expansion has the declared names, and as many keys as are declared.
+pub fn expansions_keep_names()
+    ensures { ExpansionsKeepNames }
+{}
 
 /// A law: a name has one answer. It has one expansion at most, it is refused for one reason at most
 /// but for out of memory, and not both.

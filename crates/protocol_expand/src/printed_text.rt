@@ -1,10 +1,10 @@
 ghost use Rattle.std.specs.Prelude.{IfOk};
 ghost use Rattle.protocol_expand.specs.Printed.{ExpandsBack, IsPrinted};
 
+use super::declaration::declaration_of;
 use super::laws::plain_protocols_stand_for_themselves;
 use bspl_parser::{Document, print};
 use bspl_types::{Bytes, Expanded, NoMemory, Seq};
-use flat_expansion::declaration_of;
 use std::alloc::Global;
 
 /// The text of an expansion, in the layout of documents: one protocol, its messages as items.

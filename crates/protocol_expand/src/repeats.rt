@@ -1,15 +1,16 @@
-ghost use Rattle.std.specs.Prelude.{◌≡◌, ◌∷◌, [], ◌++◌, true, false, List, cond, map, IfOk, MatchOption};
+ghost use Rattle.std.specs.Prelude.{◌∷◌, [], ◌++◌, List, cond, map, IfOk, MatchOption};
 ghost use Rattle.std.specs.List.{Contains};
 ghost use Rattle.bspl_parser.specs.declared.word.Word.{Word as SpecWord};
 ghost use Rattle.protocol_names.specs.Names.{texts};
-ghost use Rattle.protocol_names.specs.Plain.{as_declaration};
-ghost use Rattle.flat_expansion.specs.WellScoped.{AreDistinct};
+ghost use Rattle.protocol_paths.specs.FlatProtocol.{as_declaration};
+ghost use Rattle.protocol_expand.specs.WellScoped.{AreDistinct};
 ghost use Rattle.protocol_expand.specs.Repeats.{AreNamesDistinct, RepeatsFirst, RepeatsName};
 ghost use Rattle.protocol_expand.specs.inner.Flat.{AreNoted};
 
 use bspl_parser::{Formal, Schema, Word};
 use bspl_types::NoMemory;
-use protocol_names::{FlatProtocol, NameTable};
+use protocol_names::NameTable;
+use protocol_paths::FlatProtocol;
 use std::alloc::Global;
 
 /// The offset of the first name that an equal one comes before: of the messages in order, and after

@@ -1,7 +1,7 @@
 ghost use Rattle.std.specs.Prelude.{◌≡◌, ℕ, count_by, is_some, IfOk};
 ghost use Rattle.reference_graph.specs.PathCounts.{saturated};
 ghost use Rattle.protocol_limits.specs.Counts.{depth};
-ghost use Rattle.protocol_limits.specs.inner.SortedDocument.{AreCounts, IsSorted, sorted_protocols};
+ghost use Rattle.protocol_limits.specs.inner.SortedDocument.{AreCounts};
 
 use super::sorted_document::SortedDocument;
 use bspl_parser::{Declaration, Formal};
@@ -10,8 +10,7 @@ use reference_graph::depths;
 
 /// How many references the longest path from the top has.
 pub(crate) fn depth(document: &SortedDocument) -> Result<u64, NoMemory>
-    requires { IsSorted document.now }
-    ensures { IfOk result (λ n. n ≡ depth (sorted_protocols document.now) document.now.top) }
+    ensures { IfOk result (λ n. n ≡ depth document.now.protocols document.now.top) }
 {
     let depths = depths(document.alloc, document.graph, document.order)?;
     Ok(*depths.at(document.top as usize))
@@ -19,8 +18,7 @@ pub(crate) fn depth(document: &SortedDocument) -> Result<u64, NoMemory>
 
 /// The count of the top protocol.
 pub(crate) fn at_top(document: &SortedDocument, counts: &[u64]) -> u64
-    requires { IsSorted document.now }
-    ensures { (count : ℕ → ℕ) → AreCounts count document.now.order.now counts.now →
+    ensures { (count : ℕ → ℕ) → AreCounts count document.now.order counts.now →
         result ≡ saturated (count document.now.top) }
 {
     match counts.get(document.top as usize) {

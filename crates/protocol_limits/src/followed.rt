@@ -1,7 +1,7 @@
 ghost use Rattle.std.specs.Prelude.{◌≡◌, ◌↔◌, ℕ, Some, slice_get, IfOk, IsTrue};
 ghost use Rattle.protocol_limits.specs.Graph.{graph_of};
 ghost use Rattle.protocol_limits.specs.Reported.{AreFollowed};
-ghost use Rattle.protocol_limits.specs.inner.SortedDocument.{AreCounts, IsSorted, sorted_protocols};
+ghost use Rattle.protocol_limits.specs.inner.SortedDocument.{AreCounts};
 
 use super::sorted_document::SortedDocument;
 use bspl_types::{NoMemory, Seq};
@@ -9,10 +9,9 @@ use reference_graph::orders_have_the_reached;
 
 /// For each protocol whether it is followed, which it is not if it is reached and counts nothing.
 pub(crate) fn followed_of(document: &SortedDocument, counts: &[u64]) -> Result<Seq<bool>, NoMemory>
-    requires { IsSorted document.now }
-    ensures { (count : ℕ → ℕ) → AreCounts count document.now.order.now counts.now →
+    ensures { (count : ℕ → ℕ) → AreCounts count document.now.order counts.now →
         IfOk result
-        (AreFollowed (graph_of (sorted_protocols document.now)) document.now.top count) }
+        (AreFollowed (graph_of document.now.protocols) document.now.top count) }
 {
     // law: an order has all nodes that are reached
     orders_have_the_reached();

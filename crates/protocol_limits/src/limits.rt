@@ -6,7 +6,6 @@ ghost use Rattle.protocol_limits.specs.Counts.{first_oversized};
 ghost use Rattle.protocol_limits.specs.Limits.{is_over, limit, limits, saturated_limit};
 ghost use Rattle.protocol_limits.specs.Survey.{IsLimitError};
 ghost use Rattle.protocol_limits.specs.inner.PathTotals.{AreChecked, ArePathTotals, NamesFirstOver};
-ghost use Rattle.protocol_limits.specs.inner.SortedDocument.{IsSorted, sorted_protocols};
 
 use super::bounds::{DEPTH_LIMIT, PROTOCOL_LIMIT};
 use super::counts::{at_top, key_count};
@@ -23,10 +22,9 @@ pub(crate) fn check_limits(
     document: &SortedDocument,
     top: &Declaration,
 ) -> Result<PathTotals, LimitError>
-    requires sorted { IsSorted document.now }
-    requires top { slice_get (sorted_protocols document.now) document.now.top ≡ Some top.now }
+    requires top { slice_get document.now.protocols document.now.top ≡ Some top.now }
     ensures { MatchResult result (AreChecked document.now)
-        (IsLimitError (sorted_protocols document.now) document.now.top) }
+        (IsLimitError document.now.protocols document.now.top) }
 {
     let totals = path_totals(document)?;
     let oversized = first_oversized(document)?;
@@ -43,13 +41,12 @@ fn limits_of(
     totals: &PathTotals,
     oversized: Option<u64>,
 ) -> [Limit; 7]
-    requires sorted { IsSorted document.now }
-    requires top { slice_get (sorted_protocols document.now) document.now.top ≡ Some top.now }
+    requires top { slice_get document.now.protocols document.now.top ≡ Some top.now }
     requires totals { ArePathTotals document.now totals.now }
     requires oversized { oversized ≡
-        first_oversized (sorted_protocols document.now) document.now.top }
+        first_oversized document.now.protocols document.now.top }
     ensures { result ≡
-        map saturated_limit (limits (sorted_protocols document.now) document.now.top) }
+        map saturated_limit (limits document.now.protocols document.now.top) }
 {
     let privates = at_top(document, totals.privates.as_slice());
     let params = privates.saturating_add(top.public.len() as u64);

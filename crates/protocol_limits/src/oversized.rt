@@ -2,7 +2,6 @@ ghost use Rattle.std.specs.Prelude.{◌≡◌, length, nat_lt, slice_index_or, c
 ghost use Rattle.bspl_types.specs.Limits.{carried_limit};
 ghost use Rattle.protocol_limits.specs.Counts.{first_oversized};
 ghost use Rattle.protocol_limits.specs.inner.Oversized.{first_oversized_in, oversized_item};
-ghost use Rattle.protocol_limits.specs.inner.SortedDocument.{IsSorted, sorted_protocols};
 
 use super::references::target_of;
 use super::sorted_document::SortedDocument;
@@ -13,9 +12,8 @@ use reference_graph::orders_are_short;
 
 /// The number of parameters of the first message that carries too many, if one does.
 pub(crate) fn first_oversized(document: &SortedDocument) -> Result<Option<u64>, NoMemory>
-    requires { IsSorted document.now }
     ensures { IfOk result (λ found.
-        found ≡ first_oversized (sorted_protocols document.now) document.now.top) }
+        found ≡ first_oversized document.now.protocols document.now.top) }
 {
     // law: an order has no more nodes than the graph
     orders_are_short();

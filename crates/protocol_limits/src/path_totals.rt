@@ -1,6 +1,5 @@
 ghost use Rattle.std.specs.Prelude.{IfOk};
 ghost use Rattle.protocol_limits.specs.inner.PathTotals.{ArePathTotals};
-ghost use Rattle.protocol_limits.specs.inner.SortedDocument.{IsSorted};
 
 use super::counts::depth;
 use super::sorted_document::SortedDocument;
@@ -18,7 +17,6 @@ pub(crate) struct PathTotals {
 
 /// Counts along the paths of a document.
 pub(crate) fn path_totals(document: &SortedDocument) -> Result<PathTotals, NoMemory>
-    requires { IsSorted document.now }
     ensures { IfOk result (ArePathTotals document.now) }
 {
     Ok(PathTotals {

@@ -1,7 +1,6 @@
 ghost use Rattle.std.specs.Prelude.{◌<◌, ◌^◌, length, IfOk};
 ghost use Rattle.protocol_limits.specs.Survey.{IsSurvey, IsUnrolled};
 ghost use Rattle.protocol_limits.specs.inner.PathTotals.{AreChecked};
-ghost use Rattle.protocol_limits.specs.inner.SortedDocument.{IsSorted, sorted_protocols};
 
 use super::followed::followed_of;
 use super::laws::unrolled_paths_are_short;
@@ -37,8 +36,7 @@ pub fn survey(alloc: Global, table: &ProtocolTable, top: u32) -> Result<Survey, 
 
 /// The survey of a sorted document.
 fn survey_of(document: &SortedDocument) -> Result<Survey, NoMemory>
-    requires { IsSorted document.now }
-    ensures { IfOk result (IsSurvey (sorted_protocols document.now) document.now.top) }
+    ensures { IfOk result (IsSurvey document.now.protocols document.now.top) }
 {
     no_cycle(document);
     let top = &document.table.protocols[document.top as usize];
@@ -51,18 +49,18 @@ fn survey_of(document: &SortedDocument) -> Result<Survey, NoMemory>
 
 /// No path of references in a sorted document is a cycle.
 fn no_cycle(document: &SortedDocument)
-    requires { IsSorted document.now }
-    ensures { IsUnrolled (sorted_protocols document.now) document.now.top }
+    ensures { IsUnrolled document.now.protocols document.now.top }
 {
     // law: if there is an order, no path is a cycle
     orders_have_no_cycle();
+    // a sorted document has an order
+    let _ = &document.order;
 }
 
 /// The survey of a document whose counts are within their limits.
 fn within(document: &SortedDocument, totals: &PathTotals) -> Result<Survey, NoMemory>
-    requires sorted { IsSorted document.now }
     requires checked { AreChecked document.now totals.now }
-    ensures { IfOk result (IsSurvey (sorted_protocols document.now) document.now.top) }
+    ensures { IfOk result (IsSurvey document.now.protocols document.now.top) }
 {
     no_cycle(document);
     // law: if no path is a cycle, no path has more references than the depth

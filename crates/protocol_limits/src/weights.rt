@@ -1,7 +1,7 @@
 ghost use Rattle.std.specs.Prelude.{◌≡◌, count_by, map, IfOk};
 ghost use Rattle.protocol_limits.specs.Counts.{is_message, message_count, private_count};
 ghost use Rattle.protocol_limits.specs.Counts.{own_messages, own_privates};
-ghost use Rattle.protocol_limits.specs.inner.SortedDocument.{AreCounts, IsSorted, sorted_protocols};
+ghost use Rattle.protocol_limits.specs.inner.SortedDocument.{AreCounts};
 
 use super::sorted_document::SortedDocument;
 use bspl_parser::{Declaration, Item};
@@ -11,9 +11,8 @@ use std::alloc::Global;
 
 /// For each protocol of the order, how many messages are at the ends of its paths.
 pub(crate) fn message_counts(document: &SortedDocument) -> Result<Seq<u64>, NoMemory>
-    requires { IsSorted document.now }
     ensures { IfOk result
-        (AreCounts (message_count (sorted_protocols document.now)) document.now.order.now) }
+        (AreCounts (message_count document.now.protocols) document.now.order) }
 {
     let own = own_messages(document.alloc, document.table.protocols)?;
     weights_below(
@@ -26,9 +25,8 @@ pub(crate) fn message_counts(document: &SortedDocument) -> Result<Seq<u64>, NoMe
 
 /// For each protocol of the order, how many private parameters are at the ends of its paths.
 pub(crate) fn private_counts(document: &SortedDocument) -> Result<Seq<u64>, NoMemory>
-    requires { IsSorted document.now }
     ensures { IfOk result
-        (AreCounts (private_count (sorted_protocols document.now)) document.now.order.now) }
+        (AreCounts (private_count document.now.protocols) document.now.order) }
 {
     let own = own_privates(document.alloc, document.table.protocols)?;
     weights_below(

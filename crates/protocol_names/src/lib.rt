@@ -5,7 +5,6 @@ mod declared_names;
 mod document;
 mod fault;
 mod fault_order;
-mod flat_protocol;
 mod items;
 mod laws;
 mod name_table;
@@ -17,7 +16,6 @@ mod references;
 
 pub use document::first_fault;
 pub use fault::{DocumentFault, FaultKind};
-pub use flat_protocol::{FlatProtocol, SchemaList};
 pub use laws::{faults_have_causes, names_find_protocols};
 pub use name_table::NameTable;
 pub use protocol_table::ProtocolTable;

@@ -1,18 +1,16 @@
 -- What is added at the ends of paths, item by item.
-use Rattle.std.proofs.Common.{◌≡◌, ℕ, ◌+◌, ◌-◌, ◌<◌, ◌≤◌, List, [], ◌∷◌, ◌++◌, length, get_or, map, take, Some, Result, refl, sym, ap, subst, ◌∙◌}
-use Rattle.std.specs.Prelude.{OnOk}
+use Rattle.std.proofs.Common.{◌≡◌, ℕ, ◌+◌, ◌-◌, ◌<◌, ◌≤◌, List, [], ◌∷◌, ◌++◌, length, get_or, map, take, refl, sym, ap, subst, ◌∙◌}
 use Rattle.std.specs.List.{AllZip, enumerate_from, flat_map}
 use Rattle.bspl_parser.specs.declared.document.Declaration.{Declaration}
 use Rattle.bspl_parser.specs.declared.document.Item.{Item}
 use Rattle.bspl_parser.specs.declared.document.Item.TheVariants.{Message, Reference}
 use Rattle.bspl_parser.specs.declared.document.Reference.{Reference as SpecReference}
 use Rattle.bspl_parser.specs.declared.document.Schema.{Schema}
-use Rattle.protocol_names.specs.Names.{protocol_of}
 use Rattle.protocol_paths.specs.declared.context.Context.{Context}
 use Rattle.protocol_paths.specs.declared.ends.Ends.{Ends}
 use Rattle.protocol_paths.specs.declared.link.Link.{Link}
 use Rattle.protocol_paths.specs.Flat.{IsImage, entry, private_entries, privates_at}
-use Rattle.protocol_paths.specs.Path.{Step, item_messages, message_paths, numbered, through}
+use Rattle.protocol_paths.specs.Path.{Step, item_messages, message_paths, numbered}
 use Rattle.protocol_paths.specs.Scope.{Scope, after, start}
 use Rattle.protocol_paths.specs.inner.AddsEach.{AddsEach, IsImageMessage}
 use Rattle.protocol_paths.specs.inner.AddsEnds.{AddsEnds, AreEnds, item_entries}

@@ -5,8 +5,8 @@ use Rattle.std.specs.List.{AllZip, flat_map}
 use Rattle.std.proofs.lemmas.Bool.{cases_lt}
 use Rattle.list_base.specs.declared.memory.NoMemory.{NoMemory}
 use Rattle.bspl_parser.specs.declared.document.Declaration.{Declaration}
-use Rattle.protocol_names.specs.declared.flat_protocol.FlatProtocol.{FlatProtocol}
-use Rattle.protocol_names.specs.Plain.{as_declaration}
+use Rattle.protocol_paths.specs.declared.flat_protocol.FlatProtocol.{FlatProtocol}
+use Rattle.protocol_paths.specs.FlatProtocol.{as_declaration}
 use Rattle.protocol_paths.specs.Flat.{IsFlat, IsFlatTo, IsImageItem, privates_at}
 use Rattle.protocol_paths.specs.ReferencePath.{IsWithinDepth}
 use Rattle.protocol_paths.specs.Scope.{scope_at, start}

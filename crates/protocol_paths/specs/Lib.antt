@@ -4,6 +4,7 @@ pub mod Prefix
 pub mod Scope
 pub mod Substituted
 pub mod Flat
+pub mod FlatProtocol
 pub mod Followed
 pub mod ReferencePath
 pub mod Position

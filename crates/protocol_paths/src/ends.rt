@@ -1,7 +1,7 @@
 ghost use Rattle.std.specs.Prelude.{◌≡◌, ◌<◌, ◌++◌, [], ◌∷◌, map, IfOk, OnOk};
 ghost use Rattle.protocol_paths.specs.Flat.{IsImage, entry, private_entries, privates_at};
 ghost use Rattle.protocol_paths.specs.Path.{item_messages, message_paths};
-ghost use Rattle.protocol_paths.specs.Scope.{after, start};
+ghost use Rattle.protocol_paths.specs.Scope.{after};
 ghost use Rattle.protocol_paths.specs.inner.AddsEach.{AddsEach};
 ghost use Rattle.protocol_paths.specs.inner.AddsEnds.{AddsEnds, AreEnds, item_entries};
 ghost use Rattle.protocol_paths.specs.inner.Links.{step_of};
@@ -10,6 +10,7 @@ ghost use Rattle.protocol_paths.specs.inner.ScopeOf.{protocols_of, scope_of};
 use super::context::Context;
 use super::copies::shared_word;
 use super::descent::{next_links, next_scope, top_scope};
+use super::flat_protocol::SchemaList;
 use super::image::image_of;
 use super::link::{Link, PathLink};
 use super::link_lookup::{followed_link, shorter_context};
@@ -17,7 +18,6 @@ use super::own_words::{link_words, scope_words};
 use super::scope::Scope;
 use bspl_parser::{Declaration, Item, Schema, WordList};
 use bspl_types::{NoMemory, Seq};
-use protocol_names::SchemaList;
 use std::alloc::Global;
 
 /// What is at the ends of paths.

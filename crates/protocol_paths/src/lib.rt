@@ -6,6 +6,7 @@ mod copies;
 mod descent;
 mod ends;
 mod flat_protocol;
+mod flat_top;
 mod followed;
 mod image;
 mod laws;
@@ -17,7 +18,8 @@ mod prefix;
 mod scope;
 mod substitution;
 
-pub use flat_protocol::flatten;
+pub use flat_protocol::{FlatProtocol, SchemaList};
+pub use flat_top::flatten;
 pub use followed::Followed;
 pub use laws::{
     longer_bounds_add_nothing, message_paths_are_all, no_cycle_bounds_depth, paths_are_all,

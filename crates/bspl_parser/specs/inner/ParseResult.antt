@@ -1,10 +1,11 @@
 -- What reading tokens from left to right gives: a value and the tokens after it, or where it fails.
-use Rattle.std.specs.Prelude.{◌≡◌, ℕ, List, Result, Ok, Err}
+use Rattle.std.specs.Prelude.{◌≡◌, ℕ, ◌<◌, ◌≤◌, List, length, Result, Ok, Err, OnOk}
 use Rattle.bspl_parser.specs.declared.parse_error.ErrorPosition.{ErrorPosition}
 use Rattle.bspl_parser.specs.declared.parse_error.ErrorPosition.TheVariants.{At, End}
 use Rattle.bspl_parser.specs.declared.parse_error.ParseError.{ParseError}
 use Rattle.bspl_parser.specs.declared.parse_error.ParseError.TheVariants as error
 use Rattle.bspl_parser.specs.declared.token.Token.{Token}
+use Rattle.bspl_parser.specs.inner.Scan.{Scan}
 
 -- the offset of an error in a text of that length
 abbrev pub error_offset : ErrorPosition → ℕ → ℕ
@@ -42,3 +43,24 @@ abbrev pub ReturnsRest : Result (Unit {0}) ErrorPosition
     → List Token → Result (List Token) ErrorPosition → Type 0
 ReturnsRest (Ok done) after reading = reading ≡ Ok after
 ReturnsRest (Err position) after reading = reading ≡ Err position
+
+-- what is returned is what the reading gives; the bad byte stays, and no token is added
+pub record Reads {X : Type 0} (result : Result X ParseError) (old new : Scan)
+    (reading : ParseResult X) : Type 0 where
+  pub gives : Gives result new.tokens reading
+  pub same : new.bad_byte ≡ old.bad_byte
+  pub no_longer : OnOk result (length new.tokens ≤ length old.tokens)
+
+-- the same, and at least one token is taken
+pub record ReadsSome {X : Type 0} (result : Result X ParseError) (old new : Scan)
+    (reading : ParseResult X) : Type 0 where
+  pub gives : Gives result new.tokens reading
+  pub same : new.bad_byte ≡ old.bad_byte
+  pub shorter : OnOk result (length new.tokens < length old.tokens)
+
+-- the same of what needs no memory
+pub record Takes {X : Type 0} (result : Result X ErrorPosition) (old new : Scan)
+    (reading : ParseResult X) : Type 0 where
+  pub gives : Returns result new.tokens reading
+  pub same : new.bad_byte ≡ old.bad_byte
+  pub shorter : OnOk result (length new.tokens < length old.tokens)

@@ -7,8 +7,8 @@ use Rattle.bspl_parser.specs.declared.document.Declaration.{Declaration}
 use Rattle.bspl_parser.specs.declared.word.Word.{Word}
 use Rattle.protocol_names.specs.Names.{texts}
 use Rattle.protocol_paths.specs.Flat.{IsFlat}
-use Rattle.flat_expansion.specs.Expansion.{IsExpansionOf}
-use Rattle.flat_expansion.specs.WellScoped.{AreDistinct}
+use Rattle.protocol_expand.specs.FlatExpansion.{IsExpansionOf}
+use Rattle.protocol_expand.specs.WellScoped.{AreDistinct}
 use Rattle.protocol_expand.specs.Repeats.{RepeatsName}
 
 -- two of its names are equal, unless memory ran out

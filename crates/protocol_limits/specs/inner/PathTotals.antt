@@ -5,22 +5,21 @@ use Rattle.protocol_limits.specs.declared.limit.Limit.{Limit}
 use Rattle.protocol_limits.specs.declared.outcome.LimitError.{LimitError}
 use Rattle.protocol_limits.specs.declared.outcome.LimitError.TheVariants.{NoMemory, TooMany}
 use Rattle.protocol_limits.specs.declared.path_totals.PathTotals.{PathTotals}
-use Rattle.protocol_limits.specs.declared.sorted_document.SortedDocument.{SortedDocument}
 use Rattle.protocol_limits.specs.Counts.{depth, message_count, private_count}
 use Rattle.protocol_limits.specs.Limits.{AreWithinLimits, is_over}
-use Rattle.protocol_limits.specs.inner.SortedDocument.{AreCounts, sorted_protocols}
+use Rattle.protocol_limits.specs.inner.SortedDocument.{AreCounts, SortedProtocols}
 
 -- the depth at the top, and the messages and private parameters of each protocol of the order
-pub record ArePathTotals (document : SortedDocument) (totals : PathTotals) : Type 0 where
-  pub depth : totals.depth ≡ depth (sorted_protocols document) document.top
+pub record ArePathTotals (document : SortedProtocols) (totals : PathTotals) : Type 0 where
+  pub depth : totals.depth ≡ depth document.protocols document.top
   pub messages : AreCounts (message_count
-      (sorted_protocols document)) document.order.now totals.messages
+      document.protocols) document.order totals.messages
   pub privates : AreCounts (private_count
-      (sorted_protocols document)) document.order.now totals.privates
+      document.protocols) document.order totals.privates
 
 -- the totals, of which all are within their limits
-pub record AreChecked (document : SortedDocument) (totals : PathTotals) : Type 0 where
-  pub within : AreWithinLimits (sorted_protocols document) document.top
+pub record AreChecked (document : SortedProtocols) (totals : PathTotals) : Type 0 where
+  pub within : AreWithinLimits document.protocols document.top
   pub counted : ArePathTotals document totals
 
 -- the first of these limits that is exceeded is reported

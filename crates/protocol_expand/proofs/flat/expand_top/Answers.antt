@@ -1,5 +1,5 @@
 -- What is answered of the flat protocol.
-use Rattle.protocol_names.specs.Plain.{as_declaration}
+use Rattle.protocol_paths.specs.FlatProtocol.{as_declaration}
 use Rattle.protocol_expand.proofs.FlatAnswers.{expands_top, refuses_top}
 use Rattle.protocol_expand.proofs.flat.expand_top.Goals as goal
 

@@ -8,8 +8,8 @@ use Rattle.bspl_parser.specs.declared.document.Declaration.{Declaration}
 use Rattle.bspl_parser.specs.Alike.{ReadsBack}
 use Rattle.bspl_parser.specs.Layout.{printed}
 use Rattle.bspl_parser.specs.Spelling.{IsDeclaration, IsDocument}
-use Rattle.flat_expansion.specs.Expansion.{IsExpansionOf}
-use Rattle.flat_expansion.specs.Canonical.{IsCanonical}
+use Rattle.protocol_expand.specs.FlatExpansion.{IsExpansionOf}
+use Rattle.protocol_expand.specs.Canonical.{IsCanonical}
 use Rattle.protocol_expand.specs.Laws.{PlainStandsForItself}
 use Rattle.protocol_expand.specs.Printed.{ExpandsBack, IsPrinted}
 use Rattle.protocol_expand.proofs.Unplaced.{expands_back}

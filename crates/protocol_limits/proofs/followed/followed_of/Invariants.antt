@@ -6,6 +6,6 @@ use Rattle.protocol_limits.proofs.followed.followed_of.Given as goal
 -- the protocols of the order that were passed have their flags
 abbrev pub invariant-loop-number : goal.invariant-loop-number
 invariant-loop-number l = record {
-  fits : length l.followed.items ≡ length l.document.table.now.protocols.now;
-  skipped : AreSkipped l.document.order.now l.counts l.followed.items l.number-index;
+  fits : length l.followed.items ≡ length l.document-inside.table.now.protocols.now;
+  skipped : AreSkipped l.document-inside.order.now l.counts l.followed.items l.number-index;
 }

@@ -2,14 +2,13 @@
 use Rattle.std.proofs.Common.{sym, subst}
 use Rattle.protocol_paths.specs.ReferencePath.{IsWithinDepth}
 use Rattle.protocol_limits.specs.Counts.{message_count, private_count}
-use Rattle.protocol_limits.specs.inner.SortedDocument.{sorted_protocols}
 use Rattle.protocol_limits.proofs.FollowedLemmas.{lent}
 use Rattle.protocol_limits.proofs.precheck.within.Goals as goal
 
 pub returns : goal.returns
 returns c =
     let document = c.args.document.now in
-    let protocols = sorted_protocols document in
+    let protocols = document.protocols in
     let checked = c.requires.checked in
     let unrolled = c.no_cycle.ensures in
     let messages = c.in_ok-messages.ensures (message_count protocols) (rw c.as_slice.ensures checked.counted.messages) in

@@ -1,14 +1,18 @@
 -- The weights are those of the document's graph.
-use Rattle.std.proofs.Common.{◌∙◌}
-use Rattle.protocol_limits.specs.Counts.{own_messages}
-use Rattle.protocol_limits.specs.inner.SortedDocument.{sorted_protocols}
+use Rattle.std.proofs.Common.{subst, ◌∙◌}
+use Rattle.std.specs.Prelude.{IfOk}
+use Rattle.protocol_limits.specs.Counts.{message_count, own_messages}
+use Rattle.protocol_limits.specs.inner.SortedDocument.{AreCounts}
 use Rattle.protocol_limits.proofs.OrderLemmas.{messages_found, weights_fit}
 use Rattle.protocol_limits.proofs.weights.message_counts.Goals as goal
 
 pub weights_below-requires-clause-weights : goal.weights_below-requires-clause-weights
 weights_below-requires-clause-weights c =
-    weights_fit own_messages (sorted_protocols c.args.document.now) c.args.document.now.graph.now c.as_slice.result.now c.requires.graph (c.as_slice.ensures ∙ c.in_ok-own.ensures)
+    let inside = c.document.inside in
+    weights_fit own_messages inside.table.now.protocols.now inside.graph.now c.as_slice.result.now c.document.invariant.is_graph (c.as_slice.ensures ∙ c.in_ok-own.ensures)
 
 pub returns : goal.returns
 returns c =
-    messages_found (sorted_protocols c.args.document.now) c.args.document.now.graph.now c.args.document.now.order.now c.as_slice.result.now c.weights_below.result c.requires.graph (c.as_slice.ensures ∙ c.in_ok-own.ensures) c.weights_below.ensures
+    let inside = c.document.inside in
+    subst (λ d. IfOk c.weights_below.result (AreCounts (message_count d.protocols) d.order)) c.document.view_is
+    (messages_found inside.table.now.protocols.now inside.graph.now inside.order.now c.as_slice.result.now c.weights_below.result c.document.invariant.is_graph (c.as_slice.ensures ∙ c.in_ok-own.ensures) c.weights_below.ensures)

@@ -1,5 +1,4 @@
 -- What was added to nothing.
-use Rattle.std.proofs.Common.{◌∙◌}
 use Rattle.protocol_paths.specs.inner.ScopeOf.{protocols_of, scope_of}
 use Rattle.protocol_paths.proofs.EndLemmas.{are_ends}
 use Rattle.protocol_paths.proofs.ends.ends_of.Goals as goal

@@ -1,9 +1,0 @@
-pub mod DeclarationLemmas
-pub mod EndLemmas
-pub mod ExpansionIsUnique
-pub mod ExpansionLemmas
-pub mod KnownNamesLemmas
-pub mod ScanLemmas
-pub mod SchemaLemmas
-pub mod ShapeLemmas
-pub mod WellScopedLemmas

@@ -1,9 +1,0 @@
--- What has been made so far.
-use Rattle.std.proofs.Common.{take}
-use Rattle.std.specs.List.{AllZip}
-use Rattle.flat_expansion.specs.Canonical.{IsPrivateOf}
-use Rattle.flat_expansion.proofs.declaration.private_words.Given as goal
-
--- one for each so far
-abbrev pub invariant-loop-p : goal.invariant-loop-p
-invariant-loop-p l = AllZip IsPrivateOf (take l.p-index l.params) l.words

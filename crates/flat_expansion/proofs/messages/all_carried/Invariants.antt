@@ -1,9 +1,0 @@
--- What has been made of the parameters.
-use Rattle.std.proofs.Common.{take}
-use Rattle.std.specs.List.{AllZip}
-use Rattle.flat_expansion.specs.Expansion.{IsCarried}
-use Rattle.flat_expansion.proofs.messages.all_carried.Given as goal
-
--- one for each parameter so far
-abbrev pub invariant-loop-formal : goal.invariant-loop-formal
-invariant-loop-formal l = AllZip (IsCarried l.params) (take l.formal-index l.formals) l.all

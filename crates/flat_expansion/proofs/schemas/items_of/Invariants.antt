@@ -1,9 +1,0 @@
--- What has been made of the messages.
-use Rattle.std.proofs.Common.{take}
-use Rattle.std.specs.List.{AllZip}
-use Rattle.flat_expansion.specs.Canonical.{IsItemOf}
-use Rattle.flat_expansion.proofs.schemas.items_of.Given as goal
-
--- one item for each so far
-abbrev pub invariant-loop-m : goal.invariant-loop-m
-invariant-loop-m l = AllZip (IsItemOf l.roles l.params) (take l.m-index l.messages) l.items
