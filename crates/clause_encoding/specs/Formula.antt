@@ -1,5 +1,5 @@
--- The formulas of a protocol, one for each property: in some enactment two rivals are both sent; some
--- enactment has come to rest and leaves a public parameter unbound.
+-- The formulas of a protocol, one for each property: in some enactment two rivals are both sent;
+-- some enactment is quiet and leaves a public parameter unbound.
 use Rattle.std.specs.Prelude.{◌≡◌, ℕ, ◌+◌, List, [], ◌∷◌, ◌++◌, length}
 use Rattle.bspl_types.specs.declared.expanded.Expanded.{Expanded}
 use Rattle.bspl_types.specs.declared.property.Property.{Property}
@@ -21,9 +21,9 @@ AreClausesOf (written ∷ others) [] = ⊥
 AreClausesOf (written ∷ others) (clause ∷ clauses) =
     IsClauseOf written clause × AreClausesOf others clauses
 
--- the last variable before those of order. After the kinds comes, for safety, a selector for each two
--- rivals; for liveness, one for each public parameter that may be unbound, and then one for each
--- parameter that a sender may lack
+-- the last variable before those of order. After the kinds comes, for safety, a selector for each
+-- two rivals; for liveness, one for each public parameter that may be unbound, and then one for
+-- each parameter that a sender may lack
 abbrev pub order_base_of : Property → Expanded → ℕ
 order_base_of Safety x = kind_count x + length (rivals_of x)
 order_base_of Liveness x = kind_count x + length (public_values x) + length (wants_of x)

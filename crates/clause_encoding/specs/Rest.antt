@@ -1,4 +1,4 @@
--- What the liveness formula adds: an enactment has come to rest, and a public parameter is unbound.
+-- What the liveness formula adds: an enactment is quiet, and a public parameter is unbound.
 use Rattle.std.specs.Prelude.{ℕ, ◌+◌, ◌==◌, List, [], ◌∷◌, ◌++◌, length, map, take}
 use Rattle.std.specs.List.{enumerate_from, filter, flat_map}
 use Rattle.bspl_types.specs.declared.expanded.Expanded.{Expanded}

@@ -5,7 +5,7 @@ ghost use Rattle.clause_encoding.specs.inner.Chosen.{carriers_of};
 ghost use Rattle.clause_encoding.specs.inner.Kinds.{IsOtherKind};
 
 use super::kinds::{received, sent};
-use super::parameters::{binds, message_at};
+use super::parameters::binds;
 use bspl_types::Expanded;
 use list_base::{NoMemory, NumberList, Seq};
 use std::alloc::Global;
@@ -32,7 +32,7 @@ fn add_carriers(
     requires { m < length x.now.messages }
     ensures { OnOk result (kinds.new ≡ kinds.old ++ carriers_of x.now role param m) }
 {
-    let message = message_at(x, m);
+    let message = x.message_at(m);
     if binds(message, param) {
         if message.sender == role {
             kinds.push(sent(m))?;
@@ -56,7 +56,7 @@ pub(crate) fn sender_carriers(
     ensures exact { IfOk result (λ kinds. kinds ≡ sender_carriers x.now m param) }
     ensures others { IfOk result (All (IsOtherKind x.now m)) }
 {
-    let all = carriers(alloc, x, message_at(x, m).sender, param)?;
+    let all = carriers(alloc, x, x.message_at(m).sender, param)?;
     let mut others = Seq::new(alloc);
     for kind in all.as_slice() {
         if *kind != sent(m) {

@@ -8,7 +8,7 @@ ghost use Rattle.clause_encoding.specs.inner.Lacking.{AreWants, wanted_lits};
 use super::carriers::sender_carriers;
 use super::clauses::push_clause;
 use super::kinds::sent;
-use super::parameters::{fresh_parameters, message_at};
+use super::parameters::fresh_parameters;
 use super::variables::positive;
 use super::wants::Want;
 use bspl_types::Expanded;
@@ -71,7 +71,7 @@ fn add_blockers(lits: &mut Seq<Lit>, alloc: Global, x: &Expanded, m: u32) -> Res
     requires { m < length x.now.messages }
     ensures { OnOk result (lits.new ≡ lits.old ++ map occurs (blockers x.now m)) }
 {
-    let params = fresh_parameters(alloc, message_at(x, m))?;
+    let params = fresh_parameters(alloc, x.message_at(m))?;
     for param in params.as_slice() {
         add_blockers_for(lits, alloc, x, m, *param)?;
     }

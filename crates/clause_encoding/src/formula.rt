@@ -36,8 +36,8 @@ pub fn safety_formula(alloc: Global, a: &Admitted) -> Result<Formula, NoMemory>
     formula_of(alloc, Property::Safety, a)
 }
 
-/// The clauses that a run would satisfy which has come to rest at a key and leaves a public
-/// parameter unbound there.
+/// The clauses that a run would satisfy if it were quiet at a key and left a public parameter
+/// unbound there.
 pub fn liveness_formula(alloc: Global, a: &Admitted) -> Result<Formula, NoMemory>
     ensures exact { IfOk result (IsLivenessFormula a.now) }
     ensures few { IfOk result (λ f. length f.clauses ≤ 8000000) }

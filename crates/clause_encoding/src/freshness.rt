@@ -9,7 +9,7 @@ ghost use Rattle.clause_encoding.specs.inner.Kinds.{AreOver};
 use super::carriers::sender_carriers;
 use super::clauses::push_clause;
 use super::kinds::sent;
-use super::parameters::{fresh_parameters, message_at};
+use super::parameters::fresh_parameters;
 use super::variables::Variables;
 use bspl_types::Expanded;
 use clause_core::ClauseList;
@@ -45,7 +45,7 @@ fn push_freshness_of(
     ensures { let params = fresh_parameters (message_of x.now m) in OnOk result
         (Appends clauses.old clauses.new (flat_map (fresh_clauses_of x.now vars m) params)) }
 {
-    let params = fresh_parameters(alloc, message_at(x, m))?;
+    let params = fresh_parameters(alloc, x.message_at(m))?;
     for param in params.as_slice() {
         push_freshness_for(clauses, alloc, x, vars, m, *param)?;
     }

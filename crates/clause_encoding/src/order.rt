@@ -1,6 +1,6 @@
-ghost use Rattle.std.specs.Prelude.{◌≡◌, ◌<◌, OnOk};
+ghost use Rattle.std.specs.Prelude.{◌<◌, OnOk};
 ghost use Rattle.clause_encoding.specs.Families.{order_clauses};
-ghost use Rattle.clause_encoding.specs.Variables.{IsKind, IsSmall, stands_before};
+ghost use Rattle.clause_encoding.specs.Variables.{IsKind, IsSmall};
 ghost use Rattle.clause_encoding.specs.inner.Appends.{Appends};
 ghost use Rattle.clause_encoding.specs.inner.Order.{order_of_one, order_of_two, transitivity};
 

@@ -1,24 +1,14 @@
-ghost use Rattle.std.specs.Prelude.{◌≡◌, ◌<◌, ◌≤◌, ◌==◌, ◌&&◌, length, IfOk};
+ghost use Rattle.std.specs.Prelude.{◌≡◌, ◌≤◌, ◌==◌, ◌&&◌, length, IfOk};
 ghost use Rattle.std.specs.List.{list_any};
 ghost use Rattle.bspl_types.specs.Adornment.{has_value};
 ghost use Rattle.bspl_types.specs.Choice.{is_out};
-ghost use Rattle.bspl_types.specs.Expansion.{message_of};
-ghost use Rattle.bspl_types.specs.Shape.{is_public_value};
 ghost use Rattle.clause_encoding.specs.Carriers.{binds, fresh_parameters, in_parameters, is_in};
 ghost use Rattle.clause_encoding.specs.Rest.{public_values};
 ghost use Rattle.clause_encoding.specs.Rivals.{produces};
 
-use bspl_types::{Adornment, Carried, Expanded, Message, ParamInfo};
+use bspl_types::{Adornment, Carried, Expanded, Message};
 use list_base::{NoMemory, NumberList, Seq};
 use std::alloc::Global;
-
-/// The message of that number.
-pub(crate) fn message_at(x: &Expanded, m: u32) -> &Message
-    requires { m < length x.now.messages }
-    ensures { result.now ≡ message_of x.now m }
-{
-    x.messages.at(m as usize)
-}
 
 /// The public parameters adorned `in` or `out`, in order.
 pub fn public_values(alloc: Global, x: &Expanded) -> Result<NumberList, NoMemory>
@@ -27,21 +17,11 @@ pub fn public_values(alloc: Global, x: &Expanded) -> Result<NumberList, NoMemory
 {
     let mut params = Seq::new(alloc);
     for param in 0..x.public {
-        if is_public_value(x.params.at(param as usize)) {
+        if x.params.at(param as usize).is_public_value() {
             params.push(param)?;
         }
     }
     Ok(params)
-}
-
-/// Whether the protocol adorns the parameter `in` or `out`.
-fn is_public_value(info: &ParamInfo) -> bool
-    ensures { result ≡ is_public_value info.now.adornment }
-{
-    match info.adornment {
-        Some(adornment) => adornment.has_value(),
-        None => false,
-    }
 }
 
 /// The parameters that the message adorns `in`, in its order.

@@ -8,7 +8,7 @@ ghost use Rattle.clause_encoding.specs.inner.Kinds.{AreOver};
 use super::carriers::sender_carriers;
 use super::clauses::push_clause;
 use super::kinds::sent;
-use super::parameters::{in_parameters, message_at};
+use super::parameters::in_parameters;
 use super::variables::Variables;
 use bspl_types::Expanded;
 use clause_core::{ClauseList, Lit};
@@ -44,7 +44,7 @@ fn push_premises_of(
     ensures { let params = in_parameters (message_of x.now m) in OnOk result
         (Appends clauses.old clauses.new (map (premise_clause x.now vars m) params)) }
 {
-    let params = in_parameters(alloc, message_at(x, m))?;
+    let params = in_parameters(alloc, x.message_at(m))?;
     for param in params.as_slice() {
         let lits = premise_clause(alloc, x, vars, m, *param)?;
         push_clause(clauses, alloc, lits.as_slice())?;

@@ -16,7 +16,7 @@ use clause_core::ClauseList;
 use list_base::NoMemory;
 use std::alloc::Global;
 
-/// Appends the clauses that the run has come to rest and leaves a public parameter unbound.
+/// Appends the clauses that the run is quiet and leaves a public parameter unbound.
 pub(crate) fn push_rest(
     clauses: &mut ClauseList,
     alloc: Global,

@@ -1,8 +1,8 @@
-ghost use Rattle.std.specs.Prelude.{◌≡◌, ◌++◌, ◌≤◌, OnOk, IfOk, map, length};
+ghost use Rattle.std.specs.Prelude.{◌≡◌, ◌++◌, ◌≤◌, OnOk, IfOk, length};
 ghost use Rattle.clause_encoding.specs.Rivals.{producers_of, rivals_among, rivals_of};
 ghost use Rattle.clause_encoding.specs.inner.Chosen.{rivals_with};
 
-use super::parameters::{message_at, produces};
+use super::parameters::produces;
 use bspl_types::Expanded;
 use list_base::{NoMemory, NumberList, Seq};
 use std::alloc::Global;
@@ -34,7 +34,7 @@ fn producers_of(alloc: Global, x: &Expanded, param: u32) -> Result<NumberList, N
 {
     let mut messages = Seq::new(alloc);
     for m in 0..x.messages.len() as u32 {
-        if produces(message_at(x, m), param) {
+        if produces(x.message_at(m), param) {
             messages.push(m)?;
         }
     }

@@ -5,7 +5,7 @@ ghost use Rattle.clause_encoding.specs.inner.Lacking.{AreValues, unbound_by};
 
 use super::clauses::push_absence;
 use super::kinds::sent;
-use super::parameters::{binds, message_at};
+use super::parameters::binds;
 use bspl_types::Expanded;
 use clause_core::ClauseList;
 use list_base::NoMemory;
@@ -59,7 +59,7 @@ fn push_unbound_by(
     ensures { OnOk result
         (Appends clauses.old clauses.new (unbound_by x.now unbound param m)) }
 {
-    if !binds(message_at(x, m), param) {
+    if !binds(x.message_at(m), param) {
         return Ok(());
     }
     push_absence(clauses, alloc, unbound, sent(m))

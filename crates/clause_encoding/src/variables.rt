@@ -1,4 +1,4 @@
-ghost use Rattle.std.specs.Prelude.{◌≡◌, ◌≢◌, ◌≤◌, ◌<◌};
+ghost use Rattle.std.specs.Prelude.{◌≡◌, ◌≢◌, ◌<◌};
 ghost use Rattle.clause_encoding.specs.Variables.{IsKind, IsSmall, order_variable, occurs};
 ghost use Rattle.clause_encoding.specs.Variables.{positive, stands_before, variable_count};
 

@@ -1,7 +1,7 @@
 ghost use Rattle.std.specs.Prelude.{◌≡◌, ◌++◌, ◌<◌, ◌≤◌, OnOk, IfOk, length};
 ghost use Rattle.clause_encoding.specs.Rest.{wants_by, wants_of};
 
-use super::parameters::{in_parameters, message_at};
+use super::parameters::in_parameters;
 use bspl_types::Expanded;
 use list_base::{NoMemory, Seq};
 use std::alloc::Global;
@@ -35,7 +35,7 @@ fn add_wants(
     requires { message < length x.now.messages }
     ensures { OnOk result (wants.new ≡ wants.old ++ wants_by x.now message) }
 {
-    let params = in_parameters(alloc, message_at(x, message))?;
+    let params = in_parameters(alloc, x.message_at(message))?;
     for param in params.as_slice() {
         wants.push(Want {
             message,

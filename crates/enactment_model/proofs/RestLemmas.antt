@@ -1,4 +1,4 @@
--- A run is quiet at a key exactly if each message has come to rest.
+-- A run is quiet at a key exactly if no message is loose.
 use Rattle.std.proofs.Common.{ℕ, ◌<◌, ◌≤◌, List, length, inl, inr, refl, arith}
 use Rattle.std.proofs.lemmas.List.Elements.{All-contains}
 use Rattle.bspl_types.specs.declared.event.Event.{Event}

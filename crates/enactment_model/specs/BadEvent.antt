@@ -9,7 +9,7 @@ use Rattle.bspl_types.specs.declared.protocol.Adornment.TheVariants.{In}
 use Rattle.bspl_types.specs.declared.protocol.Carried.{Carried}
 use Rattle.bspl_types.specs.declared.value.Value.{Value}
 use Rattle.bspl_types.specs.Expansion.{message_of}
-use Rattle.bspl_types.specs.History.{history_of}
+use Rattle.bspl_types.specs.History.{history_of, sender_history}
 use Rattle.bspl_types.specs.Instance.{Carries}
 use Rattle.bspl_types.specs.Knowledge.{Knows}
 use Rattle.role_knowledge.specs.Blocked.{IsBound, IsMissing, IsPermitted}
@@ -52,14 +52,10 @@ pub record IsFirstReason (x : Expanded) (history : List Event) (i : Instance)
   pub allowed : All (IsAllowed x history i) before
   pub reason : IsReasonOf x history i refused why
 
--- what the instance's sender did so far
-abbrev pub sender_history : Expanded → List Event → Instance → List Event
-sender_history x before i = history_of x (message_of x i.message).sender before
-
 -- an emission has a first parameter that is not allowed; what is received was not emitted before
 abbrev pub MayNotFollow : Expanded → List Event → Event → Why → Type 0
 MayNotFollow x before (Emit i) why =
-    IsFirstReason x (sender_history x before i) i (message_of x i.message).carried why
+    IsFirstReason x (sender_history x before i.message) i (message_of x i.message).carried why
 MayNotFollow x before (Receive i) why = (why ≡ Unsent) × ¬ Contains before (Emit i)
 
 -- the events before one are legal, and that one may not follow them; places are counted from 1

@@ -1,4 +1,4 @@
--- When an enactment has come to rest, and when a protocol is live.
+-- When an enactment is quiet, and when a protocol is live.
 use Rattle.std.specs.Prelude.{◌≡◌, ℕ, ◌<◌, List, slice_get, IsSomeAnd, IsTrue}
 use Rattle.std.specs.List.{Contains}
 use Rattle.bspl_types.specs.declared.event.Event.{Event}

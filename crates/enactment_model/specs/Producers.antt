@@ -4,16 +4,13 @@ use Rattle.std.specs.List.{AllPairs, Contains}
 use Rattle.bspl_types.specs.declared.expanded.Expanded.{Expanded}
 use Rattle.bspl_types.specs.declared.protocol.Adornment.TheVariants.{Out}
 use Rattle.bspl_types.specs.declared.protocol.Message.{Message}
-
--- the message adorns the parameter `out`
-abbrev pub Produces : Message → ℕ → Type 0
-Produces m p = Contains m.carried (record { param = p; adornment = Out })
+use Rattle.bspl_types.specs.Expansion.{IsAdorned}
 
 -- some parameter is adorned `out` by both messages
 pub record SharesOut (m n : Message) : Type 0 where
   pub param : ℕ
-  pub one : Produces m param
-  pub other : Produces n param
+  pub one : IsAdorned m Out param
+  pub other : IsAdorned n Out param
 
 -- no parameter has two messages that adorn it `out`
 abbrev pub HasOneProducer : Expanded → Type 0

@@ -29,10 +29,7 @@ fn has_public_value(x: &Expanded, param: u32) -> bool
     requires { param < x.now.public }
     ensures { IsTrue result ↔ HasPublicValue x.now param }
 {
-    match x.params.at(param as usize).adornment {
-        Some(adornment) => adornment.has_value(),
-        None => false,
-    }
+    x.params.at(param as usize).is_public_value()
 }
 
 /// Whether some role knows a value of the parameter under the key.

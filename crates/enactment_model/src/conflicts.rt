@@ -1,5 +1,5 @@
-ghost use Rattle.std.specs.Prelude.{◌≡◌, ◌↔◌, ◌<◌, IfSome, IsNone, IsTrue, length, MatchOption};
-ghost use Rattle.std.specs.Prelude.{ℕ, take};
+ghost use Rattle.std.specs.Prelude.{◌↔◌, ◌<◌, IfSome, IsNone, IsTrue, length, MatchOption};
+ghost use Rattle.std.specs.Prelude.{ℕ};
 ghost use Rattle.bspl_types.specs.History.{instance_of, IsRun};
 ghost use Rattle.bspl_types.specs.Instance.{Fits};
 ghost use Rattle.enactment_model.specs.LeastConflict.{IsLeastConflict};

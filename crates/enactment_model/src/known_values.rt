@@ -2,9 +2,8 @@ ghost use Rattle.std.specs.Prelude.{◌≡◌, ◌↔◌, IsTrue, MatchBool};
 ghost use Rattle.std.specs.List.{All, Any, zip};
 ghost use Rattle.bspl_types.specs.declared.protocol.Adornment.TheVariants.{In};
 ghost use Rattle.bspl_types.specs.Adornment.{valued};
-ghost use Rattle.bspl_types.specs.History.{history_of, instance_of, IsRun};
+ghost use Rattle.bspl_types.specs.History.{history_of, instance_of, IsRun, sender_history};
 ghost use Rattle.bspl_types.specs.Instance.{Fits, pairs};
-ghost use Rattle.enactment_model.specs.BadEvent.{sender_history};
 ghost use Rattle.enactment_model.specs.inner.Carrying.{has_pair, HasUnknownPair, IsKnownPair};
 ghost use Rattle.enactment_model.specs.inner.Carrying.{Reveals};
 
@@ -15,7 +14,7 @@ pub(crate) fn knows_each(x: &Expanded, events: &[Event], instance: &Instance, pa
     requires run { IsRun x.now events.now }
     requires fits { Fits x.now instance.now }
     ensures { let i = instance.now in
-        let history = sender_history x.now events.now i in
+        let history = sender_history x.now events.now i.message in
         MatchBool result (All (IsKnownPair x.now history i.key param) (pairs x.now i))
         (HasUnknownPair x.now history i.key param (pairs x.now i)) }
 {
@@ -95,20 +94,11 @@ fn reveals(x: &Expanded, event: &Event, role: u32, key: &Key, param: u32, value:
 {
     // law: values that the test finds equal are one value
     equal_values_are_one();
-    let instance = instance_of(event);
+    let instance = event.instance();
     let carried = x.messages.at(instance.message as usize).carried.as_slice();
     event.role(x) == role
         && instance.key.same(key)
         && carries(carried, instance.values.as_slice(), param, value)
-}
-
-/// What is emitted or received.
-fn instance_of(event: &Event) -> &Instance
-    ensures { result.now ≡ instance_of event.now }
-{
-    match event {
-        Event::Emit(instance) | Event::Receive(instance) => instance,
-    }
 }
 
 /// Whether the parameters have the value for this one.

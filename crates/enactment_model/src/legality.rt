@@ -1,13 +1,13 @@
 ghost use Rattle.std.specs.Prelude.{◌≡◌, ◌≢◌, ◌↔◌, IfErr, IfSome, IsOk, IsSome};
 ghost use Rattle.std.specs.List.{All};
 ghost use Rattle.bspl_types.specs.declared.protocol.Adornment.TheVariants.{In};
-ghost use Rattle.bspl_types.specs.History.{instance_of, IsRun};
+ghost use Rattle.bspl_types.specs.History.{instance_of, IsRun, sender_history};
 ghost use Rattle.bspl_types.specs.Expansion.{message_of};
 ghost use Rattle.bspl_types.specs.Instance.{Fits};
 ghost use Rattle.bspl_types.specs.Knowledge.{IsEnabled, IsKnown};
 ghost use Rattle.role_knowledge.specs.FirstKnown.{IsFirstKnown};
 ghost use Rattle.enactment_model.specs.BadEvent.{IsAllowed, IsFirstBadEvent, IsFirstReason};
-ghost use Rattle.enactment_model.specs.BadEvent.{IsReasonOf, MayNotFollow, sender_history};
+ghost use Rattle.enactment_model.specs.BadEvent.{IsReasonOf, MayNotFollow};
 ghost use Rattle.enactment_model.specs.Legal.{IsLegal, MayFollow};
 
 use super::bad_event::{BadEvent, Why};
@@ -63,9 +63,9 @@ fn check_emission(x: &Expanded, before: &[Event], instance: &Instance) -> Result
     requires run { IsRun x.now before.now }
     requires fits { Fits x.now instance.now }
     ensures exact { let i = instance.now in
-        IsOk result ↔ IsEnabled x.now (sender_history x.now before.now i) i }
+        IsOk result ↔ IsEnabled x.now (sender_history x.now before.now i.message) i }
     ensures why { let i = instance.now in
-        let history = sender_history x.now before.now i in
+        let history = sender_history x.now before.now i.message in
         IfErr result (IsFirstReason x.now history i (message_of x.now i.message).carried) }
 {
     let message = x.messages.at(instance.message as usize);
@@ -82,9 +82,11 @@ fn check_all(
     requires run { IsRun x.now before.now }
     requires fits { Fits x.now instance.now }
     ensures exact { let i = instance.now in
-        IsOk result ↔ All (IsAllowed x.now (sender_history x.now before.now i) i) carried.now }
+        let history = sender_history x.now before.now i.message in
+        IsOk result ↔ All (IsAllowed x.now history i) carried.now }
     ensures why { let i = instance.now in
-        IfErr result (IsFirstReason x.now (sender_history x.now before.now i) i carried.now) }
+        let history = sender_history x.now before.now i.message in
+        IfErr result (IsFirstReason x.now history i carried.now) }
 {
     for c in carried {
         check_param(x, before, instance, *c)?;
@@ -97,9 +99,9 @@ fn check_param(x: &Expanded, before: &[Event], instance: &Instance, c: Carried) 
     requires run { IsRun x.now before.now }
     requires fits { Fits x.now instance.now }
     ensures exact { let i = instance.now in
-        IsOk result ↔ IsAllowed x.now (sender_history x.now before.now i) i c }
+        IsOk result ↔ IsAllowed x.now (sender_history x.now before.now i.message) i c }
     ensures why { let i = instance.now in
-        IfErr result (IsReasonOf x.now (sender_history x.now before.now i) i c) }
+        IfErr result (IsReasonOf x.now (sender_history x.now before.now i.message) i c) }
 {
     match c.adornment {
         Adornment::In => check_known(x, before, instance, c),
@@ -113,9 +115,9 @@ fn check_known(x: &Expanded, before: &[Event], instance: &Instance, c: Carried) 
     requires fits { Fits x.now instance.now }
     requires adorned { c.adornment ≡ In }
     ensures exact { let i = instance.now in
-        IsOk result ↔ IsAllowed x.now (sender_history x.now before.now i) i c }
+        IsOk result ↔ IsAllowed x.now (sender_history x.now before.now i.message) i c }
     ensures why { let i = instance.now in
-        IfErr result (IsReasonOf x.now (sender_history x.now before.now i) i c) }
+        IfErr result (IsReasonOf x.now (sender_history x.now before.now i.message) i c) }
 {
     let Some(kept) = first_known(x, before, instance, c.param) else {
         return Err(Why::Missing { param: c.param });
@@ -136,9 +138,9 @@ fn check_unknown(x: &Expanded, before: &[Event], instance: &Instance, c: Carried
     requires fits { Fits x.now instance.now }
     requires adorned { c.adornment ≢ In }
     ensures exact { let i = instance.now in
-        IsOk result ↔ IsAllowed x.now (sender_history x.now before.now i) i c }
+        IsOk result ↔ IsAllowed x.now (sender_history x.now before.now i.message) i c }
     ensures why { let i = instance.now in
-        IfErr result (IsReasonOf x.now (sender_history x.now before.now i) i c) }
+        IfErr result (IsReasonOf x.now (sender_history x.now before.now i.message) i c) }
 {
     match first_known(x, before, instance, c.param) {
         Some(kept) => Err(Why::Bound {
@@ -154,9 +156,9 @@ fn first_known(x: &Expanded, before: &[Event], instance: &Instance, param: u32) 
     requires run { IsRun x.now before.now }
     requires fits { Fits x.now instance.now }
     ensures exact { let i = instance.now in
-        IsSome result ↔ IsKnown x.now (sender_history x.now before.now i) i.key param }
+        IsSome result ↔ IsKnown x.now (sender_history x.now before.now i.message) i.key param }
     ensures first { let i = instance.now in
-        IfSome result (IsFirstKnown x.now (sender_history x.now before.now i) i.key param) }
+        IfSome result (IsFirstKnown x.now (sender_history x.now before.now i.message) i.key param) }
 {
     let message = x.messages.at(instance.message as usize);
     knows(x, before, message.sender, &instance.key, param)

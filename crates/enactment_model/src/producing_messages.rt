@@ -1,7 +1,9 @@
-ghost use Rattle.std.specs.Prelude.{◌≡◌, ◌↔◌, IsTrue};
+ghost use Rattle.std.specs.Prelude.{◌↔◌, IsTrue};
 ghost use Rattle.std.specs.List.{AllPairs, Any};
 ghost use Rattle.bspl_types.specs.Admission.{IsAdmitted};
-ghost use Rattle.enactment_model.specs.Producers.{HasOneProducer, Produces, SharesOut};
+ghost use Rattle.bspl_types.specs.declared.protocol.Adornment.TheVariants.{Out};
+ghost use Rattle.bspl_types.specs.Expansion.{IsAdorned};
+ghost use Rattle.enactment_model.specs.Producers.{HasOneProducer, SharesOut};
 ghost use Rattle.enactment_model.specs.Safety.{SafeProtocol};
 
 use bspl_types::{Adornment, Expanded, Message};
@@ -43,7 +45,7 @@ pub fn shares_out(message: &Message, other: &Message) -> bool
 
 /// Whether the message adorns the parameter `out`.
 pub(crate) fn produces(message: &Message, param: u32) -> bool
-    ensures { IsTrue result ↔ Produces message.now param }
+    ensures { IsTrue result ↔ IsAdorned message.now Out param }
 {
     let carried = message.carried.as_slice();
     carried

@@ -121,8 +121,8 @@ pub fn violation_has_model()
     rest_holds();
 }
 
-/// A protocol has a property if no assignment satisfies the formula of both: any legal run that does
-/// what the property excludes, over any number of keys, would give one (after Singh 2012).
+/// A protocol has a property if no assignment satisfies the formula of both: any legal run that
+/// does what the property excludes, over any number of keys, would give one (after Singh 2012).
 pub fn unsatisfiable_holds()
     ensures { UnsatisfiableHolds }
 {

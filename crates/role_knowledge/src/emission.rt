@@ -1,4 +1,4 @@
-ghost use Rattle.std.specs.Prelude.{◌≡◌, ◌↔◌, ◌<◌, length, IfErr, IsOk};
+ghost use Rattle.std.specs.Prelude.{◌↔◌, ◌<◌, length, IfErr, IsOk};
 ghost use Rattle.std.specs.List.{All};
 ghost use Rattle.bspl_types.specs.Expansion.{message_of};
 ghost use Rattle.bspl_types.specs.History.{history_of, IsRun};
@@ -7,7 +7,7 @@ ghost use Rattle.role_knowledge.specs.Blocked.{IsBlockOf, IsFirstBlock, IsPermit
 
 use super::block::Block;
 use super::knowledge::knows;
-use bspl_types::{Adornment, Carried, Event, Expanded, Key, Message};
+use bspl_types::{Adornment, Carried, Event, Expanded, Key};
 
 /// Checks that the sender can emit the message under the key, in its own history: it knows each
 /// `in` parameter, and no `out` and no `nil` parameter (Singh 2011). The answer names the first
@@ -24,16 +24,8 @@ pub fn enabled(x: &Expanded, events: &[Event], message: u32, key: &Key) -> Resul
         let history = history_of x.now schema.sender events.now in
         IfErr result (IsFirstBlock x.now history key.now schema.carried) }
 {
-    let schema = message_at(x, message);
+    let schema = x.message_at(message);
     check_all(x, events, schema.sender, key, schema.carried.as_slice())
-}
-
-/// The message with this index.
-fn message_at(x: &Expanded, message: u32) -> &Message
-    requires { message < length x.now.messages }
-    ensures { result.now ≡ message_of x.now message }
-{
-    x.messages.at(message as usize)
 }
 
 /// Checks each parameter. The answer names the first one that the role's knowledge does not permit.

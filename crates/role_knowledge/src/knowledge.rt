@@ -7,7 +7,7 @@ ghost use Rattle.bspl_types.specs.Knowledge.{IsKnown, Knows};
 ghost use Rattle.role_knowledge.specs.FirstKnown.{IsFirstKnown};
 ghost use Rattle.role_knowledge.specs.inner.FirstValue.{first_value};
 
-use bspl_types::{Carried, Event, Expanded, Instance, Key, Value};
+use bspl_types::{Carried, Event, Expanded, Key, Value};
 
 /// The value of the parameter that the role knows under the key: that of the first event of the
 /// role under the key whose message adorns the parameter `in` or `out` (Singh 2011).
@@ -38,7 +38,7 @@ fn known_by(x: &Expanded, event: &Event, key: &Key, param: u32) -> Option<Value>
         (¬ IsKnown x.now (event.now ∷ []) key.now param)
         (Knows x.now (event.now ∷ []) key.now param) }
 {
-    let instance = instance_of(event);
+    let instance = event.instance();
     if !instance.key.same(key) {
         return None;
     }
@@ -48,15 +48,6 @@ fn known_by(x: &Expanded, event: &Event, key: &Key, param: u32) -> Option<Value>
         instance.values.as_slice(),
         param,
     )
-}
-
-/// What is emitted or received.
-fn instance_of(event: &Event) -> &Instance
-    ensures { result.now ≡ instance_of event.now }
-{
-    match event {
-        Event::Emit(instance) | Event::Receive(instance) => instance,
-    }
 }
 
 /// The value of the parameter, the first if the message has it twice.

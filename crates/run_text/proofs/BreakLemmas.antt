@@ -13,7 +13,7 @@ use Rattle.bspl_types.specs.declared.value.Value.TheVariants.{Number, Text}
 use Rattle.bspl_types.specs.Name.{begins_name, goes_on, is_group, is_grouped, is_name, is_name_rest, is_plain_name, is_positive_number, is_reserved}
 use Rattle.bspl_types.specs.Value.{IsValue}
 use Rattle.bspl_types.specs.ValueSpelling.{byte_spelling, is_plain, value_spelling}
-use Rattle.text_lines.proofs.Separators.{Lacks}
+use Rattle.list_base.proofs.Separators.{Lacks}
 
 -- a byte that ends a field: no name and no value has it
 pub record IsBreak (c : ℕ) : Type 0 where

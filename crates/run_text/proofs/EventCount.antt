@@ -3,7 +3,7 @@ use Rattle.std.proofs.Common.{ℕ, ◌≤◌, List, [], ◌∷◌, ◌++◌, len
 use Rattle.std.specs.List.{flat_map}
 use Rattle.bspl_types.specs.declared.event.Event.{Event}
 use Rattle.bspl_types.specs.declared.expanded.Expanded.{Expanded}
-use Rattle.text_lines.specs.Lines.{end_line}
+use Rattle.list_base.specs.Lines.{end_line}
 use Rattle.run_text.specs.RunText.{IsRunText, event_line, head_line}
 use Rattle.run_text.specs.inner.LineFields.{event_body}
 

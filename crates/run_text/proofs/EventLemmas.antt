@@ -11,7 +11,7 @@ use Rattle.run_text.specs.RunText.{IsFitting, act_word}
 use Rattle.run_text.specs.inner.LineFields.{event_body, instance_body, tail_of}
 use Rattle.run_text.proofs.BreakLemmas.{lacks_both, lacks_more}
 use Rattle.run_text.proofs.FieldLemmas.{IsSplit}
-use Rattle.text_lines.proofs.Separators.{Lacks}
+use Rattle.list_base.proofs.Separators.{Lacks}
 use Rattle.run_text.proofs.Separators.{same_field, tail_is}
 use Rattle.run_text.proofs.InstanceLemmas.{body_lacks, same_instance}
 

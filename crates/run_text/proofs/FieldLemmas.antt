@@ -16,7 +16,7 @@ use Rattle.bspl_types.specs.ValueSpelling.{SpellsValue, ValuesAreSpelledOnce, va
 use Rattle.run_text.specs.RunText.{value_field, no_param}
 use Rattle.run_text.specs.inner.LineFields.{SpellsValues, tail_of, value_fields}
 use Rattle.run_text.proofs.BreakLemmas.{IsBreak, lacks_both, lacks_more, lacks_none, name_lacks, space_breaks, value_lacks}
-use Rattle.text_lines.proofs.Separators.{Lacks}
+use Rattle.list_base.proofs.Separators.{Lacks}
 use Rattle.run_text.proofs.Separators.{field_then_tail, same_field, spaced_is, tail_is}
 
 -- each parameter has a name

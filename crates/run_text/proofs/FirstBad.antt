@@ -8,13 +8,13 @@ use Rattle.std.proofs.lemmas.Grind.{flat_map-append}
 use Rattle.bspl_types.specs.declared.event.Event.{Event}
 use Rattle.bspl_types.specs.declared.expanded.Expanded.{Expanded}
 use Rattle.bspl_types.specs.History.{instance_of}
-use Rattle.text_lines.specs.Lines.{Line, lines_of, HasNoEnd, end_line}
+use Rattle.list_base.specs.Lines.{Line, lines_of, HasNoEnd, end_line}
 use Rattle.run_text.specs.declared.refusal.RunRefusal.TheVariants.{Form}
 use Rattle.run_text.specs.RunText.{IsFitting, IsRunText, event_line, head_line}
 use Rattle.run_text.specs.Refusal.{AreRunLines, HasRunForm, IsFirstOutOfForm, IsOutOfForm, IsRefusedRun}
 use Rattle.run_text.specs.inner.LineFields.{event_body}
 use Rattle.run_text.proofs.RightLines.{events_no_end, front_lines, front_right, head_no_end, lines-front, whole_right}
-use Rattle.text_lines.proofs.Separators.{Lacks, lines-open, lines-then}
+use Rattle.list_base.proofs.Separators.{Lacks, lines-open, lines-then}
 
 -- what was read of the text is events that fit, and this is left from the line at the number on
 pub record EventsRead (x : Expanded) (text rest : List ℕ) (run : List Event) (number : ℕ) : Type 0 where

@@ -25,7 +25,7 @@ use Rattle.run_text.proofs.BreakLemmas.{IsBreak, lacks_both, lf_breaks, name_lac
 use Rattle.run_text.proofs.FieldLemmas.{AreKnown, IsSplit, fields_lack, same_values}
 use Rattle.run_text.proofs.KeyLemmas.{key_agrees, key_is}
 use Rattle.run_text.proofs.LineFieldsLemmas.{join-spaced}
-use Rattle.text_lines.proofs.Separators.{Lacks}
+use Rattle.list_base.proofs.Separators.{Lacks}
 use Rattle.run_text.proofs.Separators.{same_field, spaced_is, tail_is}
 
 -- the parameters of a message that have a value

@@ -12,7 +12,7 @@ use Rattle.bspl_types.specs.declared.value.Value.{Value}
 use Rattle.bspl_types.specs.Adornment.{valued}
 use Rattle.bspl_types.specs.Expansion.{message_of}
 use Rattle.bspl_types.specs.Value.{IsValue}
-use Rattle.text_lines.specs.Lines.{line_of}
+use Rattle.list_base.specs.Lines.{line_of}
 use Rattle.run_text.specs.RunText.{value_field, instance_fields}
 use Rattle.run_text.specs.inner.LineFields.{spaced_fields, value_fields}
 

@@ -7,12 +7,12 @@ use Rattle.std.proofs.lemmas.List.Elements.{All-nil, All-cons, recursion_from_Al
 use Rattle.bspl_types.specs.declared.event.Event.{Event}
 use Rattle.bspl_types.specs.declared.expanded.Expanded.{Expanded}
 use Rattle.bspl_types.specs.History.{IsRun, instance_of}
-use Rattle.text_lines.specs.Lines.{Line, lines_of, HasNoEnd, end_line}
+use Rattle.list_base.specs.Lines.{Line, lines_of, HasNoEnd, end_line}
 use Rattle.run_text.specs.RunText.{HaveValues, IsFitting, event_line, head_line}
 use Rattle.run_text.specs.Refusal.{AreRunLines, HasRunForm, IsEventLine}
 use Rattle.run_text.specs.inner.LineFields.{event_body}
 use Rattle.run_text.proofs.EventLemmas.{body_no_end, event_lacks}
-use Rattle.text_lines.proofs.Separators.{lines-then}
+use Rattle.list_base.proofs.Separators.{lines-then}
 
 -- each event fits
 abbrev pub AreFitting : Expanded → List Event → Type 0

@@ -8,7 +8,7 @@ use Rattle.std.proofs.lemmas.Bool.Decides.{Decides-eqb}
 use Rattle.std.proofs.lemmas.Slice.Eq.{slice_eq-Decides}
 use Rattle.std.proofs.lemmas.List.{append-nil}
 use Rattle.std.proofs.lemmas.List.Elements.{All-head, All-tail}
-use Rattle.text_lines.proofs.Separators.{Lacks}
+use Rattle.list_base.proofs.Separators.{Lacks}
 use Rattle.run_text.specs.inner.LineFields.{spaced_fields, tail_of}
 
 -- bytes that pass the test are the word

@@ -4,7 +4,7 @@ use Rattle.bspl_types.specs.declared.event.Event.{Event}
 use Rattle.bspl_types.specs.declared.expanded.Expanded.{Expanded}
 use Rattle.bspl_types.specs.Admission.{IsAdmitted}
 use Rattle.bspl_types.specs.History.{instance_of}
-use Rattle.text_lines.specs.Lines.{Line, lines_of, HasNoEnd, end_line}
+use Rattle.list_base.specs.Lines.{Line, lines_of, HasNoEnd, end_line}
 use Rattle.run_text.specs.declared.refusal.RunRefusal.{RunRefusal}
 use Rattle.run_text.specs.declared.refusal.RunRefusal.TheVariants.{Form, NoMemory}
 use Rattle.run_text.specs.RunText.{IsFitting, IsRunText, event_line, head_line}

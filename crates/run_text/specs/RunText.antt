@@ -14,7 +14,7 @@ use Rattle.bspl_types.specs.History.{IsRun, instance_of}
 use Rattle.bspl_types.specs.Instance.{Fits, pairs}
 use Rattle.bspl_types.specs.Value.{IsValue}
 use Rattle.bspl_types.specs.ValueSpelling.{value_spelling}
-use Rattle.text_lines.specs.Lines.{line_of, end_line}
+use Rattle.list_base.specs.Lines.{line_of, end_line}
 
 -- the field of a parameter and its value, as `item=7`
 abbrev pub value_field : List ParamInfo → Carried × Value → List ℕ

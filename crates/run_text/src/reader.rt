@@ -1,4 +1,4 @@
-ghost use Rattle.std.specs.Prelude.{◌≡◌, ◌≢◌, ◌++◌, List, IfOk, IfErr, Ok, Err};
+ghost use Rattle.std.specs.Prelude.{◌≢◌, ◌++◌, List, IfOk, IfErr, Ok, Err};
 ghost use Rattle.bspl_types.specs.declared.event.Event.{Event};
 ghost use Rattle.bspl_types.specs.Admission.{IsAdmitted};
 ghost use Rattle.run_text.specs.declared.refusal.RunRefusal.{RunRefusal};

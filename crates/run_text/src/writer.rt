@@ -4,7 +4,7 @@ ghost use Rattle.bspl_types.specs.Adornment.{valued};
 ghost use Rattle.bspl_types.specs.History.{IsRun, instance_of};
 ghost use Rattle.bspl_types.specs.Instance.{Fits};
 ghost use Rattle.bspl_types.specs.Value.{IsValue};
-ghost use Rattle.text_lines.specs.Lines.{line_of};
+ghost use Rattle.list_base.specs.Lines.{line_of};
 ghost use Rattle.run_text.specs.RunText.{HaveValues, event_line, value_field, instance_fields};
 ghost use Rattle.run_text.specs.RunText.{run_text};
 ghost use Rattle.run_text.specs.inner.LineFields.{value_fields};

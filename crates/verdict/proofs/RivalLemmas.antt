@@ -14,14 +14,14 @@ use Rattle.bspl_types.specs.declared.protocol.Adornment.{Adornment}
 use Rattle.bspl_types.specs.declared.protocol.Adornment.TheVariants.{In, Nil, Out}
 use Rattle.bspl_types.specs.declared.protocol.Message.{Message}
 use Rattle.bspl_types.specs.Choice.{is_out}
-use Rattle.bspl_types.specs.Expansion.{message_of, no_message}
+use Rattle.bspl_types.specs.Expansion.{message_of, no_message, IsAdorned}
 use Rattle.clause_core.specs.declared.formula.Formula.{Formula}
 use Rattle.clause_encoding.specs.declared.rivals.Rivals.{Rivals}
 use Rattle.clause_encoding.specs.Families.{shared_clauses}
 use Rattle.clause_encoding.specs.Formula.{IsSafetyFormula, safety_clauses, safety_variables}
 use Rattle.clause_encoding.specs.Rivals.{producers_of, produces, rival_clauses, rivals_among, rivals_of, selected_is_sent, selectors}
 use Rattle.clause_encoding.specs.Variables.{kind_count, message_numbers, positive}
-use Rattle.enactment_model.specs.Producers.{HasOneProducer, Produces}
+use Rattle.enactment_model.specs.Producers.{HasOneProducer}
 use Rattle.verdict.proofs.FormulaLemmas.{has_empty}
 
 -- an adornment that passes the test is `out`
@@ -31,7 +31,7 @@ only_out Out passes = refl
 only_out Nil passes = absurd (true≢false (sym passes))
 
 -- a message that passes the test produces the parameter
-adorned_out : (m : Message) (p : ℕ) → produces m p ≡ true → Produces m p
+adorned_out : (m : Message) (p : ℕ) → produces m p ≡ true → IsAdorned m Out p
 adorned_out m p passes =
     let (k, c, within, is, found) = Any-from_list_any (λ d. is_out d.adornment && d.param == p) m.carried passes in
     let (is_adorned, is_param) = and_parts (is_out c.adornment) (c.param == p) found in
@@ -57,7 +57,7 @@ number_below count n (k, within, is) =
 -- a message of the protocol that produces the parameter
 record IsProducer (x : Expanded) (p m : ℕ) : Type 0 where
   known : m < length x.messages
-  produces_it : Produces (message_of x m) p
+  produces_it : IsAdorned (message_of x m) Out p
 
 -- each of the producers is one
 producer_from : (x : Expanded) (p m : ℕ) → Contains (producers_of x p) m → IsProducer x p m

@@ -1,4 +1,5 @@
--- When a decision is right, and the verdicts on safety and on liveness; which numbers their logs have.
+-- When a decision is right, and the verdicts on safety and on liveness; which numbers their logs
+-- have.
 pub mod Decision
 pub mod Right
 pub mod RightLiveness

@@ -34,7 +34,7 @@ pub enum Safety {
 pub enum Liveness {
     /// The protocol is live; the log, which was checked, refutes its liveness formula.
     Live(Log),
-    /// The protocol is not live; the run is legal and has come to rest, and the parameter is the
+    /// The protocol is not live; the run is legal and is quiet, and the parameter is the
     /// first public one that it leaves unbound.
     NotLive { run: Run, param: u32 },
     /// The search came to its budget; the log has the new clauses that it learned.

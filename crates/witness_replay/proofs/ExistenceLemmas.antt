@@ -19,7 +19,7 @@ use Rattle.bspl_types.specs.declared.value.Value.{Value}
 use Rattle.bspl_types.specs.declared.value.Value.TheVariants.{Number}
 use Rattle.bspl_types.specs.Adornment.{Binds, has_value, valued}
 use Rattle.bspl_types.specs.Expansion.{Adorns, message_of}
-use Rattle.bspl_types.specs.History.{instance_of, role_of}
+use Rattle.bspl_types.specs.History.{instance_of, role_of, sender_history}
 use Rattle.bspl_types.specs.Instance.{Fits}
 use Rattle.bspl_types.specs.Knowledge.{CanEmit, IsKnown}
 use Rattle.clause_core.specs.Clause.{SatisfiesAll}
@@ -31,7 +31,7 @@ use Rattle.enactment_model.specs.Laws.{HistoryIsRun, KnownExactlyIfSomeEventBind
 use Rattle.first_occurrences.specs.Occurrence.{kind_of}
 use Rattle.first_occurrences.specs.Report.{AreVariablesOf}
 use Rattle.role_knowledge.specs.FirstKnown.{IsFirstKnown}
-use Rattle.witness_replay.specs.Witness.{AreOrdered, IsRunOf, IsRunOfKinds, IsWitness, IsWitnessEvent, key_of_ones, sender_events}
+use Rattle.witness_replay.specs.Witness.{AreOrdered, IsRunOf, IsRunOfKinds, IsWitness, IsWitnessEvent, key_of_ones}
 use Rattle.witness_replay.specs.inner.Order.{AreOrderedBelow, inserted}
 use Rattle.witness_replay.specs.inner.Steps.{MayHappen}
 use Rattle.witness_replay.specs.inner.Values.{HasValueOf}
@@ -105,7 +105,7 @@ module _ (x : Expanded) (known : KnownExactlyIfSomeEventBinds) where
 
   module _ (kinds : List ℕ) (run : List Event) (is_run : IsRunOfKinds x kinds run) where
     -- each parameter of what can be emitted has a value
-    value_exists : (m : ℕ) → CanEmit x (sender_events x run m) m (key_of_ones x) → (c : Carried) → Contains (valued (message_of x m).carried) c → (v : Value) × HasValueOf x run m c v × Unit {0}
+    value_exists : (m : ℕ) → CanEmit x (sender_history x run m) m (key_of_ones x) → (c : Carried) → Contains (valued (message_of x m).carried) c → (v : Value) × HasValueOf x run m c v × Unit {0}
     value_exists m can c among = elim (key_or_not x.keys c.param) [
       | inl is_key ↦ (Number 1, record { key = λ is. refl; out = λ other. absurd (other is_key); first = λ other. absurd (other is_key) }, tt)
       | inr other ↦ by_adornment other c.adornment refl
@@ -116,13 +116,13 @@ module _ (x : Expanded) (known : KnownExactlyIfSomeEventBinds) where
             let sender = (message_of x m).sender in
             let entry = (filtered_member (λ d. has_value d.adornment) (message_of x m).carried c among).0 in
             let adorned : Adorns x m In c.param = subst (λ (a : Adornment). Adorns x m a c.param) is entry in
-            let (v, first) = first_exists (sender_events x run m) c.param (λ e member. under_ones x kinds run is_run e (filtered_member (λ f. role_of x f == sender) run e member).0) (can.ins c.param adorned) in
+            let (v, first) = first_exists (sender_history x run m) c.param (λ e member. under_ones x kinds run is_run e (filtered_member (λ f. role_of x f == sender) run e member).0) (can.ins c.param adorned) in
             (v, record { key = λ key. absurd (other key); out = λ none out. absurd (let no_in : In ≡ Out = sym is ∙ out in cc); first = λ none also. first }, tt)
         by_adornment other Out is = (Number (m + 1), record { key = λ key. absurd (other key); out = λ none out. refl; first = λ none also. absurd (let no_out : Out ≡ In = sym is ∙ also in cc) }, tt)
         by_adornment other Nil is = (Number 1, record { key = λ key. refl; out = λ none out. absurd (let no_nil : Nil ≡ Out = sym is ∙ out in cc); first = λ none also. absurd (let no_nil : Nil ≡ In = sym is ∙ also in cc) }, tt)
 
     -- the instance of what can be emitted
-    instance_exists : (m : ℕ) → CanEmit x (sender_events x run m) m (key_of_ones x) → (i : Instance) × IsWitness x run i × (i.message ≡ m)
+    instance_exists : (m : ℕ) → CanEmit x (sender_history x run m) m (key_of_ones x) → (i : Instance) × IsWitness x run i × (i.message ≡ m)
     instance_exists m can =
         let R = HasValueOf x run m in
         let carried = valued (message_of x m).carried in

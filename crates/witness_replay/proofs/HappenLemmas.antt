@@ -10,7 +10,7 @@ use Rattle.bspl_types.specs.declared.event.Event.TheVariants.{Emit, Receive}
 use Rattle.bspl_types.specs.declared.expanded.Expanded.{Expanded}
 use Rattle.bspl_types.specs.declared.protocol.Adornment.TheVariants.{In}
 use Rattle.bspl_types.specs.Expansion.{Adorns, message_of}
-use Rattle.bspl_types.specs.History.{IsRun, role_of}
+use Rattle.bspl_types.specs.History.{IsRun, role_of, sender_history}
 use Rattle.bspl_types.specs.Knowledge.{CanEmit, IsKnown}
 use Rattle.clause_core.specs.Clause.{SatisfiesAll}
 use Rattle.clause_encoding.specs.declared.variables.Variables.{Variables}
@@ -20,7 +20,7 @@ use Rattle.clause_encoding.specs.Variables.{IsKind, received, sent}
 use Rattle.enactment_model.specs.Laws.{HistoryIsRun, KnownExactlyIfSomeEventBinds}
 use Rattle.first_occurrences.specs.Occurrence.{kind_of}
 use Rattle.first_occurrences.specs.Report.{AreVariablesOf}
-use Rattle.witness_replay.specs.Witness.{AreOrdered, IsRunOfKinds, key_of_ones, sender_events}
+use Rattle.witness_replay.specs.Witness.{AreOrdered, IsRunOfKinds, key_of_ones}
 use Rattle.witness_replay.specs.inner.Order.{is_before}
 use Rattle.witness_replay.specs.inner.Steps.{HasEmission, MayHappen}
 use Rattle.witness_replay.proofs.CarrierLemmas.{carrier_event, carrier_from, carrier_kind, carrier_member, IsCarrier}
@@ -70,11 +70,11 @@ module _ (x : Expanded) (vars : Variables) (v : ℕ → Bool) (kinds : List ℕ)
 
     module _ (run : List Event) (is_run : IsRunOfKinds x (take index kinds) run) (known : KnownExactlyIfSomeEventBinds) (histories : HistoryIsRun) (m : ℕ) where
       -- what the sender did is a run
-      sender_run : IsRun x (sender_events x run m)
+      sender_run : IsRun x (sender_history x run m)
       sender_run = histories x run (message_of x m).sender (run_fits x (take index kinds) run is_run)
 
       -- if the kind is the emission of the message, each `in` parameter is known
-      ins : kind ≡ sent m → m < length x.messages → (p : ℕ) → Adorns x m In p → IsKnown x (sender_events x run m) (key_of_ones x) p
+      ins : kind ≡ sent m → m < length x.messages → (p : ℕ) → Adorns x m In p → IsKnown x (sender_history x run m) (key_of_ones x) p
       ins is within p adorned =
           let sender = (message_of x m).sender in
           let (c, listed, before) = known_before x vars v satisfied m p within adorned (subst (λ k. v k ≡ true) is here.1) in
@@ -84,14 +84,14 @@ module _ (x : Expanded) (vars : Variables) (v : ℕ → Bool) (kinds : List ℕ)
           let early = before_earlier c (carrier_kind x vars sender p c are carrier) apart (subst (λ k. is_before vars v c k ≡ true) (sym is) before) in
           let (e, in_run, of_kind) = event_of x (take index kinds) run is_run c early in
           let (role, binds) = carrier_event x sender p e (subst (IsCarrier x sender p) (sym of_kind) carrier) in
-          (known x (sender_events x run m) (key_of_ones x) p sender_run).1
+          (known x (sender_history x run m) (key_of_ones x) p sender_run).1
           (record { event = e; among = kept_member (λ f. role_of x f == sender) run e role in_run; under = (under_ones x (take index kinds) run is_run e in_run).key; binds = binds })
 
       -- and no fresh parameter is
-      fresh : kind ≡ sent m → m < length x.messages → (p : ℕ) → Contains (fresh_parameters (message_of x m)) p → IsKnown x (sender_events x run m) (key_of_ones x) p → ⊥
+      fresh : kind ≡ sent m → m < length x.messages → (p : ℕ) → Contains (fresh_parameters (message_of x m)) p → IsKnown x (sender_history x run m) (key_of_ones x) p → ⊥
       fresh is within p listed is_known =
           let sender = (message_of x m).sender in
-          let binding = (known x (sender_events x run m) (key_of_ones x) p sender_run).0 is_known in
+          let binding = (known x (sender_history x run m) (key_of_ones x) p sender_run).0 is_known in
           let e = binding.event in
           let (in_run, role) = filtered_member (λ f. role_of x f == sender) run e binding.among in
           let (apart, before) = earlier_before (kind_of e) (kind_among x (take index kinds) run is_run e in_run) in
@@ -101,7 +101,7 @@ module _ (x : Expanded) (vars : Variables) (v : ℕ → Bool) (kinds : List ℕ)
           (subst (λ k. is_before vars v (kind_of e) k ≡ true) is before)
 
       -- so the sender can emit it
-      sending : kind ≡ sent m → CanEmit x (sender_events x run m) m (key_of_ones x)
+      sending : kind ≡ sent m → CanEmit x (sender_history x run m) m (key_of_ones x)
       sending is =
           let up_to = here.0.up_to in
           let count = are.kinds in

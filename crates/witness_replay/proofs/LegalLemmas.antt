@@ -19,7 +19,7 @@ use Rattle.bspl_types.specs.declared.value.Value.{Value}
 use Rattle.bspl_types.specs.declared.value.Value.TheVariants.{Number}
 use Rattle.bspl_types.specs.Adornment.{has_value, valued}
 use Rattle.bspl_types.specs.Expansion.{Adorns, message_of}
-use Rattle.bspl_types.specs.History.{history_of, instance_of, role_of}
+use Rattle.bspl_types.specs.History.{history_of, instance_of, role_of, sender_history}
 use Rattle.bspl_types.specs.Instance.{Carries}
 use Rattle.bspl_types.specs.KeyAgrees.{KeyAgrees}
 use Rattle.bspl_types.specs.Knowledge.{CanEmit, IsEnabled, Knows}
@@ -31,7 +31,7 @@ use Rattle.enactment_model.specs.Laws.{HistoryIsRun, KnownExactlyIfSomeEventBind
 use Rattle.enactment_model.specs.Legal.{IsLegalRun, MayFollow}
 use Rattle.first_occurrences.specs.Report.{AreVariablesOf}
 use Rattle.role_knowledge.specs.FirstKnown.{IsFirstKnown}
-use Rattle.witness_replay.specs.Witness.{AreOrdered, IsRunOf, IsRunOfKinds, IsWitness, IsWitnessValue, key_of_ones, sender_events}
+use Rattle.witness_replay.specs.Witness.{AreOrdered, IsRunOf, IsRunOfKinds, IsWitness, IsWitnessValue, key_of_ones}
 use Rattle.witness_replay.proofs.HappenLemmas.{may_happen}
 use Rattle.witness_replay.proofs.ListedLemmas.{some_member}
 use Rattle.witness_replay.proofs.RunLemmas.{kind_at, run_fits, run_prefix, under_ones}
@@ -76,9 +76,9 @@ module _ (x : Expanded) (kinds : List ℕ) (run : List Event) (is_run : IsRunOfK
       same_Some (Number 1) w (sym (one_at (length x.keys) index (slice_get_within x.keys index p at)) ∙ here)
 
   -- what can be emitted after these events is enabled with its values
-  enabled : (i : Instance) → IsWitness x run i → CanEmit x (sender_events x run i.message) i.message (key_of_ones x) → IsEnabled x (sender_events x run i.message) i
+  enabled : (i : Instance) → IsWitness x run i → CanEmit x (sender_history x run i.message) i.message (key_of_ones x) → IsEnabled x (sender_history x run i.message) i
   enabled i witness can =
-      let history = sender_events x run i.message in
+      let history = sender_history x run i.message in
       record {
         can = subst (λ (k : List Value). CanEmit x history i.message k) (sym witness.key) can;
         same = λ p v carries.

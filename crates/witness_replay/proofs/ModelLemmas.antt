@@ -101,7 +101,7 @@ refutation_from shortest x run is_legal has =
       };
     }
 
--- and a run that has come to rest is one
+-- and a run that is quiet is one
 resting_from : (x : Expanded) (run : List Event) → IsLegalRun x run → RestsUnbound x run → HasRefutation Liveness x
 resting_from x run is_legal rests = record { run = run; legal = is_legal; refutes = rests }
 

@@ -14,7 +14,7 @@ use Rattle.bspl_types.specs.declared.protocol.Adornment.{Adornment}
 use Rattle.bspl_types.specs.declared.protocol.Adornment.TheVariants.{In, Out, Nil}
 use Rattle.bspl_types.specs.declared.protocol.Carried.{Carried}
 use Rattle.bspl_types.specs.Expansion.{Adorns, message_of}
-use Rattle.bspl_types.specs.History.{history_of, instance_of, IsRun, role_of}
+use Rattle.bspl_types.specs.History.{history_of, instance_of, IsRun, role_of, sender_history}
 use Rattle.bspl_types.specs.Knowledge.{CanEmit, IsKnown}
 use Rattle.clause_core.specs.Clause.{Satisfies, SatisfiesAll}
 use Rattle.clause_encoding.specs.Carriers.{carriers, fresh_parameters, is_in, sender_carriers}
@@ -27,7 +27,7 @@ use Rattle.enactment_model.specs.Liveness.{Bound, IsEmitted, Quiet}
 use Rattle.first_occurrences.specs.Occurrence.{kind_of}
 use Rattle.first_occurrences.specs.Report.{AreVariablesOf}
 use Rattle.witness_replay.specs.Refuting.{RestsUnbound}
-use Rattle.witness_replay.specs.Witness.{IsRunOf, key_of_ones, sender_events}
+use Rattle.witness_replay.specs.Witness.{IsRunOf, key_of_ones}
 use Rattle.witness_replay.proofs.CarrierLemmas.{binds_from, carrier_event, carrier_from, carrier_kind, carrier_member, IsCarrier}
 use Rattle.witness_replay.proofs.FamilyLemmas.{all_right}
 use Rattle.witness_replay.proofs.HappenLemmas.{other_kind}
@@ -131,10 +131,10 @@ module _ (x : Expanded) (v : ℕ → Bool) (run : List Event) (is_run : IsRunOf 
       role_run role = histories x run role (run_fits x is_run.kinds run is_run.run_of)
 
       -- what the sender knows is made known there by a kind that occurs
-      known_by : (m p : ℕ) → (v (sent m) ≡ true → ⊥) → IsKnown x (sender_events x run m) (key_of_ones x) p → (kind : ℕ) × Contains (sender_carriers x m p) kind × (v kind ≡ true)
+      known_by : (m p : ℕ) → (v (sent m) ≡ true → ⊥) → IsKnown x (sender_history x run m) (key_of_ones x) p → (kind : ℕ) × Contains (sender_carriers x m p) kind × (v kind ≡ true)
       known_by m p unsent is_known =
           let sender = (message_of x m).sender in
-          let binding = (known x (sender_events x run m) (key_of_ones x) p (role_run sender)).0 is_known in
+          let binding = (known x (sender_history x run m) (key_of_ones x) p (role_run sender)).0 is_known in
           let e = binding.event in
           let (among, role) = filtered_member (λ f. role_of x f == sender) run e binding.among in
           let occurring = occurs_in e among in
@@ -145,18 +145,18 @@ module _ (x : Expanded) (v : ℕ → Bool) (run : List Event) (is_run : IsRunOf 
           )
 
       -- and a kind that occurs makes it known there
-      makes_known : (m p kind : ℕ) → Contains (sender_carriers x m p) kind → v kind ≡ true → IsKnown x (sender_events x run m) (key_of_ones x) p
+      makes_known : (m p kind : ℕ) → Contains (sender_carriers x m p) kind → v kind ≡ true → IsKnown x (sender_history x run m) (key_of_ones x) p
       makes_known m p kind listed occurring =
           let sender = (message_of x m).sender in
           let (among, passes) = filtered_member (λ k. not (k == sent m)) (carriers x sender p) kind listed in
           let carrier = carrier_from x sender p kind among in
           let (e, in_run, of_kind) = has_event kind (carrier_kind x (liveness_variables x) sender p kind (are_liveness_variables x) carrier) occurring in
           let (role, binds) = carrier_event x sender p e (subst (IsCarrier x sender p) (sym of_kind) carrier) in
-          (known x (sender_events x run m) (key_of_ones x) p (role_run sender)).1
+          (known x (sender_history x run m) (key_of_ones x) p (role_run sender)).1
           (record { event = e; among = kept_member (λ f. role_of x f == sender) run e role in_run; under = (under_ones x is_run.kinds run is_run.run_of e in_run).key; binds = binds })
 
       -- a message that is not emitted cannot be
-      cannot_emit : (m : ℕ) → (IsEmitted run (key_of_ones x) m → ⊥) → CanEmit x (sender_events x run m) m (key_of_ones x) → ⊥
+      cannot_emit : (m : ℕ) → (IsEmitted run (key_of_ones x) m → ⊥) → CanEmit x (sender_history x run m) m (key_of_ones x) → ⊥
       cannot_emit m unemitted can =
           let unsent = not_sent m can.known unemitted in
           elim (exhausted x v satisfied m can.known unsent) [
@@ -190,7 +190,7 @@ module _ (x : Expanded) (v : ℕ → Bool) (run : List Event) (is_run : IsRunOf 
           let found = some_unsent x v satisfied in
           record { quiet = quiet; param = found.param; public = found.public; unbound = not_bound found }
 
--- the run of an assignment that satisfies the liveness clauses has come to rest so
+-- the run of an assignment that satisfies the liveness clauses is quiet in this way
 pub model_rests_unbound : KnownExactlyIfSomeEventBinds → HistoryIsRun → (x : Expanded) (v : ℕ → Bool) (run : List Event) → IsRunOf x (liveness_variables x) v run → SatisfiesAll v (liveness_clauses x) → RestsUnbound x run
 model_rests_unbound known histories x v run is_run satisfied =
     let rest = rest_families x v (all_right (Satisfies v) (shared_clauses x (liveness_variables x)) (rest_clauses x) satisfied) in

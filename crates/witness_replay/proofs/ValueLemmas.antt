@@ -16,20 +16,20 @@ use Rattle.bspl_types.specs.declared.value.Value.{Value}
 use Rattle.bspl_types.specs.declared.value.Value.TheVariants.{Number}
 use Rattle.bspl_types.specs.Adornment.{has_value, valued}
 use Rattle.bspl_types.specs.Expansion.{message_of, no_message}
-use Rattle.bspl_types.specs.History.{history_of}
+use Rattle.bspl_types.specs.History.{history_of, sender_history}
 use Rattle.bspl_types.specs.KeyAgrees.{KeyAgrees}
 use Rattle.bspl_types.specs.Shape.{IsMessageOf}
-use Rattle.witness_replay.specs.Witness.{IsWitness, IsWitnessValue, key_of_ones, sender_events}
+use Rattle.witness_replay.specs.Witness.{IsWitness, IsWitnessValue, key_of_ones}
 use Rattle.witness_replay.specs.inner.Values.{HasValueOf}
 
 -- what holds of the sender's events and the key of ones holds of the history and the key that equal them
-pub at_sender : (Q : List Event → List Value → Type 0) (x : Expanded) (before : List Event) (m : ℕ) (message : Message) (key : List Value) → message ≡ message_of x m → key ≡ key_of_ones x → Q (sender_events x before m) (key_of_ones x) → Q (history_of x message.sender before) key
+pub at_sender : (Q : List Event → List Value → Type 0) (x : Expanded) (before : List Event) (m : ℕ) (message : Message) (key : List Value) → message ≡ message_of x m → key ≡ key_of_ones x → Q (sender_history x before m) (key_of_ones x) → Q (history_of x message.sender before) key
 at_sender Q x before m message key is ones holds =
     subst (λ (n : Message). Q (history_of x n.sender before) key) (sym is)
-    (subst (λ (k : List Value). Q (sender_events x before m) k) (sym ones) holds)
+    (subst (λ (k : List Value). Q (sender_history x before m) k) (sym ones) holds)
 
 -- and the other way
-pub from_sender : (Q : List Event → List Value → Type 0) (x : Expanded) (before : List Event) (m : ℕ) (message : Message) (key : List Value) → message ≡ message_of x m → key ≡ key_of_ones x → Q (history_of x message.sender before) key → Q (sender_events x before m) (key_of_ones x)
+pub from_sender : (Q : List Event → List Value → Type 0) (x : Expanded) (before : List Event) (m : ℕ) (message : Message) (key : List Value) → message ≡ message_of x m → key ≡ key_of_ones x → Q (history_of x message.sender before) key → Q (sender_history x before m) (key_of_ones x)
 from_sender Q x before m message key is ones holds =
     subst (λ (n : Message). Q (history_of x n.sender before) (key_of_ones x)) is
     (subst (λ (k : List Value). Q (history_of x message.sender before) k) ones holds)

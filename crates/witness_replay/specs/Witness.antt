@@ -11,7 +11,7 @@ use Rattle.bspl_types.specs.declared.protocol.Carried.{Carried}
 use Rattle.bspl_types.specs.declared.value.Value.{Value}
 use Rattle.bspl_types.specs.declared.value.Value.TheVariants.{Number}
 use Rattle.bspl_types.specs.Expansion.{message_of}
-use Rattle.bspl_types.specs.History.{history_of}
+use Rattle.bspl_types.specs.History.{history_of, sender_history}
 use Rattle.bspl_types.specs.Instance.{Fits, pairs}
 use Rattle.clause_core.specs.Literal.{MakesTrue}
 use Rattle.clause_encoding.specs.declared.variables.Variables.{Variables}
@@ -28,10 +28,6 @@ pub record AreOrdered (vars : Variables) (v : ℕ → Bool) (kinds : List ℕ) :
 abbrev pub key_of_ones : Expanded → List Value
 key_of_ones x = replicate (length x.keys) (Number 1)
 
--- what the sender of a message did in these events
-abbrev pub sender_events : Expanded → List Event → ℕ → List Event
-sender_events x before m = history_of x (message_of x m).sender before
-
 -- the value of a parameter of message `m` after these events: 1 for a key; else the message's
 -- number, from 1, for an `out`, and for an `in` the first value that the sender knows
 pub record IsWitnessValue (x : Expanded) (before : List Event) (m : ℕ) (pair : Carried × Value)
@@ -39,7 +35,7 @@ pub record IsWitnessValue (x : Expanded) (before : List Event) (m : ℕ) (pair :
   pub key : Contains x.keys pair.0.param → pair.1 ≡ Number 1
   pub out : ¬ Contains x.keys pair.0.param → pair.0.adornment ≡ Out → pair.1 ≡ Number (m + 1)
   pub first : ¬ Contains x.keys pair.0.param → pair.0.adornment ≡ In →
-      IsFirstKnown x (sender_events x before m) (key_of_ones x) pair.0.param pair.1
+      IsFirstKnown x (sender_history x before m) (key_of_ones x) pair.0.param pair.1
 
 -- the instance that is emitted after these events
 pub record IsWitness (x : Expanded) (before : List Event) (i : Instance) : Type 0 where

@@ -1,7 +1,7 @@
 ghost use Rattle.std.specs.Prelude.{◌≡◌, ◌<◌, length, IfOk};
-ghost use Rattle.bspl_types.specs.History.{IsRun};
+ghost use Rattle.bspl_types.specs.History.{IsRun, sender_history};
 ghost use Rattle.bspl_types.specs.Knowledge.{CanEmit};
-ghost use Rattle.witness_replay.specs.Witness.{IsWitness, key_of_ones, sender_events};
+ghost use Rattle.witness_replay.specs.Witness.{IsWitness, key_of_ones};
 
 use super::values::values_after;
 use bspl_types::{Event, Expanded, Instance, KEY_LIMIT, Key, Value, Values};
@@ -17,7 +17,7 @@ pub(crate) fn instance_after(
 ) -> Result<Instance, NoMemory>
     requires some_key { 0 < length x.now.keys }
     requires run { IsRun x.now before.now }
-    requires can { CanEmit x.now (sender_events x.now before.now m) m (key_of_ones x.now) }
+    requires can { CanEmit x.now (sender_history x.now before.now m) m (key_of_ones x.now) }
     ensures message { IfOk result (λ i. i.message ≡ m) }
     ensures witness { IfOk result (IsWitness x.now before.now) }
 {

@@ -2,13 +2,13 @@ ghost use Rattle.std.specs.Prelude.{◌≡◌, ◌<◌, length, IfOk};
 ghost use Rattle.std.specs.List.{All, AllZip};
 ghost use Rattle.bspl_types.specs.Adornment.{valued};
 ghost use Rattle.bspl_types.specs.Expansion.{message_of};
-ghost use Rattle.bspl_types.specs.History.{IsRun};
+ghost use Rattle.bspl_types.specs.History.{IsRun, sender_history};
 ghost use Rattle.bspl_types.specs.Knowledge.{IsKnown};
 ghost use Rattle.role_knowledge.specs.FirstKnown.{IsFirstKnown};
-ghost use Rattle.witness_replay.specs.Witness.{key_of_ones, sender_events};
+ghost use Rattle.witness_replay.specs.Witness.{key_of_ones};
 ghost use Rattle.witness_replay.specs.inner.Values.{HasValueOf, IsInKnown};
 
-use bspl_types::{Adornment, Carried, Event, Expanded, Key, Message, Value};
+use bspl_types::{Adornment, Carried, Event, Expanded, Key, Value};
 use list_base::{NoMemory, Seq};
 use role_knowledge::knows;
 use std::alloc::Global;
@@ -29,7 +29,7 @@ pub(crate) fn values_after(
     ensures { IfOk result
         (AllZip (HasValueOf x.now before.now m) (valued (message_of x.now m).carried)) }
 {
-    let carried = message_at(x, m).carried.as_slice();
+    let carried = x.message_at(m).carried.as_slice();
     let mut values = Seq::new(alloc);
     for c in carried {
         if c.adornment.has_value() {
@@ -62,17 +62,9 @@ fn first_known(x: &Expanded, before: &[Event], key: &Key, m: u32, param: u32) ->
     requires run { IsRun x.now before.now }
     requires message { m < length x.now.messages }
     requires ones { key.now ≡ key_of_ones x.now }
-    requires known { IsKnown x.now (sender_events x.now before.now m) (key_of_ones x.now) param }
-    ensures { let history = sender_events x.now before.now m in
+    requires known { IsKnown x.now (sender_history x.now before.now m) (key_of_ones x.now) param }
+    ensures { let history = sender_history x.now before.now m in
         IsFirstKnown x.now history (key_of_ones x.now) param result }
 {
-    knows(x, before, message_at(x, m).sender, key, param).unwrap()
-}
-
-/// The message of that number.
-fn message_at(x: &Expanded, m: u32) -> &Message
-    requires { m < length x.now.messages }
-    ensures { result.now ≡ message_of x.now m }
-{
-    x.messages.at(m as usize)
+    knows(x, before, x.message_at(m).sender, key, param).unwrap()
 }

@@ -51,7 +51,7 @@ pub fn run_of(alloc: Global, a: &Admitted, s: &Assignment) -> Result<Run, NoMemo
     witness_of(alloc, Property::Safety, a, s)
 }
 
-/// The run of an assignment that satisfies the liveness clauses: it has come to rest with a public
+/// The run of an assignment that satisfies the liveness clauses: it is quiet with a public
 /// parameter unbound.
 pub fn resting_run_of(alloc: Global, a: &Admitted, s: &Assignment) -> Result<Run, NoMemory>
     requires all { variable_count (liveness_variables a.now) ≤ length s.now }

@@ -1,4 +1,4 @@
--- When one message has come to rest.
+-- When one message leaves an enactment quiet.
 use Rattle.std.specs.Prelude.{◌≡◌, ℕ, List}
 use Rattle.std.specs.List.{Contains}
 use Rattle.bspl_types.specs.declared.event.Event.{Event}

@@ -18,17 +18,17 @@ returns-then-same c =
     let e = c.args.event.now in
     let p = c.args.param in
     let v = c.args.value in
-    let i = c.instance_of-instance.result.now in
+    let i = c.instance-instance.result.now in
     let exact = c.equal_values_are_one.ensures.values in
     let message_is = get_or_from_slice_get x.messages i.message c.at.result.now no_message c.at.ensures in
     let carried_is = c.as_slice-carried.ensures ∙ sym (ap (λ m. m.carried) message_is) in
     let found : c.carries.result ≡ has_pair (pairs x (instance_of e)) p v =
     c.carries.ensures ∙ ap (λ carried. has_pair (zip (valued carried) c.as_slice.result.now) p v) carried_is
     ∙ ap (λ values. has_pair (zip (valued (message_of x i.message).carried) values) p v) c.as_slice.ensures.values
-    ∙ ap (λ j. has_pair (pairs x j) p v) c.instance_of-instance.ensures in
+    ∙ ap (λ j. has_pair (pairs x j) p v) c.instance-instance.ensures in
     elim c.if-role.branch [
       | then-role w ↦
-          let under = ap (λ j. j.key) (sym c.instance_of-instance.ensures) ∙ w.same.ensures.exact.0 (sym w.value-is ∙ c.if-same.true) in (
+          let under = ap (λ j. j.key) (sym c.instance-instance.ensures) ∙ w.same.ensures.exact.0 (sym w.value-is ∙ c.if-same.true) in (
             λ yes. let (a, carries) = pair_found exact (pairs x (instance_of e)) p v (sym found ∙ yes) in
                 record { own = sym c.role.ensures ∙ w.if-role.true; under = under; adornment = a; carries = carries },
             λ reveals. found ∙ found_pair exact (pairs x (instance_of e)) p v reveals.adornment reveals.carries,

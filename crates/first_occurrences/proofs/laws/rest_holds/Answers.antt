@@ -1,4 +1,4 @@
--- The law on enactments that have come to rest, from its lemma.
+-- The law on enactments that are quiet, from its lemma.
 use Rattle.first_occurrences.proofs.RestLemmas.{rest_satisfied}
 use Rattle.first_occurrences.proofs.laws.rest_holds.Goals as goal
 

@@ -1,4 +1,4 @@
--- The run has come to rest, so it leaves a first parameter unbound.
+-- The run is quiet, so it leaves a first parameter unbound.
 use Rattle.std.proofs.Common.{List, refl, sym, subst}
 use Rattle.bspl_types.specs.declared.event.Event.{Event}
 use Rattle.bspl_types.specs.declared.expanded.Expanded.{Expanded}
