@@ -17,6 +17,7 @@ use Rattle.refutation_log.specs.Entries.{entries}
 use Rattle.refutation_log.specs.Ledger.{Ledger, all_live, without, without_all, IsLive}
 use Rattle.refutation_log.specs.Resolution.{Folds, Derives, Runs, Accepts}
 use Rattle.log_checker.specs.declared.refusal.Reject.{Reject}
+use Rattle.log_checker.specs.FirstFailure.{AcceptedIsUnsatisfiable}
 
 -- the clause is satisfied, if there is one
 abbrev Holds : (ℕ → Bool) → Option (List Lit) → Type 0
@@ -80,13 +81,13 @@ empty_not_satisfied : (v : ℕ → Bool) → ¬ Satisfies v []
 empty_not_satisfied v holds = absurd (omega (arith, holds.2))
 
 -- no valuation satisfies a formula for which a log is accepted
-accepted_unsatisfiable : ResolventsFollow → (f : Formula) (log : Log) → Accepts f log → IsUnsatisfiable f.clauses
+pub accepted_unsatisfiable : ResolventsFollow → (f : Formula) (log : Log) → Accepts f log → IsUnsatisfiable f.clauses
 accepted_unsatisfiable follows f log accepts v all =
     let start = hold_start v f.clauses (recursion_from_All (Satisfies v) f.clauses all) in
     let derived = all_satisfied follows v (all_live f.clauses) accepts.resolves.ledger (entries log) accepts.derived start accepts.resolves.runs in
     let both = All-append (Satisfies v) f.clauses accepts.derived all (All-from_recursion (Satisfies v) accepts.derived derived) in
     empty_not_satisfied v (All-contains (Satisfies v) (f.clauses ++ accepts.derived) [] both accepts.empty)
 
-pub sound_on_ok : ResolventsFollow → (f : Formula) (log : Log) (r : Result (Unit {0}) Reject) → OnOk r (Accepts f log) → OnOk r (IsUnsatisfiable f.clauses)
-sound_on_ok follows f log (Ok done) accepts = accepted_unsatisfiable follows f log accepts
-sound_on_ok follows f log (Err reject) accepts = tt
+pub sound_on_ok : AcceptedIsUnsatisfiable → (f : Formula) (log : Log) (r : Result (Unit {0}) Reject) → OnOk r (Accepts f log) → OnOk r (IsUnsatisfiable f.clauses)
+sound_on_ok sound f log (Ok done) accepts = sound f log accepts
+sound_on_ok sound f log (Err reject) accepts = tt

@@ -2,6 +2,7 @@
 use Rattle.std.specs.Prelude.{◌≡◌, ℕ, ◌+◌, Some, List, [], ◌∷◌, ◌++◌, length, take, Contains, slice_get}
 use Rattle.clause_core.specs.declared.literal.Lit.{Lit}
 use Rattle.clause_core.specs.declared.formula.Formula.{Formula}
+use Rattle.clause_core.specs.Clause.{IsUnsatisfiable}
 use Rattle.clause_core.specs.Numbering.{Numbering, live}
 use Rattle.refutation_log.specs.declared.refutation.Chain.{Chain}
 use Rattle.refutation_log.specs.declared.refutation.Log.{Log}
@@ -61,6 +62,10 @@ FailsFirst f log (NoPivot step link) =
 FailsFirst f log (NoDrop after item) = FailsAt f.clauses (entries log) (AtDrop after item)
 FailsFirst f log NotEmpty = LacksEmpty f.clauses (entries log)
 FailsFirst f log NoMemory = ⊥
+
+-- no valuation satisfies a formula for which a log is accepted
+abbrev pub AcceptedIsUnsatisfiable : Type 0
+AcceptedIsUnsatisfiable = (f : Formula) (log : Log) → Accepts f log → IsUnsatisfiable f.clauses
 
 -- a log has one first failure at most
 abbrev pub HasOneFailure : Type 0

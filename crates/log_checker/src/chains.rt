@@ -3,7 +3,7 @@ ghost use Rattle.clause_core.specs.declared.literal.Lit.{Lit};
 ghost use Rattle.clause_core.specs.Clause.{VariablesExist};
 ghost use Rattle.clause_core.specs.Numbering.{live};
 ghost use Rattle.refutation_log.specs.Resolution.{Derives, Resolved};
-ghost use Rattle.log_checker.specs.inner.Marks.{Marks};
+ghost use Rattle.log_checker.specs.inner.Marks.{IsClear, Marks};
 ghost use Rattle.log_checker.specs.inner.Stops.{LinkStops, ChainStops};
 
 use super::clause_table::ClauseTable;
@@ -21,9 +21,7 @@ pub fn chain_clause(
     chain: &Chain,
     marks: &mut MarkTable,
 ) -> Result<Clause, ChainError>
-    requires exist { All (VariablesExist marks.old.vars)
-        (table.now.formula ++ table.now.derived) }
-    requires empty { Marks marks.old [] }
+    requires { IsClear marks.old (table.now.formula ++ table.now.derived) }
     ensures ok { IfOk result (Derives (live table.now.ledger) chain.now) }
     ensures exist { IfOk result (λ clause. VariablesExist marks.old.vars clause) }
     ensures empty { OnOk result (Marks marks.new []) }

@@ -4,9 +4,10 @@ ghost use Rattle.refutation_log.specs.Resolution.{Accepts};
 ghost use Rattle.log_checker.specs.FirstFailure.{FailsFirst};
 ghost use Rattle.log_checker.specs.inner.Stops.{LogStops};
 
+use super::laws::accepted_is_unsatisfiable;
 use super::log_run::run_log;
 use super::refusal::Reject;
-use clause_core::{Formula, resolvents_agree, resolvents_follow};
+use clause_core::{Formula, resolvents_agree};
 use refutation_log::Log;
 use std::alloc::Global;
 
@@ -23,9 +24,10 @@ pub fn check_log(alloc: Global, f: &Formula, log: &Log) -> Result<(), Reject>
     ensures rejects { result ≢ Err Reject.NoMemory →
         (e : Reject) → ((result ≡ Err e) ↔ FailsFirst f.now log.now e) }
 {
-    // laws: clauses have one resolvent on a pivot at most, and it holds wherever both do
+    // law: clauses have one resolvent on a pivot at most
     resolvents_agree();
-    resolvents_follow();
+    // law: no valuation satisfies a formula for which a log is accepted
+    accepted_is_unsatisfiable();
     checked(alloc, f, log)
 }
 

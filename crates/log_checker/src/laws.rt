@@ -1,6 +1,7 @@
 ghost use Rattle.log_checker.specs.FirstFailure.{AcceptedDoesNotFail, HasOneFailure};
+ghost use Rattle.log_checker.specs.FirstFailure.{AcceptedIsUnsatisfiable};
 
-use clause_core::resolvents_agree;
+use clause_core::{resolvents_agree, resolvents_follow};
 
 /// A law: a log is accepted or has one first failure, and not both.
 pub fn fails_once()
@@ -9,4 +10,12 @@ pub fn fails_once()
 {
     // law: clauses have one resolvent on a pivot at most
     resolvents_agree();
+}
+
+/// A law: no valuation satisfies a formula for which a log is accepted.
+pub fn accepted_is_unsatisfiable()
+    ensures { AcceptedIsUnsatisfiable }
+{
+    // law: a resolvent holds wherever both clauses do
+    resolvents_follow();
 }

@@ -12,5 +12,5 @@ mod refusal;
 mod removals;
 
 pub use checker::check_log;
-pub use laws::fails_once;
+pub use laws::{accepted_is_unsatisfiable, fails_once};
 pub use refusal::Reject;

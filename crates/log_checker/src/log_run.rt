@@ -5,7 +5,7 @@ ghost use Rattle.refutation_log.specs.Entries.{entries, steps_of};
 ghost use Rattle.refutation_log.specs.Ledger.{all_live, IsLive};
 ghost use Rattle.refutation_log.specs.Resolution.{Runs};
 ghost use Rattle.refutation_log.specs.declared.refutation.Entry.TheVariants as entry;
-ghost use Rattle.log_checker.specs.inner.Marks.{Marks};
+ghost use Rattle.log_checker.specs.inner.Marks.{IsClear};
 ghost use Rattle.log_checker.specs.inner.Stops.{EntryStops, EntriesStop, rejection};
 ghost use Rattle.log_checker.specs.inner.Table.{EntryRuns};
 
@@ -53,14 +53,9 @@ fn run_entry(
 ) -> Result<(), Reject>
     requires few { length table.old.derived
         + length (steps_of (lent_entry entry ∷ [])) < 2 ^ 32 }
-    requires exist { All (VariablesExist marks.old.vars)
-        (table.old.formula ++ table.old.derived) }
-    requires empty { Marks marks.old [] }
+    requires clear { IsClear marks.old (table.old.formula ++ table.old.derived) }
     ensures ok { OnOk result (EntryRuns table.old (lent_entry entry.entry) table.new) }
-    ensures exist { OnOk result (All (VariablesExist marks.new.vars)
-        (table.new.formula ++ table.new.derived)) }
-    ensures empty { OnOk result (Marks marks.new []) }
-    ensures vars { OnOk result (marks.new.vars ≡ marks.old.vars) }
+    ensures clear { OnOk result (IsClear marks.new (table.new.formula ++ table.new.derived)) }
     ensures err { IfErr result
         (EntryStops (length table.old.derived) table.old.ledger (lent_entry entry.entry)) }
 {
@@ -85,14 +80,9 @@ fn run_step(
     marks: &mut MarkTable,
 ) -> Result<(), Reject>
     requires few { length table.old.derived + 1 < 2 ^ 32 }
-    requires exist { All (VariablesExist marks.old.vars)
-        (table.old.formula ++ table.old.derived) }
-    requires empty { Marks marks.old [] }
+    requires clear { IsClear marks.old (table.old.formula ++ table.old.derived) }
     ensures ok { OnOk result (EntryRuns table.old (entry.Step chain.now) table.new) }
-    ensures exist { OnOk result (All (VariablesExist marks.new.vars)
-        (table.new.formula ++ table.new.derived)) }
-    ensures empty { OnOk result (Marks marks.new []) }
-    ensures vars { OnOk result (marks.new.vars ≡ marks.old.vars) }
+    ensures clear { OnOk result (IsClear marks.new (table.new.formula ++ table.new.derived)) }
     ensures err { IfErr result
         (EntryStops (length table.old.derived) table.old.ledger (entry.Step chain.now)) }
 {

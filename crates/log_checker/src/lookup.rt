@@ -1,4 +1,4 @@
-ghost use Rattle.std.specs.Prelude.{◌≡◌, ◌↔◌, [], ◌++◌, Contains, IsTrue, IfSome, IfNone};
+ghost use Rattle.std.specs.Prelude.{◌↔◌, [], ◌++◌, Contains, IsTrue, IfSome, IfNone};
 ghost use Rattle.clause_core.specs.Numbering.{numbered, HasNumber};
 ghost use Rattle.log_checker.specs.ChainFailure.{HasNoClause};
 

@@ -1,5 +1,4 @@
 -- Logs against the formula of a protocol and a property.
-use Rattle.std.specs.Prelude.{◌≡◌}
 use Rattle.bspl_types.specs.declared.expanded.Expanded.{Expanded}
 use Rattle.bspl_types.specs.declared.property.Property.{Property}
 use Rattle.bspl_types.specs.declared.property.Property.TheVariants.{Liveness, Safety}

@@ -51,8 +51,8 @@ pub fn check_safety(alloc: Global, a: &Admitted, log: &Log) -> Result<(), Reject
     check(alloc, Property::Safety, a, log)
 }
 
-/// Checks a log against the liveness formula of the protocol. If it is accepted, then at each key at
-/// which a legal run is quiet, what is public is bound.
+/// Checks a log against the liveness formula of the protocol. If it is accepted, then at each key
+/// at which a legal run is quiet, what is public is bound.
 pub fn check_liveness(alloc: Global, a: &Admitted, log: &Log) -> Result<(), Reject>
     requires { length (liveness_clauses a.now) + length log.now.steps < 2 ^ 32 }
     ensures live { OnOk result (LiveProtocol a.now) }

@@ -10,10 +10,12 @@ use Rattle.refutation_log.specs.declared.refutation.Link.{Link}
 use Rattle.refutation_log.specs.declared.refutation.Chain.{Chain}
 use Rattle.refutation_log.specs.declared.refutation.Entry.{Entry}
 use Rattle.refutation_log.specs.declared.refutation.Entry.TheVariants.{Step, Drop}
-use Rattle.refutation_log.specs.LogText.{IsInRange, StepInRange, numeral, link_fields, step_fields, drop_fields, entry_fields}
+use Rattle.refutation_log.specs.LogText.{link_fields, step_fields, drop_fields, entry_fields}
+use Rattle.refutation_log.specs.NumberRange.{IsInRange, StepInRange}
+use Rattle.list_base.specs.Numeral.{numeral}
 use Rattle.refutation_log.specs.LineParts.{IsReading, IsReadingAmong}
-use Rattle.text_lines.proofs.Numerals.{has_digits}
-use Rattle.text_lines.proofs.Separators.{Lacks, parts-join}
+use Rattle.list_base.proofs.Numerals.{has_digits}
+use Rattle.list_base.proofs.Separators.{Lacks, parts-join}
 use Rattle.refutation_log.proofs.Links.{chain_fields}
 
 numeral_lacks : (c n : ℕ) → c < 48 → Lacks c (numeral n)

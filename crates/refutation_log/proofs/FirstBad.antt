@@ -13,10 +13,12 @@ use Rattle.refutation_log.specs.declared.refutation.Entry.{Entry}
 use Rattle.refutation_log.specs.declared.refutation.Version.{Version}
 use Rattle.refutation_log.specs.declared.body.BodyLine.{BodyLine}
 use Rattle.refutation_log.specs.declared.body.BodyLine.TheVariants as body
-use Rattle.refutation_log.specs.LogText.{EntryInRange, version_name, kind_name, entry_line, header_line, end_line}
+use Rattle.refutation_log.specs.LogText.{version_name, kind_name, entry_line, header_line}
+use Rattle.refutation_log.specs.NumberRange.{EntryInRange}
+use Rattle.list_base.specs.Lines.{end_line, Line, lines_of, HasNoEnd}
 use Rattle.refutation_log.specs.LineParts.{IsReadingAmong, EntryStands, LineStands, body_of, LineInRange, refusal_of_line}
-use Rattle.refutation_log.specs.Refusal.{Line, lines_of, HasNoEnd, HasForm, AreRight, IsMisformed, IsMisnumbered, IsFirstBad, IsRefusedLog}
-use Rattle.text_lines.proofs.Separators.{Lacks, lines-then, lines-open}
+use Rattle.refutation_log.specs.Refusal.{HasForm, AreRight, IsMisformed, IsMisnumbered, IsFirstBad, IsRefusedLog}
+use Rattle.list_base.proofs.Separators.{Lacks, lines-then, lines-open}
 use Rattle.refutation_log.proofs.Fields.{entry_body}
 use Rattle.refutation_log.proofs.Spellings.{header_no_end}
 use Rattle.refutation_log.proofs.RightLines.{IsRight, front_lines, lines-front, both_right, entries_no_end, may_stand, stands_there, front_right, whole_right}

@@ -4,6 +4,7 @@ pub mod FirstBad
 pub mod LineLemmas
 pub mod Links
 pub mod LogLemmas
+pub mod NewnessLemmas
 pub mod NumberFields
 pub mod OneAnswer
 pub mod Pivots

@@ -10,7 +10,7 @@ use Rattle.refutation_log.specs.declared.refutation.Entry.TheVariants.{Step, Dro
 use Rattle.refutation_log.specs.declared.refutation.Version.{Version}
 use Rattle.refutation_log.specs.declared.refutation.Version.TheVariants.{Two}
 use Rattle.refutation_log.specs.Entries.{NamesClause}
-use Rattle.refutation_log.specs.LogText.{IsInRange, StepInRange, EntryInRange}
+use Rattle.refutation_log.specs.NumberRange.{IsInRange, StepInRange, EntryInRange}
 use Rattle.refutation_log.specs.LineParts.{IsReading, IsReadingAmong, EntryStands, LineStands, body_of, LineInRange}
 use Rattle.refutation_log.proofs.Fields.{step_body, drop_body, entry_body, NamesSome}
 

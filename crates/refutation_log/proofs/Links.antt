@@ -8,7 +8,9 @@ use Rattle.refutation_log.specs.declared.line_error.LineError.{LineError}
 use Rattle.refutation_log.specs.declared.line_error.LineError.TheVariants as errors
 use Rattle.refutation_log.specs.declared.refutation.Link.{Link}
 use Rattle.refutation_log.specs.declared.refutation.Chain.{Chain}
-use Rattle.refutation_log.specs.LogText.{IsInRange, LinkInRange, StepInRange, numeral, pivot_text, link_fields}
+use Rattle.refutation_log.specs.LogText.{pivot_text, link_fields}
+use Rattle.refutation_log.specs.NumberRange.{IsInRange, LinkInRange, StepInRange}
+use Rattle.list_base.specs.Numeral.{numeral}
 use Rattle.refutation_log.specs.LineParts.{IsReading}
 use Rattle.refutation_log.proofs.Pivots.{PivotInRange}
 use Rattle.refutation_log.proofs.Readings.{IsJoined}

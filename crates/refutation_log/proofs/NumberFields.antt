@@ -4,7 +4,8 @@ use Rattle.std.proofs.lemmas.List.{append_assoc, append-nil, map-append, get_or_
 use Rattle.std.proofs.lemmas.List.Elements.{All-nil, All-push}
 use Rattle.refutation_log.specs.declared.line_error.LineError.{LineError}
 use Rattle.refutation_log.specs.declared.line_error.LineError.TheVariants as errors
-use Rattle.refutation_log.specs.LogText.{IsInRange, numeral}
+use Rattle.refutation_log.specs.NumberRange.{IsInRange}
+use Rattle.list_base.specs.Numeral.{numeral}
 use Rattle.refutation_log.specs.LineParts.{IsReading}
 
 -- some numbers were read, and this is left; they are kept while all are in range

@@ -10,10 +10,12 @@ use Rattle.refutation_log.specs.declared.refusal.LogRefusal.TheVariants.{Form, N
 use Rattle.refutation_log.specs.declared.refutation.Kind.{Kind}
 use Rattle.refutation_log.specs.declared.refutation.Version.{Version}
 use Rattle.refutation_log.specs.declared.refutation.Log.{Log}
-use Rattle.refutation_log.specs.LogText.{EntryInRange, IsTextOf, header_line, entry_line, end_line, versioned_text}
+use Rattle.refutation_log.specs.LogText.{IsTextOf, header_line, entry_line, versioned_text}
+use Rattle.refutation_log.specs.NumberRange.{EntryInRange}
+use Rattle.list_base.specs.Lines.{end_line, Line, lines_of, HasNoEnd}
 use Rattle.refutation_log.specs.Entries.{entries}
 use Rattle.refutation_log.proofs.LogLemmas.{same_from_entries, log_stands}
-use Rattle.refutation_log.specs.Refusal.{Line, lines_of, HasNoEnd, HasForm, HasBadNumber, IsMisformed, IsMisnumbered, IsFirstBad, IsRefusedLog, Answers}
+use Rattle.refutation_log.specs.Refusal.{HasForm, HasBadNumber, IsMisformed, IsMisnumbered, IsFirstBad, IsRefusedLog, Answers}
 use Rattle.refutation_log.proofs.Spellings.{same_from_entry_lines, same_from_header_line}
 use Rattle.refutation_log.proofs.RightLines.{front_lines, lines-front, both_right, whole_right}
 

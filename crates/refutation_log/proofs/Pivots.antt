@@ -1,8 +1,10 @@
 -- A pivot is read from a numeral, after a minus sign or without one.
 use Rattle.std.proofs.Common.{◌≡◌, ℕ, Bool, true, false, cond, List, ◌∷◌, drop, sym, ap, ◌∙◌, arith}
 use Rattle.clause_core.specs.declared.literal.Lit.{Lit}
-use Rattle.refutation_log.specs.LogText.{IsInRange, numeral, pivot_text}
-use Rattle.text_lines.proofs.Numerals.{has_digits}
+use Rattle.refutation_log.specs.LogText.{pivot_text}
+use Rattle.refutation_log.specs.NumberRange.{IsInRange}
+use Rattle.list_base.specs.Numeral.{numeral}
+use Rattle.list_base.proofs.Numerals.{has_digits}
 use Rattle.refutation_log.proofs.Readings.{IsPartOf}
 
 abbrev pub PivotInRange : Lit → Type 0

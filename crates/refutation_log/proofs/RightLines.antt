@@ -9,10 +9,12 @@ use Rattle.refutation_log.specs.declared.refutation.Entry.{Entry}
 use Rattle.refutation_log.specs.declared.refutation.Entry.TheVariants.{Step, Drop}
 use Rattle.refutation_log.specs.declared.refutation.Version.{Version}
 use Rattle.refutation_log.specs.declared.refutation.Version.TheVariants.{One, Two}
-use Rattle.refutation_log.specs.LogText.{EntryInRange, entry_fields, entry_line, header_line, end_line}
-use Rattle.refutation_log.specs.Refusal.{Line, lines_of, HasNoEnd, MayStand, HasForm, HasBadNumber, AreRight}
+use Rattle.refutation_log.specs.LogText.{entry_fields, entry_line, header_line}
+use Rattle.refutation_log.specs.NumberRange.{EntryInRange}
+use Rattle.list_base.specs.Lines.{end_line, Line, lines_of, HasNoEnd}
+use Rattle.refutation_log.specs.Refusal.{MayStand, HasForm, HasBadNumber, AreRight}
 use Rattle.refutation_log.specs.LineParts.{EntryStands}
-use Rattle.text_lines.proofs.Separators.{Lacks, lines-then}
+use Rattle.list_base.proofs.Separators.{Lacks, lines-then}
 use Rattle.refutation_log.proofs.Fields.{entry_body, entry_lacks}
 use Rattle.refutation_log.proofs.Spellings.{same_from_entry_line, same_from_header_line, header_no_entry, entry_no_end}
 

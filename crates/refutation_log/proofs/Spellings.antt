@@ -12,8 +12,10 @@ use Rattle.refutation_log.specs.declared.refutation.Entry.{Entry}
 use Rattle.refutation_log.specs.declared.refutation.Entry.TheVariants.{Step, Drop}
 use Rattle.refutation_log.specs.declared.refutation.Version.{Version}
 use Rattle.refutation_log.specs.declared.refutation.Version.TheVariants.{One, Two}
-use Rattle.refutation_log.specs.LogText.{numeral, pivot_text, link_fields, step_fields, entry_fields, entry_line, header_line, end_line}
-use Rattle.text_lines.proofs.Numerals.{same_from_numeral}
+use Rattle.refutation_log.specs.LogText.{pivot_text, link_fields, step_fields, entry_fields, entry_line, header_line}
+use Rattle.list_base.specs.Numeral.{numeral}
+use Rattle.list_base.specs.Lines.{end_line}
+use Rattle.list_base.proofs.Numerals.{same_from_numeral}
 use Rattle.refutation_log.proofs.Pivots.{no_minus}
 use Rattle.refutation_log.proofs.Fields.{entry_body, parts-entry}
 

@@ -6,7 +6,8 @@ use Rattle.refutation_log.specs.declared.refutation.Entry.{Entry}
 use Rattle.refutation_log.specs.declared.refutation.Entry.TheVariants.{Step, Drop}
 use Rattle.refutation_log.specs.declared.refutation.Log.{Log}
 use Rattle.refutation_log.specs.Entries.{entries, steps_of}
-use Rattle.refutation_log.specs.LogText.{IsTextOf, end_line, header_line, entry_fields, entry_line}
+use Rattle.refutation_log.specs.LogText.{IsTextOf, header_line, entry_fields, entry_line}
+use Rattle.list_base.specs.Lines.{end_line}
 use Rattle.refutation_log.proofs.LogLemmas.{log_steps}
 
 -- the line of each entry has its LF

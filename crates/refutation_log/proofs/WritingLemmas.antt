@@ -5,7 +5,9 @@ use Rattle.std.proofs.lemmas.List.{append_assoc, append-nil, map-append}
 use Rattle.std.proofs.lemmas.Grind.{flat_map-append}
 use Rattle.refutation_log.specs.declared.refutation.Link.{Link}
 use Rattle.refutation_log.specs.declared.refutation.Chain.{Chain}
-use Rattle.refutation_log.specs.LogText.{numeral, link_fields, step_fields, drop_fields, line_of}
+use Rattle.refutation_log.specs.LogText.{link_fields, step_fields, drop_fields}
+use Rattle.list_base.specs.Numeral.{numeral}
+use Rattle.list_base.specs.Lines.{line_of}
 use Rattle.refutation_log.specs.inner.LineFields.{spaced}
 
 -- fields with a space between them are the first one and the others, each after a space

@@ -11,8 +11,8 @@ use Rattle.refutation_log.specs.declared.refutation.Entry.{Entry}
 use Rattle.refutation_log.specs.declared.refutation.Entry.TheVariants.{Step, Drop}
 use Rattle.refutation_log.specs.declared.refutation.Version.{Version}
 use Rattle.refutation_log.specs.declared.refutation.Version.TheVariants.{Two}
-use Rattle.refutation_log.specs.LogText.{EntryInRange, entry_fields}
-pub use Rattle.text_lines.specs.Lines.{parts_in}
+use Rattle.refutation_log.specs.LogText.{entry_fields}
+use Rattle.refutation_log.specs.NumberRange.{EntryInRange}
 
 -- the part spells the value read, which is in range; or it spells none; or one out of range
 abbrev pub IsReading : {A X : Type 0} → (A → X) → (A → Type 0) → X → Result A LineError → Type 0

@@ -13,8 +13,8 @@ use Rattle.refutation_log.specs.declared.refutation.Entry.TheVariants.{Step, Dro
 use Rattle.refutation_log.specs.declared.refutation.Version.{Version}
 use Rattle.refutation_log.specs.declared.refutation.Version.TheVariants.{One, Two}
 use Rattle.refutation_log.specs.Entries.{entries}
-pub use Rattle.text_lines.specs.Decimal.{numeral}
-pub use Rattle.text_lines.specs.Lines.{line_of, end_line}
+pub use Rattle.list_base.specs.Numeral.{numeral}
+pub use Rattle.list_base.specs.Lines.{line_of, end_line}
 pub use Rattle.refutation_log.specs.NumberRange.{IsInRange, LinkInRange, StepInRange, EntryInRange, LogInRange}
 
 -- a pivot is its variable, after a minus sign where it is the negation

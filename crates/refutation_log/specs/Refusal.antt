@@ -8,9 +8,9 @@ use Rattle.refutation_log.specs.declared.refutation.Version.TheVariants.{Two}
 use Rattle.refutation_log.specs.declared.refutation.Log.{Log}
 use Rattle.refutation_log.specs.declared.refusal.LogRefusal.{LogRefusal}
 use Rattle.refutation_log.specs.declared.refusal.LogRefusal.TheVariants.{Form, Number, NoMemory}
-use Rattle.refutation_log.specs.LogText.{EntryInRange, header_line, entry_line}
-use Rattle.text_lines.specs.Lines.{end_line}
-pub use Rattle.text_lines.specs.Lines.{Line, lines_of, HasNoEnd}
+use Rattle.refutation_log.specs.LogText.{header_line, entry_line}
+use Rattle.refutation_log.specs.NumberRange.{EntryInRange}
+use Rattle.list_base.specs.Lines.{Line, lines_of, HasNoEnd, end_line}
 
 -- after this header: a removal names a clause, and needs version 2
 abbrev pub MayStand : Line → Entry → Type 0

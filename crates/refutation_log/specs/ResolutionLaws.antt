@@ -1,6 +1,7 @@
 -- Laws of what a log derives.
-use Rattle.std.specs.Prelude.{◌≡◌, ℕ, ◌↔◌, List, [], ◌∷◌, ◌++◌, length}
+use Rattle.std.specs.Prelude.{◌≡◌, ℕ, ◌↔◌, List, [], ◌∷◌, ◌++◌, length, Contains}
 use Rattle.clause_core.specs.declared.literal.Lit.{Lit}
+use Rattle.clause_core.specs.Literal.{negated}
 use Rattle.clause_core.specs.declared.formula.Formula.{Formula}
 use Rattle.clause_core.specs.Numbering.{numbered}
 use Rattle.refutation_log.specs.declared.refutation.Chain.{Chain}
@@ -47,3 +48,16 @@ abbrev pub StepsAreCounted : Type 0
 StepsAreCounted =
     (f : Formula) (log : Log) (derived : List (List Lit)) →
     LogResolves f log derived → length derived ≡ length log.steps
+
+-- the clause has no literal together with its negation, and contains no earlier clause
+pub record IsIrredundant (earlier : List (List Lit)) (clause : List Lit) : Type 0 where
+  pub no_opposites : (l : Lit) → Contains clause l → ¬ Contains clause (negated l)
+  pub contains_none : (other : List Lit) → Contains earlier other →
+      ¬ ((l : Lit) → Contains other l → Contains clause l)
+
+-- each clause of a new log is, after those of the formula and the derived ones before it
+abbrev pub NewClausesAreIrredundant : Type 0
+NewClausesAreIrredundant =
+    (f : Formula) (log : Log) (new : IsNew f log) (before after : List (List Lit))
+    (clause : List Lit) → new.derived ≡ before ++ clause ∷ after →
+    IsIrredundant (f.clauses ++ before) clause

@@ -4,7 +4,8 @@ use Rattle.refutation_log.specs.declared.refutation.Kind.{Kind}
 use Rattle.refutation_log.specs.declared.refutation.Log.{Log}
 use Rattle.refutation_log.specs.declared.refusal.LogRefusal.{LogRefusal}
 use Rattle.refutation_log.specs.declared.refusal.LogRefusal.TheVariants.{NoMemory}
-use Rattle.refutation_log.specs.LogText.{LogInRange, IsTextOf, log_text}
+use Rattle.refutation_log.specs.LogText.{IsTextOf, log_text}
+use Rattle.refutation_log.specs.NumberRange.{LogInRange}
 use Rattle.refutation_log.specs.Refusal.{IsRefusedLog}
 
 -- what is written of a log is a text of it

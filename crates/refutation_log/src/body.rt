@@ -1,6 +1,7 @@
 ghost use Rattle.std.specs.Prelude.{All};
 ghost use Rattle.std.specs.List.{join_with_byte};
-ghost use Rattle.refutation_log.specs.LogText.{IsInRange, EntryInRange, entry_fields, drop_fields};
+ghost use Rattle.refutation_log.specs.LogText.{entry_fields, drop_fields};
+ghost use Rattle.refutation_log.specs.NumberRange.{IsInRange, EntryInRange};
 ghost use Rattle.refutation_log.specs.declared.refutation.Entry.TheVariants as entry;
 ghost use Rattle.refutation_log.specs.LineParts.{IsReadingAmong, EntryStands};
 ghost use Rattle.refutation_log.specs.LineParts.{LineStands, body_of, LineInRange};

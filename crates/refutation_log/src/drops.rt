@@ -1,9 +1,10 @@
-ghost use Rattle.std.specs.Prelude.{◌≡◌, ◌≢◌, ◌∷◌, [], All, Some, map};
+ghost use Rattle.std.specs.Prelude.{◌≢◌, [], All, Some, map};
 ghost use Rattle.std.specs.List.{join_with_byte};
-ghost use Rattle.refutation_log.specs.LogText.{IsInRange, drop_fields};
+ghost use Rattle.refutation_log.specs.LogText.{drop_fields};
+ghost use Rattle.refutation_log.specs.NumberRange.{IsInRange};
 ghost use Rattle.refutation_log.specs.LineParts.{IsReading, IsReadingAmong};
-ghost use Rattle.text_lines.specs.Decimal.{numeral};
-ghost use Rattle.text_lines.specs.Lines.{parts_in};
+ghost use Rattle.list_base.specs.Numeral.{numeral};
+ghost use Rattle.list_base.specs.Lines.{parts_in};
 
 use super::line_error::LineError;
 use super::numbers::number_of;

@@ -1,7 +1,7 @@
 ghost use Rattle.refutation_log.specs.Ledger.{IsLive, IsContaining};
 ghost use Rattle.refutation_log.specs.ResolutionLaws.{StepsAppend, NewClausesAppend, RunsAppend};
 ghost use Rattle.refutation_log.specs.ResolutionLaws.{PlainLogsResolve, NewLogsResolve};
-ghost use Rattle.refutation_log.specs.ResolutionLaws.{StepsAreCounted};
+ghost use Rattle.refutation_log.specs.ResolutionLaws.{NewClausesAreIrredundant, StepsAreCounted};
 ghost use Rattle.refutation_log.specs.TextLaws.{LogIsNotRefused, StepsAreFewerThanBytes};
 ghost use Rattle.refutation_log.specs.TextLaws.{TextHasOneLog, TextHasOneRefusal, WrittenTextsAreTexts};
 
@@ -30,6 +30,12 @@ pub fn plain_resolves()
 /// A law: a new log resolves.
 pub fn new_resolves()
     ensures { NewLogsResolve }
+{}
+
+/// A law: no clause of a new log contains a clause of the formula or one derived before it, or a
+/// literal together with its negation.
+pub fn new_clauses_are_irredundant()
+    ensures { NewClausesAreIrredundant }
 {}
 
 /// A law: a log that resolves derives a clause for each step.

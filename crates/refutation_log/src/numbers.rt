@@ -1,7 +1,8 @@
 ghost use Rattle.std.specs.Prelude.{IsErrOf};
-ghost use Rattle.refutation_log.specs.LogText.{IsInRange, pivot_text};
+ghost use Rattle.refutation_log.specs.LogText.{pivot_text};
+ghost use Rattle.refutation_log.specs.NumberRange.{IsInRange};
 ghost use Rattle.refutation_log.specs.LineParts.{IsReading};
-ghost use Rattle.text_lines.specs.Decimal.{numeral};
+ghost use Rattle.list_base.specs.Numeral.{numeral};
 
 use super::line_error::LineError;
 use clause_core::Lit;

@@ -4,9 +4,10 @@ ghost use Rattle.refutation_log.specs.declared.refutation.Kind.{Kind};
 ghost use Rattle.refutation_log.specs.declared.refutation.Log.{Log};
 ghost use Rattle.refutation_log.specs.Entries.{entries};
 ghost use Rattle.refutation_log.specs.declared.refusal.LogRefusal.{LogRefusal};
-ghost use Rattle.refutation_log.specs.LogText.{LogInRange, IsTextOf, header_line, entry_line};
+ghost use Rattle.refutation_log.specs.LogText.{IsTextOf, header_line, entry_line};
+ghost use Rattle.refutation_log.specs.NumberRange.{LogInRange};
 ghost use Rattle.refutation_log.specs.Refusal.{IsRefusedLog, Answers};
-ghost use Rattle.text_lines.specs.Lines.{end_line};
+ghost use Rattle.list_base.specs.Lines.{end_line};
 
 use super::body::{BodyLine, body_line};
 use super::header::header_of;

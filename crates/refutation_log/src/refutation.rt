@@ -3,12 +3,12 @@ ghost use Rattle.refutation_log.specs.RemovalOrder.{IsInOrder};
 use clause_core::Lit;
 use list_base::{NumberList, Seq};
 
-/// What is refuted by a log: that a protocol is not safe, or that it is not live.
+/// The property that a log proves of a protocol, by refuting the formula of its violations.
 #[derive(Clone, Copy, Debug, PartialEq, Eq)]
 pub enum Kind {
-    /// That it is not safe.
+    /// Safety: no legal run has two producers of one parameter under one key, and the roles agree.
     Safety,
-    /// That it is not live.
+    /// Liveness: where a legal run is quiet, each public parameter with a value is bound.
     Liveness,
 }
 

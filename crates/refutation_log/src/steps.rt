@@ -1,10 +1,11 @@
-ghost use Rattle.std.specs.Prelude.{◌≡◌, ◌≢◌, [], ◌∷◌, All, Some, map};
+ghost use Rattle.std.specs.Prelude.{[], ◌∷◌, All, Some};
 ghost use Rattle.std.specs.List.{flat_map, join_with_byte};
 ghost use Rattle.std.specs.Option.{option_copied};
-ghost use Rattle.refutation_log.specs.LogText.{IsInRange, LinkInRange, StepInRange, link_fields, step_fields};
+ghost use Rattle.refutation_log.specs.LogText.{link_fields, step_fields};
+ghost use Rattle.refutation_log.specs.NumberRange.{LinkInRange, StepInRange};
 ghost use Rattle.refutation_log.specs.LineParts.{IsReading};
-ghost use Rattle.text_lines.specs.Decimal.{numeral};
-ghost use Rattle.text_lines.specs.Lines.{parts_in};
+ghost use Rattle.list_base.specs.Numeral.{numeral};
+ghost use Rattle.list_base.specs.Lines.{parts_in};
 
 use super::line_error::LineError;
 use super::numbers::{number_of, pivot_of};

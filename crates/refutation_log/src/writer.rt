@@ -1,10 +1,10 @@
-ghost use Rattle.std.specs.Prelude.{◌≡◌, ◌+◌, ◌∷◌, ◌++◌, IfOk, OnOk};
+ghost use Rattle.std.specs.Prelude.{◌≡◌, ◌+◌, ◌++◌, IfOk, OnOk};
 ghost use Rattle.refutation_log.specs.Cursor.{lent_entry};
-ghost use Rattle.refutation_log.specs.LogText.{LogInRange, log_text, pivot_text, link_fields};
+ghost use Rattle.refutation_log.specs.LogText.{log_text, pivot_text, link_fields};
+ghost use Rattle.refutation_log.specs.NumberRange.{LogInRange};
 ghost use Rattle.refutation_log.specs.LogText.{step_fields, drop_fields, entry_line};
 ghost use Rattle.refutation_log.specs.inner.LineFields.{spaced};
-ghost use Rattle.text_lines.specs.Decimal.{numeral};
-ghost use Rattle.text_lines.specs.Lines.{line_of};
+ghost use Rattle.list_base.specs.Lines.{line_of};
 
 use super::header::title;
 use super::log_cursor::EntryRef;
@@ -47,7 +47,7 @@ fn push_drop(text: &mut Bytes, numbers: &[u32]) -> Result<(), NoMemory>
     text.append(b"drop")?;
     for number in numbers {
         text.push(b' ')?;
-        push_number(text, *number)?;
+        push_decimal(text, u64::from(*number))?;
     }
     text.push(b'\n')
 }
@@ -57,7 +57,7 @@ fn push_step(text: &mut Bytes, step: &Chain) -> Result<(), NoMemory>
     ensures { OnOk result (text.new ≡ text.old ++ line_of (step_fields step.now)) }
 {
     text.append(b"step ")?;
-    push_number(text, step.first)?;
+    push_decimal(text, u64::from(step.first))?;
     for link in step.links.as_slice() {
         push_link(text, *link)?;
     }
@@ -71,7 +71,7 @@ fn push_link(text: &mut Bytes, link: Link) -> Result<(), NoMemory>
     text.push(b' ')?;
     push_pivot(text, link.pivot)?;
     text.push(b' ')?;
-    push_number(text, link.clause)
+    push_decimal(text, u64::from(link.clause))
 }
 
 /// Appends the literal, with a minus sign if it is a negation. If memory runs out, a part of it may
@@ -82,12 +82,5 @@ pub fn push_pivot(text: &mut Bytes, pivot: Lit) -> Result<(), NoMemory>
     if !pivot.positive {
         text.push(b'-')?;
     }
-    push_number(text, pivot.var)
-}
-
-/// Appends the number in decimal. If memory runs out, a part of it may have been appended.
-pub fn push_number(text: &mut Bytes, number: u32) -> Result<(), NoMemory>
-    ensures { OnOk result (text.new ≡ text.old ++ numeral number) }
-{
-    push_decimal(text, u64::from(number))
+    push_decimal(text, u64::from(pivot.var))
 }

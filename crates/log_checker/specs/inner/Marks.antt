@@ -1,5 +1,5 @@
 -- A table with a mark for each literal, and what it says of a clause.
-use Rattle.std.specs.Prelude.{◌≡◌, ◌≢◌, ℕ, ◌+◌, ◌*◌, ◌↔◌, ◌⊎◌, Bool, false, IsTrue, List, length}
+use Rattle.std.specs.Prelude.{◌≡◌, ◌≢◌, ℕ, ◌+◌, ◌*◌, ◌↔◌, ◌⊎◌, Bool, false, IsTrue, List, [], All, length}
 use Rattle.std.specs.Prelude.{Contains, slice_index_or}
 use Rattle.clause_core.specs.declared.literal.Lit.{Lit}
 use Rattle.clause_core.specs.Clause.{VariablesExist}
@@ -18,6 +18,11 @@ IsMarked table l = IsTrue (slice_index_or table.cells (rank l) false)
 -- the marked literals are exactly those of the clause
 pub record Marks (table : MarkCells) (clause : List Lit) : Type 0 where
   pub exactly : (l : Lit) → IsMarked table l ↔ Contains clause l
+
+-- nothing is marked, and the clauses are over the variables of the marks
+pub record IsClear (table : MarkCells) (clauses : List (List Lit)) : Type 0 where
+  pub exist : All (VariablesExist table.vars) clauses
+  pub empty : Marks table []
 
 -- the literals of the clause were marked too
 pub record AddsMarks (old : MarkCells) (clause : List Lit) (new : MarkCells) : Type 0 where

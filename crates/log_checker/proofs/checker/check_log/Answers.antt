@@ -4,7 +4,7 @@ use Rattle.log_checker.proofs.Soundness.{sound_on_ok}
 use Rattle.log_checker.proofs.checker.check_log.Goals as goal
 
 pub returns-clause-sound : goal.returns-clause-sound
-returns-clause-sound c = sound_on_ok c.resolvents_follow.ensures _ _ _ c.checked.ensures.ok
+returns-clause-sound c = sound_on_ok c.accepted_is_unsatisfiable.ensures _ _ _ c.checked.ensures.ok
 
 pub returns-clause-accepts : goal.returns-clause-accepts
 returns-clause-accepts c = accepts_exactly c.resolvents_agree.ensures _ _ _ c.checked.ensures.err

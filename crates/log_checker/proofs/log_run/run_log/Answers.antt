@@ -11,6 +11,5 @@ loop-entry-preserved c =
     record {
       run = has_run_more c.entries_append.ensures.live c.args.formula.now (entries c.args.log.now) c.next.new.self _ c.loop-entry.table c.run_entry.new.table run more.ok;
       counted = counted_more _ c.next.new.self c.loop-entry.table c.run_entry.new.table _ counted more.ok;
-      exist = more.exist;
-      empty = more.empty;
+      clear = more.clear;
     }

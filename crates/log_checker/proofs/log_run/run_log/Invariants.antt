@@ -1,8 +1,7 @@
 -- What the walk along the entries keeps.
-use Rattle.std.proofs.Common.{◌≡◌, ◌+◌, [], ◌++◌, All, length}
-use Rattle.clause_core.specs.Clause.{VariablesExist}
+use Rattle.std.proofs.Common.{◌≡◌, ◌+◌, ◌++◌, length}
 use Rattle.refutation_log.specs.Entries.{entries, steps_of}
-use Rattle.log_checker.specs.inner.Marks.{Marks}
+use Rattle.log_checker.specs.inner.Marks.{IsClear}
 use Rattle.log_checker.proofs.RunningLog.{HasRun}
 use Rattle.log_checker.proofs.log_run.run_log.Given as goal
 
@@ -11,8 +10,7 @@ abbrev pub invariant-loop-entry : goal.invariant-loop-entry
 invariant-loop-entry l = record {
   run : HasRun l.formula (entries l.log) l.entries l.table;
   counted : length l.table.derived + length (steps_of l.entries) ≡ length l.log.steps;
-  exist : All (VariablesExist l.marks.vars) (l.table.formula ++ l.table.derived);
-  empty : Marks l.marks [];
+  clear : IsClear l.marks (l.table.formula ++ l.table.derived);
 }
 
 -- the entries that are left

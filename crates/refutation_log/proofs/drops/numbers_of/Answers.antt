@@ -1,7 +1,7 @@
 -- One field more is read, and what is wrong with it is wrong with the numbers.
 use Rattle.std.proofs.Common.{rules, ◌≢◌, Some}
 use Rattle.refutation_log.specs.declared.line_error.LineError.TheVariants as errors
-use Rattle.text_lines.specs.Lines.{parts_in}
+use Rattle.list_base.specs.Lines.{parts_in}
 use Rattle.refutation_log.proofs.NumberFields.{no_field, number_read, bad_number_read}
 use Rattle.refutation_log.proofs.drops.numbers_of.Goals as goal
 

@@ -1,7 +1,7 @@
 -- What has been read of a removal.
 use Rattle.std.proofs.Common.{length, Some}
 use Rattle.std.specs.Option.{option_copied}
-use Rattle.text_lines.specs.Lines.{parts_in}
+use Rattle.list_base.specs.Lines.{parts_in}
 use Rattle.refutation_log.proofs.NumberFields.{NumbersRead}
 use Rattle.refutation_log.proofs.drops.numbers_of.Given as goal
 

@@ -3,7 +3,9 @@ use Rattle.std.proofs.Common.{codes}
 use Rattle.std.proofs.lemmas.Bool.Decides.{Decides-eqb}
 use Rattle.std.proofs.lemmas.Slice.Eq.{strip_prefix_is}
 use Rattle.std.proofs.lemmas.Result.{err_from_is_err_and}
-use Rattle.refutation_log.specs.LogText.{IsInRange, numeral, pivot_text}
+use Rattle.refutation_log.specs.LogText.{pivot_text}
+use Rattle.refutation_log.specs.NumberRange.{IsInRange}
+use Rattle.list_base.specs.Numeral.{numeral}
 use Rattle.refutation_log.proofs.Readings.{error_of_whole}
 use Rattle.refutation_log.proofs.Pivots.{PivotInRange, negative_field, positive_field}
 use Rattle.refutation_log.proofs.numbers.pivot_of.Goals as goal

@@ -4,7 +4,8 @@ use Rattle.std.specs.List.{flat_map}
 use Rattle.std.proofs.lemmas.List.{append_assoc}
 use Rattle.std.proofs.lemmas.Result.{err_from_is_err_and}
 use Rattle.refutation_log.specs.Entries.{entries}
-use Rattle.refutation_log.specs.LogText.{header_line, entry_line, end_line}
+use Rattle.refutation_log.specs.LogText.{header_line, entry_line}
+use Rattle.list_base.specs.Lines.{end_line}
 use Rattle.refutation_log.proofs.FirstBad.{open_text_refused, no_header_refused, header_then}
 use Rattle.refutation_log.proofs.reader.log_of.Goals as goal
 

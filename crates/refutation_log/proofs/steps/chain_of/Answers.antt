@@ -2,7 +2,9 @@
 use Rattle.std.proofs.Common.{All}
 use Rattle.std.proofs.lemmas.Result.{err_from_is_err_and}
 use Rattle.std.specs.List.{flat_map}
-use Rattle.refutation_log.specs.LogText.{IsInRange, LinkInRange, StepInRange, numeral, link_fields}
+use Rattle.refutation_log.specs.LogText.{link_fields}
+use Rattle.refutation_log.specs.NumberRange.{IsInRange, LinkInRange, StepInRange}
+use Rattle.list_base.specs.Numeral.{numeral}
 use Rattle.refutation_log.proofs.Readings.{error_of_second, number_of_first}
 use Rattle.refutation_log.proofs.Links.{chain_fields, chain_joined}
 use Rattle.refutation_log.proofs.steps.chain_of.Goals as goal

@@ -1,6 +1,8 @@
 -- What is wrong with the pivot or with the clause is wrong with the link.
 use Rattle.std.proofs.lemmas.Result.{err_from_is_err_and}
-use Rattle.refutation_log.specs.LogText.{IsInRange, LinkInRange, numeral, pivot_text, link_fields}
+use Rattle.refutation_log.specs.LogText.{pivot_text, link_fields}
+use Rattle.refutation_log.specs.NumberRange.{IsInRange, LinkInRange}
+use Rattle.list_base.specs.Numeral.{numeral}
 use Rattle.refutation_log.proofs.Readings.{error_of_second, number_of_first}
 use Rattle.refutation_log.proofs.Pivots.{PivotInRange}
 use Rattle.refutation_log.proofs.Links.{link_joined}

@@ -2,7 +2,7 @@
 use Rattle.std.proofs.Common.{rules, ◌≢◌}
 use Rattle.std.specs.Option.{option_copied}
 use Rattle.refutation_log.specs.declared.line_error.LineError.TheVariants as errors
-use Rattle.text_lines.specs.Lines.{parts_in}
+use Rattle.list_base.specs.Lines.{parts_in}
 use Rattle.refutation_log.proofs.Links.{odd_field, no_link, link_read, bad_link_read}
 use Rattle.refutation_log.proofs.steps.links_of.Goals as goal
 

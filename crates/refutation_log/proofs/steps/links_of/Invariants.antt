@@ -1,7 +1,7 @@
 -- What has been read of a step.
 use Rattle.std.proofs.Common.{length}
 use Rattle.std.specs.Option.{option_copied}
-use Rattle.text_lines.specs.Lines.{parts_in}
+use Rattle.list_base.specs.Lines.{parts_in}
 use Rattle.refutation_log.proofs.Links.{AreRead}
 use Rattle.refutation_log.proofs.steps.links_of.Given as goal
 
