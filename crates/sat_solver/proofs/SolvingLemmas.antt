@@ -193,30 +193,19 @@ few-learned f t steps budget known short few =
 
 -- nothing is learned yet
 pub IsLearning-start : (f : Formula) (l : Learner) → ¬ Contains f.clauses [] → IsNewLearner f l → IsLearning f l
-IsLearning-start f l no_empty new = record {
-  learned = subst (HasLearned f l.trail) (sym new.steps) (HasLearned-start f l.trail no_empty new.start new.sound);
-  lits = new.lits;
-  rule = new.rule;
-}
+IsLearning-start f l no_empty new = subst (HasLearned f l.trail) (sym new.steps) (HasLearned-start f l.trail no_empty new.start new.sound)
 
 -- a search changes no clause and no step
-pub IsLearning-search : (f : Formula) (l new : Learner) → IsLearning f l → KeepsClauses l.trail new.trail → new.steps ≡ l.steps → new.lits ≡ l.lits → new.rule.vars ≡ l.rule.vars → IsLearning f new
-IsLearning-search f l new known keeps steps lits rule = record {
-  learned = subst (HasLearned f new.trail) (sym steps) (HasLearned-search f l.trail new.trail l.steps known.learned keeps);
-  lits = ap (λ m. m.set.vars) lits ∙ known.lits ∙ sym keeps.vars;
-  rule = rule ∙ known.rule ∙ sym keeps.vars;
-}
+pub IsLearning-search : (f : Formula) (l new : Learner) → IsLearning f l → KeepsClauses l.trail new.trail → new.steps ≡ l.steps → IsLearning f new
+IsLearning-search f l new known keeps steps = subst (HasLearned f new.trail) (sym steps) (HasLearned-search f l.trail new.trail l.steps known keeps)
 
 -- a clause is learned at a conflict
 pub IsLearning-learn : (f : Formula) (l new : Learner) → StepsAppend → NewClausesAppend → IsLearning f l → 0 < l.trail.level → LearnsOne l new → IsLearning f new
-IsLearning-learn f l new derives_more new_more known above one = record {
-  learned = subst (HasLearned f new.trail) (sym one.steps) (HasLearned-learn f l.trail new.trail l.steps one.chain derives_more new_more known.learned above one.learns);
-  lits = one.lits ∙ sym (ap (λ (s : State). s.vars) one.learns.adds.rest);
-  rule = one.rule ∙ known.rule ∙ sym (ap (λ (s : State). s.vars) one.learns.adds.rest);
-}
+IsLearning-learn f l new derives_more new_more known above one =
+    subst (HasLearned f new.trail) (sym one.steps) (HasLearned-learn f l.trail new.trail l.steps one.chain derives_more new_more known above one.learns)
 
 -- a learner's log, once it has the last step, refutes the formula
 pub Refutes-by : PlainLaws → (f : Formula) (l new : Learner) (log : Log) (budget number : ℕ) → StepsAppend → NewClausesAppend → IsLearning f l → length l.steps < budget → RefutesBy number l new → IsPlain new.steps log → Refutes f budget log
 Refutes-by laws f l new log budget number derives_more new_more known short by plain =
     Refutes-learned laws f l.trail l.steps log budget number by.chain by.clause derives_more new_more
-    (record { same = plain.same ∙ by.steps; none = plain.none }) known.learned short by.refuted
+    (record { same = plain.same ∙ by.steps; none = plain.none }) known short by.refuted

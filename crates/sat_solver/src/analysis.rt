@@ -3,7 +3,6 @@ ghost use Rattle.clause_core.specs.Clause.{VariablesExist};
 ghost use Rattle.clause_core.specs.Propagation.{IsFalsified};
 ghost use Rattle.sat_trail.specs.Entry.{values_of};
 ghost use Rattle.sat_trail.specs.State.{numbering_of};
-ghost use Rattle.sat_trail.specs.Trail.{IsTrail};
 ghost use Rattle.sat_solver.specs.inner.Analysis.{IsLearned, IsLowerLevel, Refuted, HasReason};
 ghost use Rattle.sat_solver.specs.inner.Gathered.{IsDerivationOf, Gathers, StepsOver};
 
@@ -31,7 +30,6 @@ pub fn derive_asserting(
     number: u32,
     lits: &mut FalseLits,
 ) -> Result<Derivation, NoMemory>
-    requires sound { IsTrail trail.now }
     requires falsified { let values = values_of trail.now.entries in
         IsFalsified (numbering_of trail.now) values number }
     requires above { 0 < trail.now.level }
@@ -39,6 +37,8 @@ pub fn derive_asserting(
     ensures learned { IfOk result (λ d. IsLearned trail.now d.chain d.clause) }
     ensures vars { lits.new.set.vars ≡ trail.now.vars }
 {
+    // law: what every trail keeps
+    trail.is_trail();
     let mut chain = start(alloc, trail, number, lits);
     let mut position = trail.len();
     'resolving: while lits.current > 1 {
@@ -57,13 +57,15 @@ pub fn derive_empty(
     number: u32,
     lits: &mut FalseLits,
 ) -> Result<Derivation, NoMemory>
-    requires sound { IsTrail trail.now }
     requires falsified { let values = values_of trail.now.entries in
         IsFalsified (numbering_of trail.now) values number }
     requires at_0 { trail.now.level ≡ 0 }
     requires vars { lits.old.set.vars ≡ trail.now.vars }
-    ensures { IfOk result (λ d. Refuted trail.now number d.chain d.clause) }
+    ensures refuted { IfOk result (λ d. Refuted trail.now number d.chain d.clause) }
+    ensures vars { lits.new.set.vars ≡ trail.now.vars }
 {
+    // law: what every trail keeps
+    trail.is_trail();
     let mut chain = start(alloc, trail, number, lits);
     let mut position = trail.len();
     while position > 0 {
@@ -85,7 +87,6 @@ fn derived(alloc: Global, chain: Chain, lits: &[Lit]) -> Result<Derivation, NoMe
 
 /// The literals of the false clause, before the first resolution.
 fn start(alloc: Global, trail: &Trail, number: u32, lits: &mut FalseLits) -> Chain
-    requires sound { IsTrail trail.now }
     requires falsified { let values = values_of trail.now.entries in
         IsFalsified (numbering_of trail.now) values number }
     requires vars { lits.old.set.vars ≡ trail.now.vars }
@@ -107,13 +108,14 @@ fn step(
     chain: &mut Chain,
     position: u32,
 ) -> Result<(), NoMemory>
-    requires sound { IsTrail trail.now }
     requires gathers { Gathers trail.now chain.old.first chain.old lits.old (position + 1) }
     requires reason { HasReason trail.now lits.old.set.lits position }
     ensures steps { OnOk result
         (StepsOver trail.now chain.old chain.new lits.old lits.new position) }
     ensures vars { lits.new.set.vars ≡ trail.now.vars }
 {
+    // law: what every trail keeps
+    trail.is_trail();
     let lit = trail.at(position);
     let pivot = lit.negation();
     if !lits.set.has(pivot) {

@@ -1,5 +1,4 @@
-ghost use Rattle.std.specs.Prelude.{◌≡◌, ◌≤◌, ◌↔◌, IsTrue, IfSome, IfNone};
-ghost use Rattle.sat_trail.specs.Trail.{IsTrail};
+ghost use Rattle.std.specs.Prelude.{◌≡◌, ◌↔◌, IsTrue, IfSome, IfNone};
 ghost use Rattle.sat_solver.specs.inner.Choice.{IsFree, AllSet, AreSetUpTo};
 
 use super::decision_rule::DecisionRule;
@@ -17,10 +16,8 @@ pub struct Marks {
 
 /// The literal to decide: the one that the rule proposes, if it is unset, and else the negation of
 /// the lowest unset variable.
-pub fn choose(trail: &Trail, vars: u32, rule: &mut DecisionRule, marks: &mut Marks) -> Option<Lit>
-    requires vars { vars ≡ trail.now.vars }
+pub fn choose(trail: &Trail, rule: &mut DecisionRule, marks: &mut Marks) -> Option<Lit>
     requires rule { rule.old.vars ≡ trail.now.vars }
-    requires sound { IsTrail trail.now }
     requires passed { AreSetUpTo trail.now marks.old.lowest }
     ensures free { IfSome result (IsFree trail.now) }
     ensures all_set { IfNone result (AllSet trail.now) }
@@ -28,29 +25,28 @@ pub fn choose(trail: &Trail, vars: u32, rule: &mut DecisionRule, marks: &mut Mar
     ensures rule { rule.new.vars ≡ rule.old.vars }
 {
     if let Some(lit) = rule.propose(trail, &mut marks.clause) {
-        if is_free(trail, vars, lit) {
+        if is_free(trail, lit) {
             return Some(lit);
         }
     }
-    lowest_free(trail, vars, &mut marks.lowest)
+    lowest_free(trail, &mut marks.lowest)
 }
 
 /// Whether the literal's variable exists and has no value.
-fn is_free(trail: &Trail, vars: u32, lit: Lit) -> bool
-    requires { vars ≡ trail.now.vars }
+fn is_free(trail: &Trail, lit: Lit) -> bool
     ensures { IsTrue result ↔ IsFree trail.now lit }
 {
-    0 < lit.var && lit.var <= vars && trail.value(lit.var).is_none()
+    0 < lit.var && lit.var <= trail.vars() && trail.value(lit.var).is_none()
 }
 
 /// The negation of the lowest variable that has no value.
-fn lowest_free(trail: &Trail, vars: u32, lowest: &mut u32) -> Option<Lit>
-    requires vars { vars ≡ trail.now.vars }
+fn lowest_free(trail: &Trail, lowest: &mut u32) -> Option<Lit>
     requires passed { AreSetUpTo trail.now lowest.old }
     ensures free { IfSome result (IsFree trail.now) }
     ensures all_set { IfNone result (AllSet trail.now) }
     ensures passed { AreSetUpTo trail.now lowest.new }
 {
+    let vars = trail.vars();
     while *lowest < vars {
         let var = *lowest + 1;
         if trail.value(var).is_none() {

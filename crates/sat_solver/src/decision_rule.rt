@@ -1,6 +1,5 @@
 ghost use Rattle.std.specs.Prelude.{◌≡◌, ◌<◌, ◌⊎◌, IfOk};
 ghost use Rattle.clause_core.specs.Clause.{VariablesExist};
-ghost use Rattle.sat_trail.specs.Trail.{IsTrail};
 
 use super::recent_clause::newest_unsatisfied;
 use super::variable_queue::VariableQueue;
@@ -48,8 +47,7 @@ impl DecisionRule {
 
     /// A literal to decide, if the rule has one. Whoever takes it looks whether it is unset.
     pub fn propose(&mut self, trail: &Trail, mark: &mut u32) -> Option<Lit>
-        requires sound { IsTrail trail.now }
-        requires vars { self.old.vars ≡ trail.now.vars }
+        requires { self.old.vars ≡ trail.now.vars }
         ensures { self.new.vars ≡ self.old.vars }
     {
         if self.learned < BERKMIN_CONFLICTS {
@@ -76,8 +74,21 @@ impl DecisionRule {
         self.queue.move_to_front(alloc, clause)?;
         self.learned = self.learned.saturating_add(1);
         let level = if self.restarts() { 0 } else { asserting };
-        self.save_above(trail, level);
-        self.save_asserted(trail, clause);
+        // The values that the backjump takes are saved, and the one that the clause asserts.
+        let mut position = trail.len();
+        while position > 0 {
+            position -= 1;
+            let lit = trail.at(position);
+            match trail.level_of(lit.var) {
+                Some(found) if found > level => self.queue.save(lit),
+                _ => break,
+            }
+        }
+        for lit in clause {
+            if trail.level_of(lit.var) == Some(trail.level()) {
+                self.queue.save(*lit);
+            }
+        }
         Ok(level)
     }
 
@@ -85,34 +96,5 @@ impl DecisionRule {
     fn restarts(&self) -> bool {
         self.learned == BERKMIN_CONFLICTS
             || self.learned > BERKMIN_CONFLICTS && self.learned.is_multiple_of(RESTART_INTERVAL)
-    }
-
-    /// Saves the values that a backjump to the level takes.
-    fn save_above(&mut self, trail: &Trail, level: u32)
-        requires { self.old.vars ≡ trail.now.vars }
-        ensures { self.new.vars ≡ self.old.vars }
-    {
-        let mut position = trail.len();
-        while position > 0 {
-            position -= 1;
-            let lit = trail.at(position);
-            match trail.level_of(lit.var) {
-                Some(found) if found > level => self.queue.save(lit),
-                _ => return,
-            }
-        }
-    }
-
-    /// Saves the value that the clause asserts, as if it had been set before a restart.
-    fn save_asserted(&mut self, trail: &Trail, clause: &[Lit])
-        requires exist { VariablesExist trail.now.vars clause.now }
-        requires vars { self.old.vars ≡ trail.now.vars }
-        ensures { self.new.vars ≡ self.old.vars }
-    {
-        for lit in clause {
-            if trail.level_of(lit.var) == Some(trail.level()) {
-                self.queue.save(*lit);
-            }
-        }
     }
 }

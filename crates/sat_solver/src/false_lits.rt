@@ -2,10 +2,8 @@ ghost use Rattle.std.specs.Prelude.{◌≡◌, ◌<◌, ◌≤◌, [], IfOk, Con
 ghost use Rattle.clause_core.specs.Literal.{negated};
 ghost use Rattle.clause_core.specs.Propagation.{MakesFalse, Falsifies, OthersFalse};
 ghost use Rattle.sat_trail.specs.Entry.{values_of};
-ghost use Rattle.sat_trail.specs.Trail.{IsTrail};
 ghost use Rattle.sat_solver.specs.inner.Gathered.{is_current, AreFalse};
 ghost use Rattle.sat_solver.specs.inner.Gathered.{AddsLiteral, AddsLiterals, ResolvesSet};
-ghost use Rattle.sat_solver.specs.inner.LiteralSet.{TakesOut};
 
 use super::lit_set::LitSet;
 use clause_core::Lit;
@@ -44,12 +42,13 @@ impl FalseLits {
 
     /// Puts a false literal in.
     pub fn insert(&mut self, trail: &Trail, lit: Lit)
-        requires sound { IsTrail trail.now }
         requires are_false { AreFalse trail.now self.old }
         requires fails { MakesFalse (values_of trail.now.entries) lit }
         ensures are_false { AreFalse trail.now self.new }
         ensures inserted { AddsLiteral self.old.set.lits lit self.new.set.lits }
     {
+        // law: what every trail keeps
+        trail.is_trail();
         if self.set.insert(lit) {
             self.current += u32::from(is_current(trail, lit));
         }
@@ -57,7 +56,6 @@ impl FalseLits {
 
     /// Puts the literals of a false clause in.
     pub fn insert_all(&mut self, trail: &Trail, clause: &[Lit])
-        requires sound { IsTrail trail.now }
         requires are_false { AreFalse trail.now self.old }
         requires fails { Falsifies (values_of trail.now.entries) clause.now }
         ensures are_false { AreFalse trail.now self.new }
@@ -70,14 +68,14 @@ impl FalseLits {
 
     /// Puts the other literals of the clause that forced the negation in place of the literal.
     pub fn resolve(&mut self, trail: &Trail, pivot: Lit, reason: &[Lit])
-        requires sound { IsTrail trail.now }
         requires are_false { AreFalse trail.now self.old }
         requires among { Contains self.old.set.lits pivot }
         requires others { OthersFalse (values_of trail.now.entries) reason.now (negated pivot) }
         ensures are_false { AreFalse trail.now self.new }
         ensures resolved { ResolvesSet self.old.set.lits pivot reason.now self.new.set.lits }
     {
-        self.remove(trail, pivot);
+        self.set.remove(pivot);
+        self.current -= u32::from(is_current(trail, pivot));
         let forced = pivot.negation();
         for lit in reason {
             if *lit == forced {
@@ -85,18 +83,6 @@ impl FalseLits {
             }
             self.insert(trail, *lit);
         }
-    }
-
-    /// Takes the literal out.
-    fn remove(&mut self, trail: &Trail, lit: Lit)
-        requires sound { IsTrail trail.now }
-        requires are_false { AreFalse trail.now self.old }
-        requires among { Contains self.old.set.lits lit }
-        ensures are_false { AreFalse trail.now self.new }
-        ensures taken { TakesOut self.old.set.lits lit self.new.set.lits }
-    {
-        self.set.remove(lit);
-        self.current -= u32::from(is_current(trail, lit));
     }
 }
 

@@ -1,7 +1,6 @@
 ghost use Rattle.std.specs.Prelude.{◌≡◌, ◌<◌, ◌≤◌, ◌↔◌, ◌++◌, [], ◌∷◌, IsTrue, IfOk, Contains};
 ghost use Rattle.std.specs.Bool.{OnTrue, OnFalse};
-ghost use Rattle.clause_core.specs.Literal.{negated};
-ghost use Rattle.sat_solver.specs.inner.LiteralSet.{IsLiteralSet, TakesOut};
+ghost use Rattle.sat_solver.specs.inner.LiteralSet.{IsLiteralSet, MayEnter, TakesOut};
 
 use clause_core::Lit;
 use list_base::NoMemory;
@@ -77,9 +76,7 @@ impl LitSet {
 
     /// Puts the literal in, and says whether it is new.
     pub fn insert(&mut self, lit: Lit) -> bool
-        requires from_one { 0 < lit.var }
-        requires exists { lit.var ≤ self.old.vars }
-        requires alone { ¬ Contains self.old.lits (negated lit) }
+        requires { MayEnter self.old lit }
         ensures pushed { let lits = self.old.lits ++ lit ∷ [] in
             OnTrue result (self.new ≡ record self.old { lits = lits }) }
         ensures same { OnFalse result (self.new ≡ self.old) }

@@ -3,7 +3,6 @@ ghost use Rattle.clause_core.specs.Assignment.{valuation};
 ghost use Rattle.clause_core.specs.Propagation.{IsPropagated};
 ghost use Rattle.sat_trail.specs.Entry.{values_of};
 ghost use Rattle.sat_trail.specs.State.{numbering_of};
-ghost use Rattle.sat_trail.specs.Trail.{IsTrail};
 ghost use Rattle.sat_solver.specs.inner.Choice.{AllSet, SatisfiesNumbered};
 
 use clause_core::Assignment;
@@ -12,17 +11,17 @@ use sat_trail::Trail;
 use std::alloc::Global;
 
 /// The assignment that a trail gives if all variables are set and no clause is false.
-pub fn model(alloc: Global, trail: &Trail, vars: u32) -> Result<Assignment, NoMemory>
-    requires vars { vars ≡ trail.now.vars }
-    requires sound { IsTrail trail.now }
+pub fn model(alloc: Global, trail: &Trail) -> Result<Assignment, NoMemory>
     requires propagated { IsPropagated (values_of trail.now.entries) (numbering_of trail.now) }
     requires all_set { AllSet trail.now }
-    ensures whole { IfOk result (λ assignment. length assignment ≡ vars) }
+    ensures whole { IfOk result (λ assignment. length assignment ≡ trail.now.vars) }
     ensures satisfies { IfOk result (λ assignment.
         SatisfiesNumbered (valuation assignment) (numbering_of trail.now)) }
 {
+    // law: what every trail keeps
+    trail.is_trail();
     let mut values: Seq<bool> = Seq::new(alloc);
-    for index in 0..vars {
+    for index in 0..trail.vars() {
         values.push(trail.value(index + 1).unwrap_or(false))?;
     }
     let assignment = Assignment::of(alloc, values.as_slice())?;

@@ -1,14 +1,11 @@
 ghost use Rattle.clause_core.specs.Clause.{VariablesExist};
-ghost use Rattle.sat_trail.specs.Trail.{IsTrail};
 
 use clause_core::Lit;
 use sat_trail::Trail;
 
 /// The last unset literal of the newest clause that is not satisfied (BerkMin, Goldberg and
 /// Novikov 2002). The clauses after `mark` are satisfied until the next backjump.
-pub fn newest_unsatisfied(trail: &Trail, mark: &mut u32) -> Option<Lit>
-    requires { IsTrail trail.now }
-{
+pub fn newest_unsatisfied(trail: &Trail, mark: &mut u32) -> Option<Lit> {
     while *mark > 0 {
         if let Some(lit) = unset_in(trail, *mark) {
             return Some(lit);
@@ -19,12 +16,12 @@ pub fn newest_unsatisfied(trail: &Trail, mark: &mut u32) -> Option<Lit>
 }
 
 /// The last unset literal in the clause of the number, if a clause has it and it is not satisfied.
-fn unset_in(trail: &Trail, number: u32) -> Option<Lit>
-    requires { IsTrail trail.now }
-{
+fn unset_in(trail: &Trail, number: u32) -> Option<Lit> {
     if !trail.has_clause(number) {
         return None;
     }
+    // law: what every trail keeps
+    trail.is_trail();
     last_unset(trail, trail.clause(number).lits())
 }
 

@@ -79,8 +79,8 @@ fn search_within(
     // law: new clauses stay new if a new one comes after them
     new_clause_appends();
     for _ in 0..budget {
-        let Some(number) = learner.search(f.vars, stats) else {
-            return Ok(Ending::Model(model(alloc, &learner.trail, f.vars)?));
+        let Some(number) = learner.search(stats) else {
+            return Ok(Ending::Model(model(alloc, &learner.trail)?));
         };
         if learner.trail.level() == 0 {
             learner.refute(alloc, number)?;

@@ -6,7 +6,7 @@ use Rattle.clause_core.specs.declared.literal.Lit.{Lit}
 use Rattle.clause_core.specs.Literal.{rank}
 use Rattle.sat_trail.specs.declared.watch.Cell.{Cell}
 use Rattle.sat_trail.specs.inner.Watches.{blank, cell_of, watch, HasLink, Watches, WatchesApart, IsPut, head_of, IsChain, IsBefore, IsDistinct, joined, last_of, IsListed, KeepsLits, IsWithin}
-use Rattle.sat_trail.specs.inner.Walk.{IsWalk, AreOthersListed, SetsLink, at_head, at_cell, PutsFront, MovesWatch, Walks, IsNewWatch}
+use Rattle.sat_trail.specs.inner.Walk.{IsWalk, AreOthersListed, SetsLink, at_head, at_cell, PutsFirst, MovesWatch, Walks, IsNewWatch}
 use Rattle.sat_trail.proofs.LiteralLemmas.{cases_literal}
 use Rattle.sat_trail.proofs.CellLemmas.{put-link, put-here, put-watched, put-leaves, put-apart, put-same, KeepsLits-watches, KeepsLits-within, put-within, KeepsLits-apart, KeepsLits-same, rank-only}
 use Rattle.sat_trail.proofs.ChainLemmas.{joined-left, joined-right, joined-cases, distinct-right, distinct-apart, distinct-last, distinct-weaker, chain-frame, before-frame, chain-member, before-member, walk-rest, walk-member}
@@ -95,7 +95,7 @@ IsRelinked-set cells new heads new_heads l before next head_within within (at_ce
 -- what is known while a clause moves
 record IsMoving (vars : ℕ) (cells mid new : List Cell) (heads mid_heads new_heads : List ℕ) (l to : Lit) (before number next : ℕ) : Type 0 where
   relinked : IsRelinked cells mid heads mid_heads l before next
-  front : PutsFront mid new mid_heads new_heads l to number
+  front : PutsFirst mid new mid_heads new_heads l to number
   number_some : 0 < number
   within : number < length mid
   head_within : rank to < length mid_heads
@@ -277,7 +277,7 @@ before-other cells heads l (p ∷ earlier) rest before number walk =
     )
 
 -- what a move does to the lists
-pub MovesWatch-moved : (vars : ℕ) (cells mid new : List Cell) (heads mid_heads new_heads : List ℕ) (l to : Lit) (before number next : ℕ) → Walks cells heads l before number → AreOthersListed vars cells heads l → IsNewWatch vars (cell_of cells number) to → rank l < length heads → rank to < length heads → HasLink (cell_of cells number) l next → SetsLink cells mid heads mid_heads l before next → PutsFront mid new mid_heads new_heads l to number → MovesWatch vars cells new heads new_heads l to before number next
+pub MovesWatch-moved : (vars : ℕ) (cells mid new : List Cell) (heads mid_heads new_heads : List ℕ) (l to : Lit) (before number next : ℕ) → Walks cells heads l before number → AreOthersListed vars cells heads l → IsNewWatch vars (cell_of cells number) to → rank l < length heads → rank to < length heads → HasLink (cell_of cells number) l next → SetsLink cells mid heads mid_heads l before next → PutsFirst mid new mid_heads new_heads l to number → MovesWatch vars cells new heads new_heads l to before number next
 MovesWatch-moved vars cells mid new heads mid_heads new_heads l to before number next walks listed new_watch l_within to_within link sets front = record {
   as_many = moving-many vars cells mid new heads mid_heads new_heads l to before number next moving;
   heads_as_many = ap length front.heads_set ∙ length-set mid_heads (rank to) number ∙ relinked.heads_as_many;

@@ -1,5 +1,5 @@
 -- What contracts see of a trail.
-use Rattle.std.specs.Prelude.{ℕ, Bool, Option, List, length}
+use Rattle.std.specs.Prelude.{ℕ, ◌<◌, ◌≤◌, Bool, Option, List, length}
 use Rattle.clause_core.specs.declared.literal.Lit.{Lit}
 use Rattle.clause_core.specs.Numbering.{Numbering, live}
 use Rattle.sat_trail.specs.declared.entry.Entry.{Entry}
@@ -20,3 +20,8 @@ numbering_of t = live t.clauses
 -- the last number that was given to a clause
 abbrev pub last_number : State → ℕ
 last_number t = length t.clauses
+
+-- variables and clauses are numbered from 1 on
+pub record IsNumberUpTo (last n : ℕ) : Type 0 where
+  pub from_one : 0 < n
+  pub within : n ≤ last

@@ -1,6 +1,7 @@
-ghost use Rattle.std.specs.Prelude.{◌≡◌, ◌-◌, ◌^◌, ◌<◌, ◌≤◌, ◌↔◌, ◌++◌, [], ◌∷◌, None, Some, IsSome, IsTrue, IfOk, OnOk, OnErr};
+ghost use Rattle.std.specs.Prelude.{◌≡◌, ◌-◌, ◌<◌, ◌↔◌, ◌++◌, [], ◌∷◌, None, Some, IsSome, IsTrue, IfOk, OnOk, OnErr};
 ghost use Rattle.std.specs.Prelude.{length, map, slice_set, All};
 ghost use Rattle.clause_core.specs.Numbering.{HasNumber, live};
+ghost use Rattle.sat_trail.specs.State.{IsNumberUpTo};
 ghost use Rattle.sat_trail.specs.inner.Flat.{IsPackable};
 
 use super::flat_clauses::{FlatClauses, flattened};
@@ -55,8 +56,7 @@ impl<'f> ClauseStore<'f> {
 
     /// Whether the clause of the number, counted from 1, was not removed.
     pub fn is_live(&self, number: u32) -> bool
-        requires from_one { 0 < number }
-        requires given { number ≤ length self.now }
+        requires { IsNumberUpTo (length self.now) number }
         ensures { IsTrue result ↔ IsSome (live self.now number) }
     {
         self.flat.is_live(number)
@@ -98,8 +98,7 @@ impl<'f> ClauseStore<'f> {
 
     /// The number has no clause from here on.
     pub fn remove(&mut self, number: u32)
-        requires from_one { 0 < number }
-        requires given { number ≤ length self.old }
+        requires { IsNumberUpTo (length self.old) number }
         ensures { self.new ≡ slice_set self.old (number - 1) None }
     {
         self.flat.remove(number);

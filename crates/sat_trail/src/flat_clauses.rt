@@ -1,7 +1,8 @@
-ghost use Rattle.std.specs.Prelude.{◌≡◌, ◌-◌, ◌<◌, ◌≤◌, ◌↔◌, ◌++◌, [], ◌∷◌, Some, None, IsSome, IsTrue};
+ghost use Rattle.std.specs.Prelude.{◌≡◌, ◌-◌, ◌<◌, ◌↔◌, ◌++◌, [], ◌∷◌, Some, None, IsSome, IsTrue};
 ghost use Rattle.std.specs.Prelude.{◌^◌, length, map, min, All, IfOk, OnOk, OnErr, slice_set, take};
 ghost use Rattle.std.specs.List.{sum_by};
 ghost use Rattle.clause_core.specs.Numbering.{HasNumber, live};
+ghost use Rattle.sat_trail.specs.State.{IsNumberUpTo};
 ghost use Rattle.sat_trail.specs.inner.Flat.{IsPackable};
 
 use super::packed_lit::PackedLit;
@@ -55,8 +56,7 @@ impl FlatClauses {
 
     /// Whether the clause of the number, counted from 1, was not removed.
     pub fn is_live(&self, number: u32) -> bool
-        requires from_one { 0 < number }
-        requires given { number ≤ length self.now }
+        requires { IsNumberUpTo (length self.now) number }
         ensures { IsTrue result ↔ IsSome (live self.now number) }
     {
         let span = self.spans[number as usize - 1];
@@ -106,8 +106,7 @@ impl FlatClauses {
 
     /// The number has no clause from here on.
     pub fn remove(&mut self, number: u32)
-        requires from_one { 0 < number }
-        requires given { number ≤ length self.old }
+        requires { IsNumberUpTo (length self.old) number }
         ensures { self.new ≡ slice_set self.old (number - 1) None }
     {
         self.spans[number as usize - 1] = Span { start: 1, end: 0 };

@@ -10,6 +10,7 @@ mod propagation;
 mod set_literals;
 mod span;
 mod trail;
+mod trail_reading;
 mod value;
 mod watch;
 mod watch_choice;

@@ -1,12 +1,13 @@
-ghost use Rattle.std.specs.Prelude.{◌≡◌, ◌≢◌, ◌-◌, ◌+◌, ◌*◌, ◌<◌, ◌≤◌, ◌∷◌, length, IfSome, IfNone, Some};
+ghost use Rattle.std.specs.Prelude.{◌≡◌, ◌≢◌, ◌-◌, ◌+◌, ◌*◌, ◌<◌, length, IfSome, IfNone, Some};
 ghost use Rattle.std.specs.Bool.{OnTrue, OnFalse};
 ghost use Rattle.clause_core.specs.Propagation.{IsFalsified};
 ghost use Rattle.sat_trail.specs.Entry.{values_of};
 ghost use Rattle.clause_core.specs.Numbering.{live};
+ghost use Rattle.sat_trail.specs.State.{IsNumberUpTo};
 ghost use Rattle.sat_trail.specs.inner.Examination.{IsSettledAt};
 ghost use Rattle.sat_trail.specs.inner.Excuse.{IsTrueBy};
 ghost use Rattle.sat_trail.specs.inner.Propagation.{CanPropagate, Extends, HasWatches};
-ghost use Rattle.sat_trail.specs.inner.Visit.{IsLastLeft, CanPass, CanVisit, IsVisit, KeepsLists};
+ghost use Rattle.sat_trail.specs.inner.Visit.{IsLastLeft, HasCome, CanPass, CanVisit, IsVisit, KeepsLists};
 ghost use Rattle.sat_trail.specs.inner.Watches.{AreLinked};
 
 use super::clause_store::ClauseStore;
@@ -44,8 +45,7 @@ enum Visit {
 /// one left. True if the clause is false.
 fn propagate_new(store: &ClauseStore, set: &mut Entries, number: u32, level: u32) -> bool
     requires fits { CanPropagate store.now set.old level }
-    requires from_one { 0 < number }
-    requires within { number ≤ length store.now }
+    requires within { IsNumberUpTo (length store.now) number }
     ensures extends { Extends store.now level set.old set.new }
     ensures settled { OnFalse result (IsSettledAt store.now number (values_of set.new.entries)) }
     ensures falsified { OnTrue result
@@ -209,10 +209,8 @@ pub fn propagate_entries(
     head: &mut usize,
     level: u32,
 ) -> Option<u32>
-    requires fits { CanPropagate store.now set.old level }
-    requires watched { HasWatches store.now lists.old.cells.items set.old level head.old
-        (length store.now) }
-    requires linked { AreLinked set.old.vars lists.old.cells.items lists.old.heads.items }
+    requires { HasCome store.now lists.old.cells.items lists.old.heads.items set.old level
+        head.old }
     ensures extends { Extends store.now level set.old set.new }
     ensures watched { HasWatches store.now lists.new.cells.items set.new level head.new
         (length store.now) }

@@ -2,6 +2,7 @@ ghost use Rattle.std.specs.Prelude.{◌≡◌, ◌-◌, ◌+◌, ◌^◌, ◌<�
 ghost use Rattle.std.specs.Prelude.{take, IfOk, slice_get, IsTrue, IfSome, ◌↔◌};
 ghost use Rattle.clause_core.specs.Propagation.{MakesFalse};
 ghost use Rattle.sat_trail.specs.Entry.{entry_of, values_of, last_level};
+ghost use Rattle.sat_trail.specs.State.{IsNumberUpTo};
 ghost use Rattle.sat_trail.specs.inner.Storage.{StartsWith, HasRoom};
 
 use super::entry::Entry;
@@ -95,8 +96,7 @@ impl Entries {
 
     /// The entry that sets the variable.
     pub fn of(&self, var: u32) -> Option<Entry>
-        requires from_one { 0 < var }
-        requires exists { var ≤ self.now.vars }
+        requires { IsNumberUpTo self.now.vars var }
         ensures { result ≡ entry_of self.now.entries var }
     {
         self.cells[var as usize - 1]
@@ -104,8 +104,7 @@ impl Entries {
 
     /// The variable's value, if it has one.
     pub fn value(&self, var: u32) -> Option<bool>
-        requires from_one { 0 < var }
-        requires exists { var ≤ self.now.vars }
+        requires { IsNumberUpTo self.now.vars var }
         ensures { result ≡ values_of self.now.entries var }
     {
         self.of(var).map(|entry| entry.lit.positive)
@@ -129,8 +128,7 @@ impl Entries {
 
     /// Whether the variable has no value, or was set at the level.
     pub fn is_open(&self, var: u32, level: u32) -> bool
-        requires from_one { 0 < var }
-        requires exists { var ≤ self.now.vars }
+        requires { IsNumberUpTo self.now.vars var }
         ensures { IsTrue result
             ↔ IfSome (entry_of self.now.entries var) (λ e. e.level ≡ level) }
     {
@@ -142,8 +140,7 @@ impl Entries {
 
     /// Sets a literal after the others.
     pub fn push(&mut self, entry: Entry)
-        requires from_one { 0 < entry.lit.var }
-        requires exists { entry.lit.var ≤ self.old.vars }
+        requires exists { IsNumberUpTo self.old.vars entry.lit.var }
         requires no_value { values_of self.old.entries entry.lit.var ≡ None }
         ensures { self.new ≡ record self.old { entries = self.old.entries ++ entry ∷ [] } }
     {

@@ -1,10 +1,9 @@
-ghost use Rattle.std.specs.Prelude.{◌≡◌, ◌-◌, ◌+◌, ◌^◌, ◌<◌, ◌≤◌, ◌++◌, ◌⊎◌, ◌↔◌, [], ◌∷◌, None, Some, false, length};
-ghost use Rattle.std.specs.Prelude.{IsTrue, IsSome, IfOk, OnErr, IfSome, IfNone, is_none, slice_get, map};
+ghost use Rattle.std.specs.Prelude.{◌≡◌, ◌-◌, ◌+◌, ◌^◌, ◌<◌, ◌≤◌, ◌++◌, ◌⊎◌, [], ◌∷◌, None, false, length};
+ghost use Rattle.std.specs.Prelude.{IsTrue, IsSome, IfOk, OnErr, IfSome, IfNone, is_none};
 ghost use Rattle.clause_core.specs.Clause.{VariablesExist};
-ghost use Rattle.clause_core.specs.Numbering.{HasNumber};
 ghost use Rattle.clause_core.specs.Propagation.{IsFalsified, IsPropagated};
-ghost use Rattle.sat_trail.specs.Entry.{values_of, reason_of, level_of, up_to, decided};
-ghost use Rattle.sat_trail.specs.State.{numbering_of, last_number};
+ghost use Rattle.sat_trail.specs.Entry.{values_of, up_to, decided};
+ghost use Rattle.sat_trail.specs.State.{IsNumberUpTo, numbering_of, last_number};
 ghost use Rattle.sat_trail.specs.Trail.{IsTrail, IsStart, Adds, HasTwoOpen, IsNoReason, Removes, Propagates};
 
 use super::clause_store::ClauseStore;
@@ -24,10 +23,10 @@ use std::marker::Model;
 /// was removed leaves the lists of its watched literals when propagation meets it there.
 #[derive(Drop)]
 pub struct Trail<'f> {
-    store: ClauseStore<'f>,
+    pub(crate) store: ClauseStore<'f>,
     lists: WatchLists,
-    set: Entries,
-    level: u32,
+    pub(crate) set: Entries,
+    pub(crate) level: u32,
     head: usize,
     examined: usize,
     ready: bool,
@@ -142,8 +141,7 @@ impl<'f> Trail<'f> {
     /// Sets the literal at a new level.
     pub fn decide(&mut self, lit: Lit)
         requires ready { IsTrue self.old.ready }
-        requires from_one { 0 < lit.var }
-        requires exists { lit.var ≤ self.old.vars }
+        requires exists { IsNumberUpTo self.old.vars lit.var }
         requires no_value { values_of self.old.entries lit.var ≡ None }
         ensures decided { let level = self.old.level + 1 in
             let entries = self.old.entries ++ decided lit level ∷ [] in
@@ -157,8 +155,8 @@ impl<'f> Trail<'f> {
         self.ready = false;
     }
 
-    /// Backtracks: takes the literals of the levels above this one out. The clauses and the lists of
-    /// their watches stay as they are.
+    /// Backtracks: takes the literals of the levels above this one out. The clauses and the lists
+    /// of their watches stay as they are.
     pub fn back_to(&mut self, level: u32)
         requires { level ≤ self.old.level }
         ensures kept { let entries = up_to level self.old.entries in
@@ -171,78 +169,10 @@ impl<'f> Trail<'f> {
         }
     }
 
-    /// The number of decisions that hold.
-    pub fn level(&self) -> u32
-        ensures same { result ≡ self.now.level }
-        ensures sound { IsTrail self.now }
+    /// A law: what every trail keeps.
+    pub fn is_trail(&self)
+        ensures { IsTrail self.now }
     {
-        self.level
-    }
-
-    /// The variable's value, if it has one.
-    pub fn value(&self, var: u32) -> Option<bool>
-        requires from_one { 0 < var }
-        requires exists { var ≤ self.now.vars }
-        ensures { result ≡ values_of self.now.entries var }
-    {
-        self.set.value(var)
-    }
-
-    /// The number of the clause that forced the variable's literal.
-    pub fn reason(&self, var: u32) -> Option<u32>
-        requires from_one { 0 < var }
-        requires exists { var ≤ self.now.vars }
-        ensures { result ≡ reason_of self.now.entries var }
-    {
-        self.set.of(var).and_then(|entry| entry.reason)
-    }
-
-    /// The level at which the variable was set.
-    pub fn level_of(&self, var: u32) -> Option<u32>
-        requires from_one { 0 < var }
-        requires exists { var ≤ self.now.vars }
-        ensures { result ≡ level_of self.now.entries var }
-    {
-        self.set.of(var).map(|entry| entry.level)
-    }
-
-    /// How many literals are set.
-    pub fn len(&self) -> u32
-        ensures count { result ≡ length self.now.entries }
-        ensures within { length self.now.entries ≤ self.now.vars }
-    {
-        self.set.len() as u32
-    }
-
-    /// The literal that was set at this position.
-    pub fn at(&self, i: u32) -> Lit
-        requires { i < length self.now.entries }
-        ensures literal { slice_get (map (λ e. e.lit) self.now.entries) i ≡ Some result }
-        ensures from_one { 0 < result.var }
-        ensures exists { result.var ≤ self.now.vars }
-    {
-        self.set.at(i as usize).lit
-    }
-
-    /// The last number that was given to a clause.
-    pub fn last_number(&self) -> u32
-        ensures { result ≡ last_number self.now }
-    {
-        self.store.len() as u32
-    }
-
-    /// Whether a live clause has the number.
-    pub fn has_clause(&self, number: u32) -> bool
-        ensures { IsTrue result ↔ IsSome (numbering_of self.now number) }
-    {
-        number > 0 && number as usize <= self.store.len() && self.store.is_live(number)
-    }
-
-    /// The live clause of the number.
-    pub fn clause(&self, number: u32) -> &Clause
-        requires { IsSome (numbering_of self.now number) }
-        ensures { HasNumber (numbering_of self.now) number result.now }
-    {
-        self.store.clause(number)
+        let _level = self.level;
     }
 }

@@ -4,6 +4,7 @@ ghost use Rattle.std.specs.Bool.{OnTrue, OnFalse};
 ghost use Rattle.clause_core.specs.Clause.{VariablesExist};
 ghost use Rattle.clause_core.specs.Propagation.{MakesFalse, OthersFalse};
 ghost use Rattle.sat_trail.specs.Entry.{values_of};
+ghost use Rattle.sat_trail.specs.State.{IsNumberUpTo};
 ghost use Rattle.sat_trail.specs.Trail.{IsOpen, HasTwoOpen};
 ghost use Rattle.sat_trail.specs.inner.Attach.{MayWatch, AreClosed, AreChosen};
 ghost use Rattle.sat_trail.specs.inner.Attach.{IsAttached, IsFreeBeside, IsNotFreeBeside, AreNotFree, IsLeft};
@@ -16,8 +17,7 @@ use clause_core::{Clause, Lit};
 
 /// Whether the literal is another one and not false.
 fn may_take(set: &Entries, lit: Lit, kept: Lit) -> bool
-    requires from_one { 0 < lit.var }
-    requires exists { lit.var ≤ set.now.vars }
+    requires { IsNumberUpTo set.now.vars lit.var }
     ensures yes { OnTrue result ((lit ≢ kept) × (¬ MakesFalse (values_of set.now.entries) lit)) }
     ensures no { OnFalse result (lit ≢ kept → MakesFalse (values_of set.now.entries) lit) }
 {
@@ -26,8 +26,7 @@ fn may_take(set: &Entries, lit: Lit, kept: Lit) -> bool
 
 /// Whether the literal is another one and not false.
 fn may_move(set: &Entries, lit: PackedLit, kept: PackedLit) -> bool
-    requires from_one { 0 < lit.var }
-    requires exists { lit.var ≤ set.now.vars }
+    requires { IsNumberUpTo set.now.vars lit.var }
     ensures yes { OnTrue result ((lit ≢ kept) × (¬ MakesFalse (values_of set.now.entries) lit)) }
     ensures no { OnFalse result (lit ≢ kept → MakesFalse (values_of set.now.entries) lit) }
 {
@@ -53,8 +52,7 @@ pub fn not_false(set: &Entries, clause: &[PackedLit], kept: PackedLit) -> Option
 
 /// Whether the literal is another one that has no value, or was set at the level.
 fn is_spare(set: &Entries, lit: Lit, kept: Lit, level: u32) -> bool
-    requires from_one { 0 < lit.var }
-    requires exists { lit.var ≤ set.now.vars }
+    requires { IsNumberUpTo set.now.vars lit.var }
     ensures yes { OnTrue result ((lit ≢ kept) × IsOpen set.now.entries level lit) }
     ensures no { OnFalse result (lit ≢ kept → ¬ IsOpen set.now.entries level lit) }
 {
@@ -63,8 +61,7 @@ fn is_spare(set: &Entries, lit: Lit, kept: Lit, level: u32) -> bool
 
 /// Whether the literal is another one that has no value, or is true since the level.
 fn is_free(set: &Entries, lit: Lit, kept: Lit, level: u32) -> bool
-    requires from_one { 0 < lit.var }
-    requires exists { lit.var ≤ set.now.vars }
+    requires { IsNumberUpTo set.now.vars lit.var }
     ensures yes { OnTrue result (IsFreeBeside set.now.entries level lit kept) }
     ensures no { OnFalse result (IsNotFreeBeside set.now.entries level lit kept) }
 {

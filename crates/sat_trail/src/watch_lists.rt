@@ -1,9 +1,9 @@
-ghost use Rattle.std.specs.Prelude.{◌≡◌, ◌≢◌, ◌+◌, ◌*◌, ◌^◌, ◌<◌, ◌≤◌, ◌∷◌, length, IfOk, OnOk, IfSome, replicate, slice_set};
+ghost use Rattle.std.specs.Prelude.{◌≡◌, ◌+◌, ◌*◌, ◌^◌, ◌<◌, ◌≤◌, length, IfOk, OnOk, IfSome, replicate, slice_set};
 ghost use Rattle.clause_core.specs.Literal.{rank};
 ghost use Rattle.sat_trail.specs.inner.Watches.{blank, cell, cell_of, Watches, IsTurn, IsPut};
 ghost use Rattle.sat_trail.specs.inner.Watches.{head_of, AreLinked};
-ghost use Rattle.sat_trail.specs.inner.Attach.{ReservesCells, IsUnwatched, ArePair, IsAttachedTo};
-ghost use Rattle.sat_trail.specs.inner.Walk.{AreOthersListed, SetsLink, PutsFront, MovesWatch};
+ghost use Rattle.sat_trail.specs.inner.Attach.{ReservesCells, HasBlankCell, ArePair, IsAttachedTo};
+ghost use Rattle.sat_trail.specs.inner.Walk.{AreOthersListed, SetsLink, PutsFirst, MovesWatch};
 ghost use Rattle.sat_trail.specs.inner.Walk.{Unlinks, Walks, IsNewWatch};
 
 use super::packed_lit::PackedLit;
@@ -95,8 +95,7 @@ impl WatchLists {
     pub fn attach(&mut self, vars: u32, number: u32, watched: Option<(Lit, Lit)>)
         requires few { vars < 2 ^ 31 }
         requires linked { AreLinked vars self.old.cells.items self.old.heads.items }
-        requires within { (0 < number) × (number < length self.old.cells.items) }
-        requires blank { IsUnwatched (cell_of self.old.cells.items number) }
+        requires blank { HasBlankCell self.old.cells.items number }
         requires pair { IfSome watched (λ pair. ArePair vars pair.0 pair.1) }
         ensures linked { AreLinked vars self.new.cells.items self.new.heads.items }
         ensures attached { IsAttachedTo self.old.cells.items self.new.cells.items number watched }
@@ -170,7 +169,7 @@ impl WatchLists {
         requires list { rank to < length self.old.heads.items }
         requires within { number < length self.old.cells.items }
         requires there { Watches (cell_of self.old.cells.items number) lit }
-        ensures { PutsFront self.old.cells.items self.new.cells.items
+        ensures { PutsFirst self.old.cells.items self.new.cells.items
             self.old.heads.items self.new.heads.items lit to number }
     {
         let first = self.first(to);

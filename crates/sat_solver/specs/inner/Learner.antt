@@ -13,16 +13,12 @@ pub record IsNewLearner (f : Formula) (l : Learner) : Type 0 where
   pub steps : l.steps ≡ []
   pub start : IsStart f l.trail
   pub sound : IsTrail l.trail
-  pub lits : l.lits.set.vars ≡ l.trail.vars
-  pub rule : l.rule.vars ≡ l.trail.vars
 
 -- the last step derives a clause, which the trail then has
 pub record LearnsOne (old new : Learner) : Type 0 where
   pub chain : Chain
   pub steps : new.steps ≡ old.steps ++ chain ∷ []
   pub learns : Learns old.trail new.trail chain
-  pub lits : new.lits.set.vars ≡ old.trail.vars
-  pub rule : new.rule.vars ≡ old.rule.vars
 
 -- the last step derives the empty clause from the clause of the number
 pub record RefutesBy (number : ℕ) (old new : Learner) : Type 0 where
@@ -32,7 +28,5 @@ pub record RefutesBy (number : ℕ) (old new : Learner) : Type 0 where
   pub refuted : Refuted old.trail number chain clause
 
 -- the formula's clauses and those that the steps derive are on the trail
-pub record IsLearning (f : Formula) (l : Learner) : Type 0 where
-  pub learned : HasLearned f l.trail l.steps
-  pub lits : l.lits.set.vars ≡ l.trail.vars
-  pub rule : l.rule.vars ≡ l.trail.vars
+abbrev pub IsLearning : Formula → Learner → Type 0
+IsLearning f l = HasLearned f l.trail l.steps

@@ -3,6 +3,7 @@ use Rattle.std.specs.Prelude.{◌≡◌, ◌≢◌, ℕ, ◌+◌, ◌-◌, ◌^�
 use Rattle.std.specs.Prelude.{AllPairs, Contains, nat_lt, count_by, slice_index_or}
 use Rattle.std.specs.List.Sorted.{IsPermutation}
 use Rattle.clause_core.specs.declared.literal.Lit.{Lit}
+use Rattle.clause_core.specs.Literal.{negated}
 use Rattle.clause_core.specs.Clause.{VariablesExist}
 
 -- the literals in some order, over the variables from 1 to `vars`
@@ -15,6 +16,12 @@ pub record IsLiteralSet (s : LiteralSet) : Type 0 where
   pub exist : VariablesExist s.vars s.lits
   pub distinct : AllPairs (λ l m. l.var ≢ m.var) s.lits
   pub few : length s.lits < 2 ^ 32
+
+-- the literal's variable exists, and its negation is not in the set
+pub record MayEnter (s : LiteralSet) (lit : Lit) : Type 0 where
+  pub from_one : 0 < lit.var
+  pub exists : lit.var ≤ s.vars
+  pub alone : ¬ Contains s.lits (negated lit)
 
 -- the literal was taken out, and the order of the others may change
 pub record TakesOut (old : List Lit) (lit : Lit) (new : List Lit) : Type 0 where

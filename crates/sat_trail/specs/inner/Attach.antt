@@ -58,6 +58,12 @@ pub record AreChosen
 abbrev pub IsUnwatched : Cell → Type 0
 IsUnwatched cell = (l : Lit) → 0 < l.var → ¬ Watches cell l
 
+-- the number has a cell, which watches no literal
+pub record HasBlankCell (cells : List Cell) (number : ℕ) : Type 0 where
+  pub from_one : 0 < number
+  pub within : number < length cells
+  pub unwatched : IsUnwatched (cell_of cells number)
+
 -- a cell that watches nothing may have been added at the end
 pub record ReservesCells (cells new_cells : List Cell) : Type 0 where
   pub more : length cells ≤ length new_cells

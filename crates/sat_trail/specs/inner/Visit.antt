@@ -32,6 +32,14 @@ pub record IsFalseAt (entries : List Entry) (index : ℕ) (l : Lit) : Type 0 whe
   pub there : slice_get entries index ≡ Some entry
   pub fails : negated entry.lit ≡ l
 
+-- propagation has come to the entries from the position on
+pub record HasCome
+    (clauses : List (Option (List Lit))) (cells : List Cell) (heads : List ℕ) (set : Assigned)
+    (level position : ℕ) : Type 0 where
+  pub fits : CanPropagate clauses set level
+  pub watched : HasWatches clauses cells set level position (length clauses)
+  pub linked : AreLinked set.vars cells heads
+
 -- propagation has come to the entry at the position
 pub record CanPass
     (clauses : List (Option (List Lit))) (cells : List Cell) (heads : List ℕ) (set : Assigned)

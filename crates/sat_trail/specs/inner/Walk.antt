@@ -36,7 +36,7 @@ pub data SetsLink
       SetsLink cells new_cells heads new_heads l number next
 
 -- the clause of the number is the first that watches another literal in place of this one
-pub record PutsFront
+pub record PutsFirst
     (cells new_cells : List Cell) (heads new_heads : List ℕ) (l to : Lit) (number : ℕ)
     : Type 0 where
   pub cell : Cell

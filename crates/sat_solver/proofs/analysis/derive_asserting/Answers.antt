@@ -10,7 +10,7 @@ pub resolving-init : goal.resolving-init
 resolving-init c =
     let gathers = rw (← c.len-position.ensures.count) at c.start-chain.ensures.gathers in record {
       gathers = gathers;
-      current = HasCurrent-start c.args.trail.now c.args.number _ c.start-chain.result c.start-chain.new.lits c.requires.sound c.requires.above c.requires.falsified c.start-chain.ensures.none gathers;
+      current = HasCurrent-start c.args.trail.now c.args.number _ c.start-chain.result c.start-chain.new.lits c.is_trail.ensures c.requires.above c.requires.falsified c.start-chain.ensures.none gathers;
     }
 
 pub overflow_sub-position : goal.overflow_sub-position
@@ -23,7 +23,7 @@ step-requires-clause-gathers c =
 
 pub step-requires-clause-reason : goal.step-requires-clause-reason
 step-requires-clause-reason c =
-    HasReason-last c.args.trail.now c.args.number _ c.resolving.chain c.resolving.lits c.requires.sound c.resolving-test.true c.resolving.invariant.gathers
+    HasReason-last c.args.trail.now c.args.number _ c.resolving.chain c.resolving.lits c.is_trail.ensures c.resolving-test.true c.resolving.invariant.gathers
 
 pub resolving-smaller : goal.resolving-smaller
 resolving-smaller c =
@@ -40,5 +40,5 @@ pub returns-clause-learned : goal.returns-clause-learned
 returns-clause-learned c =
     let of_lits = rw c.as_slice.ensures.same at c.derived.ensures in
     IfOk-weaker c.derived.result (IsDerivationOf c.resolving.chain c.resolving.lits.set.lits) (λ d. IsLearned c.args.trail.now d.chain d.clause)
-    (IsLearned-gathered c.equal_members.ensures c.args.trail.now c.args.number c.resolving.chain c.resolving.lits _ c.requires.sound c.requires.above c.requires.falsified c.resolving.invariant.gathers c.resolving.invariant.current c.resolving-test.false)
+    (IsLearned-gathered c.equal_members.ensures c.args.trail.now c.args.number c.resolving.chain c.resolving.lits _ c.is_trail.ensures c.requires.above c.requires.falsified c.resolving.invariant.gathers c.resolving.invariant.current c.resolving-test.false)
     of_lits

@@ -18,10 +18,11 @@ returns-then-is_true-clause-visit c =
     let v : IsVisited c.args.store.now c.args.lists.now.cells.items c.args.lists.now.heads.items c.args.set.now c.args.level c.args.at c.watches-cell.result = record { can = c.requires; turns = c.watches-cell.ensures.turns; here = c.watches-cell.ensures.here } in
     visited-stays c.args.store.now c.args.lists.now.cells.items c.args.lists.now.heads.items c.args.set.now c.args.level c.args.at c.watches-cell.result v (c.is_true.ensures.0 c.if-is_true.true)
 
-pub is_live-requires-clause-given : goal.is_live-requires-clause-given
-is_live-requires-clause-given c =
+pub is_live-requires : goal.is_live-requires
+is_live-requires c =
     let v : IsVisited c.args.store.now c.args.lists.now.cells.items c.args.lists.now.heads.items c.args.set.now c.args.level c.args.at c.watches-cell.result = record { can = c.requires; turns = c.watches-cell.ensures.turns; here = c.watches-cell.ensures.here } in
-    (visited-given c.args.store.now c.args.lists.now.cells.items c.args.lists.now.heads.items c.args.set.now c.args.level c.args.at c.watches-cell.result v).1
+    let given = visited-given c.args.store.now c.args.lists.now.cells.items c.args.lists.now.heads.items c.args.set.now c.args.level c.args.at c.watches-cell.result v in
+    record { from_one = given.0; within = given.1 }
 
 pub returns-then-not-is_live-clause-watched : goal.returns-then-not-is_live-clause-watched
 returns-then-not-is_live-clause-watched c =

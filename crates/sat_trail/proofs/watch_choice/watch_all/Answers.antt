@@ -1,5 +1,5 @@
 -- One clause after the other is attached.
-use Rattle.std.proofs.Common.{◌+◌, ◌≤◌, length, sym, ap, subst, rules}
+use Rattle.std.proofs.Common.{◌+◌, ◌≤◌, length, sym, ap, subst, arith, rules}
 use Rattle.sat_trail.specs.Trail.{HasTwoOpen}
 use Rattle.sat_trail.proofs.AdditionLemmas.{attached-start, open-empty, attached-blank, attached-next}
 use Rattle.sat_trail.proofs.watch_choice.watch_all.Goals as goal
@@ -13,7 +13,11 @@ choose-requires-clause-open c =
     (open-empty _ _ c.requires.none c.lits.ensures.ascending)
 
 pub attach-requires-clause-blank : goal.attach-requires-clause-blank
-attach-requires-clause-blank c = attached-blank _ _ _ _ _ _ c.loop-clause.invariant.counted c.loop-clause-test.true c.loop-clause.invariant.attached
+attach-requires-clause-blank c = record {
+  from_one = omega arith;
+  within = search rules;
+  unwatched = attached-blank _ _ _ _ _ _ c.loop-clause.invariant.counted c.loop-clause-test.true c.loop-clause.invariant.attached;
+}
 
 pub loop-clause-preserved : goal.loop-clause-preserved
 loop-clause-preserved c = record {

@@ -1,23 +1,24 @@
 -- The variable of a false literal exists, and the literal is in at the end.
-use Rattle.std.proofs.Common.{◌≤◌, sym, subst}
+use Rattle.std.proofs.Common.{rules, ◌≤◌, sym, subst}
 use Rattle.std.proofs.lemmas.Bool.{iff_false}
 use Rattle.sat_solver.specs.inner.LiteralSet.{LiteralSet}
 use Rattle.sat_solver.specs.inner.Gathered.{AddsLiteral}
 use Rattle.sat_solver.proofs.GatheringLemmas.{false-exists, AddsLiteral-push, AddsLiteral-held, held}
 use Rattle.sat_solver.proofs.false_lits.FalseLits.insert.Goals as goal
 
-pub insert-requires-clause-from_one : goal.insert-requires-clause-from_one
-insert-requires-clause-from_one c = (false-exists c.args.trail.now c.args.lit c.requires.sound c.requires.fails).0
-
-pub insert-requires-clause-exists : goal.insert-requires-clause-exists
-insert-requires-clause-exists c =
-    subst (λ n. c.args.lit.var ≤ n) (sym c.requires.are_false.vars) (false-exists c.args.trail.now c.args.lit c.requires.sound c.requires.fails).1
+pub insert-requires : goal.insert-requires
+insert-requires c =
+    let exists = false-exists c.args.trail.now c.args.lit c.is_trail.ensures c.requires.fails in record {
+      from_one = exists.0;
+      exists = subst (λ n. c.args.lit.var ≤ n) (sym c.requires.are_false.vars) exists.1;
+      alone = search rules;
+    }
 
 pub is_current-requires-clause-from_one : goal.is_current-requires-clause-from_one
-is_current-requires-clause-from_one c = (false-exists c.args.trail.now c.args.lit c.requires.sound c.requires.fails).0
+is_current-requires-clause-from_one c = (false-exists c.args.trail.now c.args.lit c.is_trail.ensures c.requires.fails).0
 
 pub is_current-requires-clause-exists : goal.is_current-requires-clause-exists
-is_current-requires-clause-exists c = (false-exists c.args.trail.now c.args.lit c.requires.sound c.requires.fails).1
+is_current-requires-clause-exists c = (false-exists c.args.trail.now c.args.lit c.is_trail.ensures c.requires.fails).1
 
 pub returns-then-insert-clause-inserted : goal.returns-then-insert-clause-inserted
 returns-then-insert-clause-inserted c =

@@ -1,8 +1,9 @@
 -- The pivot is out, and the other literals of the clause come in one by one.
-use Rattle.std.proofs.Common.{◌≡◌, ◌↔◌, IsTrue, false, get_or, sym, ◌∙◌, rules}
+use Rattle.std.proofs.Common.{◌≡◌, ◌↔◌, IsTrue, false, cond, get_or, sym, ◌∙◌, rules}
 use Rattle.std.proofs.lemmas.Bool.{iff_false}
 use Rattle.clause_core.specs.declared.literal.Lit.{Lit}
-use Rattle.sat_solver.proofs.GatheringLemmas.{ResolvesSet-none, ResolvesSet-skip, ResolvesSet-more}
+use Rattle.sat_solver.specs.inner.Gathered.{is_current}
+use Rattle.sat_solver.proofs.GatheringLemmas.{AreFalse-remove, ResolvesSet-none, ResolvesSet-skip, ResolvesSet-more}
 use Rattle.sat_solver.proofs.false_lits.FalseLits.resolve.Goals as goal
 
 -- the literal that a read past the end would give
@@ -11,8 +12,9 @@ blank = record { var = 0; positive = false }
 
 pub loop-lit-init : goal.loop-lit-init
 loop-lit-init c = record {
-  are_false = c.remove.ensures.are_false;
-  resolved = ResolvesSet-none c.args.self.now.set.lits c.args.pivot c.args.reason.now c.remove.new.self.set.lits c.remove.ensures.taken;
+  are_false = AreFalse-remove c.args.trail.now c.args.self.now c.args.pivot c.remove.new.self _ c.requires.are_false c.remove.ensures.set c.remove.ensures.vars c.remove.ensures.taken
+      (let weighs : c.from.result ≡ cond (is_current c.args.trail.now c.args.pivot) 1 0 = search rules in weighs);
+  resolved = ResolvesSet-none c.args.self.now.set.lits c.args.pivot c.args.reason.now c.remove.new.self.lits c.remove.ensures.taken;
 }
 
 pub loop-lit-preserved-then-eq : goal.loop-lit-preserved-then-eq

@@ -1,5 +1,5 @@
 -- The clause is open, so it was settled at each lower level.
-use Rattle.std.proofs.Common.{◌≤◌, Option, Some, length, sym, ap, subst, arith, false, List, [], ◌∷◌, length-append}
+use Rattle.std.proofs.Common.{◌≤◌, Option, Some, length, sym, ap, subst, arith, rules, false, List, [], ◌∷◌, length-append}
 use Rattle.sat_trail.specs.Trail.{HasTwoOpen}
 use Rattle.sat_trail.proofs.AdditionLemmas.{IsKept-reserved, IsKept-attached, open-two}
 use Rattle.sat_trail.proofs.AttachLemmas.{spare-unwatched}
@@ -33,9 +33,12 @@ attach-requires-clause-linked c =
     (IsKept-reserved _ _ _ _ _ _ _ _ _ _ c.reserve.ensures.grows c.reserve.ensures.heads c.self.invariant).linked
 
 pub attach-requires-clause-blank : goal.attach-requires-clause-blank
-attach-requires-clause-blank c =
-    spare-unwatched _ _ _ _ _ _ (omega (arith, c.len.ensures))
-    (IsKept-reserved _ _ _ _ _ _ _ _ _ _ c.reserve.ensures.grows c.reserve.ensures.heads c.self.invariant).watched
+attach-requires-clause-blank c = record {
+  from_one = omega arith;
+  within = search rules;
+  unwatched = spare-unwatched _ _ _ _ _ _ (omega (arith, c.len.ensures))
+      (IsKept-reserved _ _ _ _ _ _ _ _ _ _ c.reserve.ensures.grows c.reserve.ensures.heads c.self.invariant).watched;
+}
 
 pub invariant_of-self-2 : goal.invariant_of-self-2
 invariant_of-self-2 c =

@@ -8,20 +8,20 @@ pub overflow_add-self : goal.overflow_add-self
 overflow_add-self c =
     let room = c.len-self-inside.ensures.room in
     let none = rw (← c.self.view_is) at c.requires.no_value in
-    let exists = rw (← c.self.view_is) at c.requires.exists in
-    omega (arith, room.few, room.more c.args.lit.var c.requires.from_one exists none, level-fits c.self.inside.store c.self.inside.set _ _ c.self.invariant.trail)
+    let exists = rw (← c.self.view_is) at c.requires.exists.within in
+    omega (arith, room.few, room.more c.args.lit.var c.requires.exists.from_one exists none, level-fits c.self.inside.store c.self.inside.set _ _ c.self.invariant.trail)
 
 pub invariant_of-self : goal.invariant_of-self
 invariant_of-self c =
-    IsKept-decide _ _ _ _ _ _ _ _ _ c.args.lit _ (rw (← c.self.view_is) at c.requires.ready) c.self.invariant c.requires.from_one (rw (← c.self.view_is) at c.requires.exists)
+    IsKept-decide _ _ _ _ _ _ _ _ _ c.args.lit _ (rw (← c.self.view_is) at c.requires.ready) c.self.invariant c.requires.exists.from_one (rw (← c.self.view_is) at c.requires.exists.within)
     (rw (← c.self.view_is) at c.requires.no_value) (rw c.decision.ensures at c.push.ensures) c.len-self-inside.ensures.count
 
 pub returns-clause-sound : goal.returns-clause-sound
 returns-clause-sound c =
-    IsTrail-grown _ (IsKept-decide _ _ _ _ _ _ _ _ _ c.args.lit _ (rw (← c.self.view_is) at c.requires.ready) c.self.invariant c.requires.from_one (rw (← c.self.view_is) at c.requires.exists)
+    IsTrail-grown _ (IsKept-decide _ _ _ _ _ _ _ _ _ c.args.lit _ (rw (← c.self.view_is) at c.requires.ready) c.self.invariant c.requires.exists.from_one (rw (← c.self.view_is) at c.requires.exists.within)
     (rw (← c.self.view_is) at c.requires.no_value) (rw c.decision.ensures at c.push.ensures) c.len-self-inside.ensures.count).trail
 
 pub returns-clause-room : goal.returns-clause-room
 returns-clause-room c =
     rw (← c.self.view_is)
-    (c.len-self-inside.ensures.room.more c.args.lit.var c.requires.from_one (rw (← c.self.view_is) at c.requires.exists) (rw (← c.self.view_is) at c.requires.no_value))
+    (c.len-self-inside.ensures.room.more c.args.lit.var c.requires.exists.from_one (rw (← c.self.view_is) at c.requires.exists.within) (rw (← c.self.view_is) at c.requires.no_value))

@@ -1,4 +1,5 @@
 -- Both walks add forced entries, and see what they pass.
+use Rattle.std.proofs.Common.{rules}
 use Rattle.sat_trail.proofs.GrowthLemmas.{Extends-more, CanPropagate-extends}
 use Rattle.sat_trail.proofs.TrailLemmas.{CanPropagate-kept, IsKept-stopped, IsKept-both, Propagates-extends, propagated-found}
 use Rattle.sat_trail.proofs.FactLemmas.{IsTrail-grown}
@@ -7,9 +8,12 @@ use Rattle.sat_trail.proofs.trail.Trail.propagate.Goals as goal
 pub examine_new-found-requires-clause-fits : goal.examine_new-found-requires-clause-fits
 examine_new-found-requires-clause-fits c = CanPropagate-kept _ _ _ _ _ _ _ _ c.self.invariant
 
-pub propagate_entries-found-requires-clause-fits : goal.propagate_entries-found-requires-clause-fits
-propagate_entries-found-requires-clause-fits c =
-    CanPropagate-extends _ _ _ _ (CanPropagate-kept _ _ _ _ _ _ _ _ c.self.invariant) c.examine_new-found.ensures.extends
+pub propagate_entries-found-requires : goal.propagate_entries-found-requires
+propagate_entries-found-requires c = record {
+  fits = CanPropagate-extends _ _ _ _ (CanPropagate-kept _ _ _ _ _ _ _ _ c.self.invariant) c.examine_new-found.ensures.extends;
+  watched = search rules;
+  linked = search rules;
+}
 
 pub invariant_of-self : goal.invariant_of-self
 invariant_of-self c = IsKept-stopped _ _ _ _ _ _ _ _ _ _ _ _ _ c.self.invariant c.examine_new-found.ensures.extends c.self.invariant.linked c.examine_new-found.ensures.watched

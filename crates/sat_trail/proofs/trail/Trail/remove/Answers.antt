@@ -6,11 +6,10 @@ use Rattle.clause_core.specs.declared.literal.Lit.{Lit}
 use Rattle.sat_trail.specs.inner.Propagation.{state_of}
 use Rattle.sat_trail.proofs.trail.Trail.remove.Goals as goal
 
-pub remove-requires-clause-from_one : goal.remove-requires-clause-from_one
-remove-requires-clause-from_one c = (live-given _ c.args.clause (rw (← c.self.view_is) at c.requires.live)).0
-
-pub remove-requires-clause-given : goal.remove-requires-clause-given
-remove-requires-clause-given c = (live-given _ c.args.clause (rw (← c.self.view_is) at c.requires.live)).1
+pub remove-requires : goal.remove-requires
+remove-requires c =
+    let given = live-given _ c.args.clause (rw (← c.self.view_is) at c.requires.live) in
+    record { from_one = given.0; within = given.1 }
 
 pub invariant_of-self : goal.invariant_of-self
 invariant_of-self c = IsKept-remove _ _ _ _ _ _ _ _ _ c.args.clause c.self.invariant (rw (← c.self.view_is) at c.requires.live) (rw (← c.self.view_is) at c.requires.no_reason) c.remove.ensures

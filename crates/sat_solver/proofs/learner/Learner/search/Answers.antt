@@ -1,20 +1,20 @@
 -- What was set stays set when the trail grows.
-use Rattle.std.proofs.Common.{◌∙◌, ap, rules}
+use Rattle.std.proofs.Common.{ap, rules}
 use Rattle.sat_trail.specs.State.{State}
 use Rattle.sat_solver.specs.inner.Search.{KeepsClauses}
 use Rattle.sat_solver.proofs.GrowthLemmas.{AreSetUpTo-more}
-use Rattle.sat_solver.proofs.search.find_conflict.Goals as goal
+use Rattle.sat_solver.proofs.learner.Learner.search.Goals as goal
 
 pub choose-requires-clause-passed : goal.choose-requires-clause-passed
 choose-requires-clause-passed c =
-    AreSetUpTo-more c.deciding.trail c.propagate-found.new.self c.propagate-found.ensures.grows.added c.deciding.marks.lowest
+    AreSetUpTo-more c.deciding.self.trail c.propagate-found.new.self c.propagate-found.ensures.grows.added c.deciding.marks.lowest
     (ap (λ (s : State). s.entries) c.propagate-found.ensures.grows.grows) c.deciding.invariant.1
 
 pub deciding-preserved : goal.deciding-preserved
 deciding-preserved c =
-    let keeps : KeepsClauses c.args.trail.now c.decide.new.self = search rules in (
+    let keeps : KeepsClauses c.args.self.now.trail c.decide.new.self = search rules in (
       keeps,
       AreSetUpTo-more c.propagate-found.new.self c.decide.new.self _ c.choose.new.marks.lowest
           (ap (λ (s : State). s.entries) c.decide.ensures.decided) c.choose.ensures.passed,
-      c.choose.ensures.rule ∙ c.deciding.invariant.2,
+      c.deciding.invariant.2,
     )

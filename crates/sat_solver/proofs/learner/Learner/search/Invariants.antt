@@ -2,12 +2,12 @@
 use Rattle.std.proofs.Common.{◌≡◌, ◌-◌, length}
 use Rattle.sat_solver.specs.inner.Choice.{AreSetUpTo}
 use Rattle.sat_solver.specs.inner.Search.{KeepsClauses}
-use Rattle.sat_solver.proofs.search.find_conflict.Given as goal
+use Rattle.sat_solver.proofs.learner.Learner.search.Given as goal
 
 abbrev pub invariant-deciding : goal.invariant-deciding
 invariant-deciding l =
-    KeepsClauses l.fn.trail l.trail × AreSetUpTo l.trail l.marks.lowest
-    × (l.rule.vars ≡ l.fn.rule.vars)
+    KeepsClauses l.fn.self.trail l.self.trail × AreSetUpTo l.self.trail l.marks.lowest
+    × (l.self.steps ≡ l.fn.self.steps)
 
 abbrev pub decreases-deciding : goal.decreases-deciding
-decreases-deciding l = l.trail.vars - length l.trail.entries
+decreases-deciding l = l.self.trail.vars - length l.self.trail.entries
