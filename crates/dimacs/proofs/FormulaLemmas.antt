@@ -1,93 +1,40 @@
 -- Why a text that is refused is no formula: its header, its tokens and its clauses are unique.
-use Rattle.std.proofs.Common.{◌≡◌, ◌≢◌, ℕ, ◌+◌, ◌<◌, ◌≤◌, Bool, true, false, All, List, [], ◌∷◌, ◌++◌, map, length, get_or, refl, sym, ap, subst, ◌∙◌, inl, inr, arith, codes}
-use Rattle.std.proofs.lemmas.Bool.{cases_eq, cond-false, ne_eqb}
+use Rattle.std.proofs.Common.{◌≡◌, ◌≢◌, ℕ, ◌<◌, ◌≤◌, Bool, true, false, All, List, [], ◌∷◌, ◌++◌, map, length, inl, inr, refl, sym, ap, subst, ◌∙◌, arith, codes}
 use Rattle.std.proofs.lemmas.List.{append_assoc, append-nil}
 use Rattle.std.proofs.lemmas.List.Elements.{All-append, All-cons, All-head, All-map, All-nil, All-tail}
-use Rattle.std.proofs.lemmas.Int.Digits.{first_digits_of, same_from_digits_of}
-use Rattle.std.specs.Int.Digits.{digits_of}
 use Rattle.std.specs.List.{flat_map}
 use Rattle.clause_core.specs.declared.literal.Lit.{Lit}
 use Rattle.clause_core.specs.Clause.{VariablesExist}
 use Rattle.refutation_log.specs.LogText.{pivot_text}
-use Rattle.text_lines.specs.Decimal.{numeral}
+use Rattle.list_base.specs.Numeral.{numeral}
+use Rattle.list_base.proofs.Numerals.{has_digits, same_from_numeral}
 use Rattle.dimacs.specs.declared.token.Token.{Token}
 use Rattle.dimacs.specs.declared.token.Token.TheVariants.{Literal, End}
 use Rattle.dimacs.specs.Dimacs.{HasHeader, IsDimacs, IsNoFormula, clause_words, header_words, line_words, text_lines}
 use Rattle.dimacs.specs.Verdict.{HaveExactly}
-use Rattle.dimacs.specs.inner.Reading.{AreClauses, IsTokenWord, TokenExists, clause_tokens, token_word}
+use Rattle.dimacs.specs.RefusedLine.{IsClauseWord}
+use Rattle.dimacs.specs.inner.Reading.{AreClauses, TokenExists, clause_tokens, token_word}
 use Rattle.dimacs.proofs.TokenLemmas.{exactly_as_many, variables_move, words_of_tokens}
-
--- the numeral of 0
-pub numeral_zero : numeral 0 ≡ codes "0"
-unfolding numeral
-numeral_zero = refl
-
--- the numeral of another number is its digits
-numeral_positive : (n : ℕ) → n ≢ 0 → numeral n ≡ map (λ digit. 48 + digit) (digits_of 10 n)
-unfolding numeral
-numeral_positive n positive = cond-false _ _ _ (ne_eqb n 0 positive)
-
--- digits as bytes are those of one list
-bytes_same : (ds es : List ℕ) → map (λ d. 48 + d) ds ≡ map (λ d. 48 + d) es → ds ≡ es
-bytes_same [] [] same = refl
-bytes_same [] (e ∷ es) same = cc
-bytes_same (d ∷ ds) [] same = cc
-bytes_same (d ∷ ds) (e ∷ es) same =
-    let heads : 48 + d ≡ 48 + e = cc in
-    let tails : map (λ d. 48 + d) ds ≡ map (λ d. 48 + d) es = cc in
-    let one : d ≡ e = omega arith in
-    rw one (ap (λ xs. e ∷ xs) (bytes_same ds es tails))
-
--- digits do not begin with 0
-no_zero_first : (n : ℕ) (ds : List ℕ) → digits_of 10 n ≡ ds → n ≢ 0 → codes "0" ≡ map (λ d. 48 + d) ds → ⊥
-no_zero_first n ds is positive same =
-    let first : 0 < get_or (digits_of 10 n) 0 0 = first_digits_of 10 n (omega arith) (omega arith) in
-    let zero : ds ≡ 0 ∷ [] = bytes_same ds (0 ∷ []) (sym same) in
-    let none : get_or (digits_of 10 n) 0 0 ≡ 0 = ap (λ xs. get_or xs 0 0) (is ∙ zero) in
-    omega arith
 
 -- `0` is the numeral of 0 alone
 only_zero : (n : ℕ) → codes "0" ≡ numeral n → n ≡ 0
-only_zero n same =
-    elim (cases_eq n 0) [
-      | inl a ↦ a
-      | inr a ↦ absurd (no_zero_first n _ refl a (same ∙ numeral_positive n a))
-    ]
-
--- one number has a numeral
-pub numeral_same : (m n : ℕ) → numeral m ≡ numeral n → m ≡ n
-numeral_same m n same =
-    elim (cases_eq m 0) [
-      | inl a ↦ a ∙ sym (only_zero n (sym numeral_zero ∙ ap numeral (sym a) ∙ same))
-      | inr a ↦
-          elim (cases_eq n 0) [
-            | inl b ↦ only_zero m (sym numeral_zero ∙ ap numeral (sym b) ∙ sym same) ∙ sym b
-            | inr b ↦ same_from_digits_of 10 m n (omega arith) (bytes_same _ _ (sym (numeral_positive m a) ∙ same ∙ numeral_positive n b))
-          ]
-    ]
+unfolding numeral
+only_zero n same = sym (same_from_numeral 0 n same)
 
 -- no numeral begins with a minus sign
-no_minus_bytes : (ds rest : List ℕ) → map (λ d. 48 + d) ds ≡ 45 ∷ rest → ⊥
-no_minus_bytes [] rest same = cc
-no_minus_bytes (d ∷ ds) rest same =
-    let heads : 48 + d ≡ 45 = cc in
-    omega arith
-
 no_minus : (n : ℕ) (rest : List ℕ) → numeral n ≡ 45 ∷ rest → ⊥
 no_minus n rest same =
-    elim (cases_eq n 0) [
-      | inl a ↦ no_minus_bytes (0 ∷ []) rest (sym numeral_zero ∙ ap numeral (sym a) ∙ same)
-      | inr a ↦ no_minus_bytes (digits_of 10 n) rest (sym (numeral_positive n a) ∙ same)
-    ]
+    let digit = All-head (λ byte. (48 ≤ byte) × (byte ≤ 57)) 45 rest (subst (All (λ byte. (48 ≤ byte) × (byte ≤ 57))) same (has_digits (numeral n) (n, refl))) in
+    absurd (omega (arith, digit.0))
 
 -- one literal has a text
 pub pivot_same : (m n : ℕ) (p q : Bool) → pivot_text (record { var = m; positive = p }) ≡ pivot_text (record { var = n; positive = q }) → (m ≡ n) × (p ≡ q)
-pivot_same m n true true same = (numeral_same m n same, refl)
+pivot_same m n true true same = (same_from_numeral m n same, refl)
 pivot_same m n true false same = absurd (no_minus m (numeral n) same)
 pivot_same m n false true same = absurd (no_minus n (numeral m) (sym same))
 pivot_same m n false false same =
     let tails : numeral m ≡ numeral n = cc in
-    (numeral_same m n tails, refl)
+    (same_from_numeral m n tails, refl)
 
 -- lists with another first byte differ
 other_first : (a b : ℕ) (xs ys : List ℕ) → a ∷ xs ≡ b ∷ ys → b < a → ⊥
@@ -198,7 +145,7 @@ open_clause tokens clauses pending are some written same =
     some (clauses_same written are.written pending (sym same ∙ are.tokens_are)).1
 
 -- the header of the lines is determined
-header_same : (lines : List (List ℕ)) (vars count : ℕ) (after : List (List ℕ)) (vars' count' : ℕ) (after' : List (List ℕ)) → HasHeader lines vars count after → HasHeader lines vars' count' after' → (vars ≡ vars') × (count ≡ count') × (after ≡ after')
+pub header_same : (lines : List (List ℕ)) (vars count : ℕ) (after : List (List ℕ)) (vars' count' : ℕ) (after' : List (List ℕ)) → HasHeader lines vars count after → HasHeader lines vars' count' after' → (vars ≡ vars') × (count ≡ count') × (after ≡ after')
 header_same lines vars count after vars' count' after' one other =
     let found : one.line ∷ after ≡ other.line ∷ after' = sym one.found ∙ other.found in
     let line : one.line ≡ other.line = cc in
@@ -206,19 +153,23 @@ header_same lines vars count after vars' count' after' one other =
     let words : header_words vars count ≡ header_words vars' count' = sym one.header.words_are ∙ ap line_words line ∙ other.header.words_are in
     let first : numeral vars ≡ numeral vars' = cc in
     let second : numeral count ≡ numeral count' = cc in
-    (numeral_same vars vars' first, numeral_same count count' second, rest)
+    (same_from_numeral vars vars' first, same_from_numeral count count' second, rest)
 
--- the word of a token whose variable exists is one of these words
-words_of_all : (vars : ℕ) (tokens : List Token) → All (TokenExists vars) tokens → All (λ t. IsTokenWord vars (token_word t)) tokens
-words_of_all vars [] exist = All-nil (λ t. IsTokenWord vars (token_word t))
+-- the word of a token whose variable exists may stand in a clause
+word_of_token : (vars : ℕ) (t : Token) → TokenExists vars t → IsClauseWord vars (token_word t)
+word_of_token vars (Literal lit) exists = inr (record { lit = lit; word_is = refl; exists = exists })
+word_of_token vars End exists = inl refl
+
+pub words_of_all : (vars : ℕ) (tokens : List Token) → All (TokenExists vars) tokens → All (λ t. IsClauseWord vars (token_word t)) tokens
+words_of_all vars [] exist = All-nil (λ t. IsClauseWord vars (token_word t))
 words_of_all vars (t ∷ tokens) exist =
-    All-cons (λ t. IsTokenWord vars (token_word t)) t tokens (t, refl, All-head (TokenExists vars) t tokens exist) (words_of_all vars tokens (All-tail (TokenExists vars) t tokens exist))
+    All-cons (λ t. IsClauseWord vars (token_word t)) t tokens (word_of_token vars t (All-head (TokenExists vars) t tokens exist)) (words_of_all vars tokens (All-tail (TokenExists vars) t tokens exist))
 
 -- the words of a formula are those of tokens whose variables exist
-words_exist : (vars : ℕ) (written : List (List Lit)) → All (VariablesExist vars) written → All (IsTokenWord vars) (flat_map clause_words written)
+words_exist : (vars : ℕ) (written : List (List Lit)) → All (VariablesExist vars) written → All (IsClauseWord vars) (flat_map clause_words written)
 words_exist vars written exist =
-    subst (All (IsTokenWord vars)) (words_of_tokens written)
-    (All-map (IsTokenWord vars) token_word (flat_map clause_tokens written) (words_of_all vars (flat_map clause_tokens written) (tokens_exist vars written exist)))
+    subst (All (IsClauseWord vars)) (words_of_tokens written)
+    (All-map (IsClauseWord vars) token_word (flat_map clause_tokens written) (words_of_all vars (flat_map clause_tokens written) (tokens_exist vars written exist)))
 
 -- tokens and count of a text that has a header are those of its formula
 read_back : (text : List ℕ) (vars count : ℕ) (after : List (List ℕ)) (tokens : List Token) → HasHeader (text_lines text) vars count after → map token_word tokens ≡ flat_map line_words after → All (TokenExists vars) tokens → (vars' : ℕ) (written : List (List Lit)) → IsDimacs text vars' written → (tokens ≡ flat_map clause_tokens written) × (count ≡ length written)
@@ -233,11 +184,11 @@ pub no_header : (text : List ℕ) → ((vars count : ℕ) (after : List (List �
 no_header text none vars written is_dimacs = none vars (length written) is_dimacs.after is_dimacs.header
 
 -- nor is one with a word that is no token
-pub bad_word : (text : List ℕ) (vars count : ℕ) (after : List (List ℕ)) → HasHeader (text_lines text) vars count after → ¬ All (IsTokenWord vars) (flat_map line_words after) → IsNoFormula text
+pub bad_word : (text : List ℕ) (vars count : ℕ) (after : List (List ℕ)) → HasHeader (text_lines text) vars count after → ¬ All (IsClauseWord vars) (flat_map line_words after) → IsNoFormula text
 bad_word text vars count after header bad vars' written is_dimacs =
     let one = header_same (text_lines text) vars count after vars' (length written) is_dimacs.after header is_dimacs.header in
     let exist = words_exist vars written (subst (λ n. All (VariablesExist n) written) (sym one.0) is_dimacs.variables) in
-    bad (subst (All (IsTokenWord vars)) (sym (ap (flat_map line_words) one.2 ∙ is_dimacs.clauses)) exist)
+    bad (subst (All (IsClauseWord vars)) (sym (ap (flat_map line_words) one.2 ∙ is_dimacs.clauses)) exist)
 
 -- nor one whose last clause has no end
 pub no_end : (text : List ℕ) (vars count : ℕ) (after : List (List ℕ)) (tokens : List Token) → HasHeader (text_lines text) vars count after → map token_word tokens ≡ flat_map line_words after → All (TokenExists vars) tokens → ((written : List (List Lit)) → tokens ≢ flat_map clause_tokens written) → IsNoFormula text

@@ -2,7 +2,9 @@ pub mod Appended
 pub mod ArgumentLemmas
 pub mod Causes
 pub mod FormulaLemmas
+pub mod LineLemmas
 pub mod ReadingLemmas
 pub mod TokenLemmas
 pub mod ReplyLemmas
+pub mod StopLemmas
 pub mod Written

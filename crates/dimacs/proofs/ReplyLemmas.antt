@@ -6,7 +6,8 @@ use Rattle.dimacs.specs.declared.verdict.Verdict.{Verdict}
 use Rattle.dimacs.specs.AnswerText.{answer_text}
 use Rattle.dimacs.specs.Arguments.{IsUsage}
 use Rattle.dimacs.specs.Call.{AsksForInput}
-use Rattle.dimacs.specs.Dimacs.{IsNoFormula}
+use Rattle.dimacs.specs.Dimacs.{IsNoFormula, text_lines}
+use Rattle.dimacs.specs.RefusedLine.{StopsAt}
 use Rattle.dimacs.specs.Output.{Decides, DimacsOutput, decided, dimacs_input_limit, dimacs_usage, no_formula, read, refused_length, refused_line, too_long, usage}
 use Rattle.dimacs.specs.Status.{status_of}
 use Rattle.dimacs.specs.Verdict.{IsRightVerdict}
@@ -16,9 +17,9 @@ pub verdict_decides : (budget : ℕ) (input : List ℕ) (verdict : Verdict) (out
 verdict_decides budget input verdict out end short right text_is status_is =
     rw (text_is, status_is) (decided verdict short right)
 
--- a text that is no formula is refused with a line
-pub refusal_decides : (budget : ℕ) (input : List ℕ) (line : ℕ) (out : List ℕ) → length input ≤ dimacs_input_limit → IsNoFormula input → out ≡ refused_line line → Decides budget input out status.Refused
-refusal_decides budget input line out short none text_is = rw text_is (no_formula line short none)
+-- a text that is no formula is refused with the line at which reading stops
+pub refusal_decides : (budget : ℕ) (input : List ℕ) (line : ℕ) (out : List ℕ) → length input ≤ dimacs_input_limit → IsNoFormula input → StopsAt (text_lines input) line → out ≡ refused_line line → Decides budget input out status.Refused
+refusal_decides budget input line out short none stops text_is = rw text_is (no_formula line short none stops)
 
 -- invalid arguments get the usage line
 pub usage_output : (args : List (List ℕ)) (input out : List ℕ) (end : Status) → IsUsage args → out ≡ dimacs_usage → end ≡ status.Usage → DimacsOutput args input out end

@@ -5,10 +5,11 @@ use Rattle.clause_core.specs.declared.literal.Lit.{Lit}
 use Rattle.clause_core.specs.Assignment.{valuation}
 use Rattle.clause_core.specs.declared.formula.Formula.{Formula}
 use Rattle.clause_core.specs.Clause.{Satisfies, SatisfiesAll, IsUnsatisfiable}
-use Rattle.sat_solver.specs.Outcome.{IsModel}
+use Rattle.refutation_log.specs.declared.refutation.Log.{Log}
+use Rattle.sat_solver.specs.Outcome.{IsModel, Refutes}
 use Rattle.dimacs.specs.Dimacs.{IsDimacs}
 use Rattle.dimacs.specs.Verdict.{HaveExactly, IsFormulaOf, IsRefuted, IsSatisfied}
-use Rattle.dimacs.specs.inner.Reply.{HasTooMany}
+use Rattle.dimacs.specs.Refusal.{HasTooMany}
 use Rattle.dimacs.proofs.TokenLemmas.{exactly_as_many}
 
 -- a clause is satisfied where one is whose literals it has
@@ -41,12 +42,13 @@ read_satisfied text f assignment is_formula model = record {
   satisfies = written_satisfied (valuation assignment) f.clauses is_formula.written is_formula.same model.satisfies;
 }
 
--- if nothing satisfies the formula, nothing satisfies what is written
-pub read_unsatisfiable : (text : List ℕ) (f : Formula) → IsFormulaOf text f → IsUnsatisfiable f.clauses → IsRefuted text
-read_unsatisfiable text f is_formula none = record {
-  vars = f.vars;
-  written = is_formula.written;
-  read = is_formula.read;
+-- a log within the budget refutes the formula, so that nothing satisfies what is written
+pub read_refuted : (text : List ℕ) (f : Formula) (budget : ℕ) (log : Log) (is_formula : IsFormulaOf text f) → Refutes f budget log → IsUnsatisfiable f.clauses → IsRefuted text budget
+read_refuted text f budget log is_formula refutes none = record {
+  formula = f;
+  read = is_formula;
+  log = log;
+  refutes = refutes;
   none = λ v all. none v (clauses_satisfied v f.clauses is_formula.written is_formula.same all);
 }
 

@@ -1,7 +1,8 @@
 -- The lines of an answer.
 use Rattle.std.specs.Prelude.{ℕ, ◌+◌, Bool, List, [], ◌∷◌, ◌++◌, codes}
 use Rattle.clause_core.specs.declared.literal.Lit.{Lit}
-use Rattle.refutation_log.specs.LogText.{numeral, pivot_text}
+use Rattle.list_base.specs.Numeral.{numeral}
+use Rattle.refutation_log.specs.LogText.{pivot_text}
 use Rattle.sat_solver.specs.declared.search_stats.SearchStats.{SearchStats}
 use Rattle.dimacs.specs.declared.verdict.Verdict.{Verdict}
 use Rattle.dimacs.specs.declared.verdict.Verdict.TheVariants.{Satisfiable, Unsatisfiable, Unknown}

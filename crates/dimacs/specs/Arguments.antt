@@ -1,6 +1,7 @@
 -- Which conflicts the arguments of a call allow.
 use Rattle.std.specs.Prelude.{◌≡◌, ℕ, ◌⊎◌, List, [], ◌∷◌, codes}
-use Rattle.refutation_log.specs.LogText.{IsInRange, numeral}
+use Rattle.list_base.specs.Numeral.{numeral}
+use Rattle.refutation_log.specs.NumberRange.{IsInRange}
 
 -- the conflicts that are allowed if no number is given
 abbrev pub default_budget : ℕ

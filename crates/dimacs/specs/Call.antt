@@ -13,4 +13,5 @@ AsksForInput args = (budget : ℕ) × HasBudget args budget
 
 -- the call of a program with these arguments, whose outputs answer formulas
 abbrev pub IsDimacsCall : List (List ℕ) → Traffic → Ending Status → Type 0
-IsDimacsCall args t ending = IsCall (AsksForInput args) dimacs_input_limit (DimacsOutput args) t ending
+IsDimacsCall args t ending =
+    IsCall (AsksForInput args) dimacs_input_limit (DimacsOutput args) t ending

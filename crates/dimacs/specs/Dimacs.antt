@@ -3,7 +3,8 @@ use Rattle.std.specs.Prelude.{◌≡◌, ℕ, ◌≤◌, Bool, true, false, List
 use Rattle.std.specs.List.{flat_map, slice_split}
 use Rattle.clause_core.specs.declared.literal.Lit.{Lit}
 use Rattle.clause_core.specs.Clause.{VariablesExist}
-use Rattle.refutation_log.specs.LogText.{numeral, pivot_text}
+use Rattle.list_base.specs.Numeral.{numeral}
+use Rattle.refutation_log.specs.LogText.{pivot_text}
 
 -- the most variables that a formula has
 abbrev pub variable_limit : ℕ

@@ -1,12 +1,13 @@
 -- What is written for the arguments and the bytes of the input, and with which status.
 use Rattle.std.specs.Prelude.{ℕ, ◌<◌, ◌≤◌, List, ◌++◌, length, codes}
-use Rattle.refutation_log.specs.LogText.{numeral}
+use Rattle.list_base.specs.Numeral.{numeral}
 use Rattle.dimacs.specs.declared.status.Status.{Status}
 use Rattle.dimacs.specs.declared.status.Status.TheVariants as status
 use Rattle.dimacs.specs.declared.verdict.Verdict.{Verdict}
 use Rattle.dimacs.specs.AnswerText.{answer_text}
 use Rattle.dimacs.specs.Arguments.{HasBudget, IsUsage}
-use Rattle.dimacs.specs.Dimacs.{IsNoFormula}
+use Rattle.dimacs.specs.Dimacs.{IsNoFormula, text_lines}
+use Rattle.dimacs.specs.RefusedLine.{StopsAt}
 use Rattle.dimacs.specs.Status.{status_of}
 use Rattle.dimacs.specs.Verdict.{IsRightVerdict}
 
@@ -22,7 +23,7 @@ dimacs_usage = codes "usage: dimacs_sat [--budget N]\n"
 abbrev pub refused_length : List ℕ
 refused_length = codes "refused length\n"
 
--- the line for an input that is no formula, with the number of a line of it
+-- the line for an input that is no formula, with the number of the line at which reading stops
 abbrev pub refused_line : ℕ → List ℕ
 refused_line line = codes "refused line " ++ numeral line ++ codes "\n"
 
@@ -32,6 +33,7 @@ pub data Decides (budget : ℕ) (input : List ℕ) : List ℕ → Status → Typ
   too_long : dimacs_input_limit < length input → Decides budget input refused_length status.Refused
   -- it is no formula
   no_formula : (line : ℕ) → length input ≤ dimacs_input_limit → IsNoFormula input
+      → StopsAt (text_lines input) line
       → Decides budget input (refused_line line) status.Refused
   -- it is one, and the verdict on it is right
   decided : (verdict : Verdict) → length input ≤ dimacs_input_limit

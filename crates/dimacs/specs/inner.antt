@@ -1,3 +1,2 @@
 pub mod Reading
-pub mod Reply
 pub mod Request

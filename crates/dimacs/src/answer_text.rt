@@ -4,9 +4,10 @@ ghost use Rattle.dimacs.specs.AnswerText.{answer_text, assignment_lines, count_t
 use super::verdict::Verdict;
 use clause_core::{Assignment, Lit};
 use list_base::{Bytes, NoMemory};
-use refutation_log::{push_number, push_pivot};
+use refutation_log::push_pivot;
 use sat_solver::SearchStats;
 use std::alloc::Global;
+use text_lines::push_decimal;
 
 /// The lines of a verdict.
 pub fn answer_of(alloc: Global, verdict: &Verdict) -> Result<Bytes, NoMemory>
@@ -53,7 +54,7 @@ fn push_count(text: &mut Bytes, name: &[u8], count: u32) -> Result<(), NoMemory>
     ensures { OnOk result (text.new ≡ text.old ++ count_text name.now count) }
 {
     text.append(name)?;
-    push_number(text, count)
+    push_decimal(text, u64::from(count))
 }
 
 /// Appends a line for each variable.

@@ -1,7 +1,8 @@
-ghost use Rattle.std.specs.Prelude.{ℕ, ◌+◌, ◌^◌, ◌<◌, ◌≤◌, List, length, IfOk, IfErr, OnOk};
+ghost use Rattle.std.specs.Prelude.{◌+◌, ◌^◌, ◌<◌, ◌≤◌, length, IfOk, IfErr, OnOk};
+ghost use Rattle.clause_core.specs.Clause.{IsUnsatisfiable};
 ghost use Rattle.refutation_log.specs.Resolution.{Accepts};
-ghost use Rattle.dimacs.specs.Verdict.{IsFormulaOf, IsRefuted, IsRightVerdict};
-ghost use Rattle.dimacs.specs.inner.Reply.{IsCauseOf};
+ghost use Rattle.dimacs.specs.Refusal.{IsCauseOf};
+ghost use Rattle.dimacs.specs.Verdict.{IsRightVerdict};
 
 use super::lines::formula_of;
 use super::refusal::Refusal;
@@ -13,7 +14,8 @@ use refutation_log::Log;
 use sat_solver::{Outcome, SearchStats, solve_counted};
 use std::alloc::Global;
 
-/// Decides the formula of a text with at most `budget` conflicts.
+/// Decides the formula of a text. A refutation has a log of at most `budget` steps, and the answer
+/// is unknown only if a log has that many.
 pub fn decide(alloc: Global, budget: u32, text: &[u8]) -> Result<Verdict, Refusal>
     requires { 1 ≤ budget }
     ensures right { IfOk result (IsRightVerdict text.now budget) }
@@ -38,7 +40,7 @@ pub fn decide(alloc: Global, budget: u32, text: &[u8]) -> Result<Verdict, Refusa
 fn check(alloc: Global, formula: &Formula, log: &Log) -> Result<(), NoMemory>
     requires few { length formula.now.clauses + length log.now.steps < 2 ^ 32 }
     requires accepted { Accepts formula.now log.now }
-    ensures { (text : List ℕ) → IsFormulaOf text formula.now → OnOk result (IsRefuted text) }
+    ensures { OnOk result (IsUnsatisfiable formula.now.clauses) }
 {
     match check_log(alloc, formula, log) {
         Ok(()) => Ok(()),

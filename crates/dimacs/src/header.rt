@@ -1,12 +1,12 @@
-ghost use Rattle.std.specs.Prelude.{◌≡◌, ◌≢◌, ◌≤◌, ◌∷◌, ℕ, List, IfOk, IfErr, MatchOption};
+ghost use Rattle.std.specs.Prelude.{◌≡◌, ◌≢◌, ◌+◌, ◌∷◌, ℕ, List, length, IfOk, IfErr, MatchOption};
 ghost use Rattle.std.specs.Option.{option_copied};
-ghost use Rattle.refutation_log.specs.LogText.{numeral};
-ghost use Rattle.dimacs.specs.Dimacs.{HasHeader, IsHeader, clause_limit, text_lines, words_of};
+ghost use Rattle.dimacs.specs.Dimacs.{HasHeader, IsHeader, text_lines, words_of};
 ghost use Rattle.dimacs.specs.inner.Reading.{HasNoHeader, header_form, lines_in, words_left};
 
+use super::count::count_of;
 use super::refusal::Refusal;
 use super::words::{next_word, uncommented};
-use refutation_log::{LineError, number_of, split_once};
+use text_lines::split_once;
 
 /// The most variables that a formula has.
 const VARIABLE_LIMIT: u32 = 16_777_215;
@@ -25,7 +25,7 @@ pub struct Header {
 #[derive(Clone, Copy)]
 pub struct Start<'a> {
     pub header: Header,
-    pub line: u32,
+    pub line: u64,
     pub rest: Option<&'a [u8]>,
 }
 
@@ -34,19 +34,20 @@ pub struct Start<'a> {
 pub fn start_of(text: &[u8]) -> Result<Start<'_>, Refusal>
     ensures ok { IfOk result (λ start. HasHeader (text_lines text.now)
         start.header.vars start.header.clauses (lines_in (option_copied start.rest))) }
+    ensures counted { IfOk result (λ start.
+        start.line + length (lines_in (option_copied start.rest)) ≡ length (text_lines text.now)) }
     ensures err { IfErr result (HasNoHeader (text_lines text.now)) }
 {
-    let mut line = 0u32;
+    let mut line = 0u64;
     let mut left = Some(text);
     while let Some(lines) = left {
-        line = line.saturating_add(1);
+        line += 1;
         let (first, rest) = split_once(lines, b'\n');
         let kept = uncommented(first);
         if next_word(Some(kept)).is_some() {
             return match header_of(kept) {
-                Ok(header) => Ok(Start { header, line, rest }),
-                Err(LineError::NoMemory) => Err(Refusal::NoMemory),
-                Err(_) => Err(Refusal::Line(line)),
+                Some(header) => Ok(Start { header, line, rest }),
+                None => Err(Refusal::Line(line)),
             };
         }
         left = rest;
@@ -55,15 +56,15 @@ pub fn start_of(text: &[u8]) -> Result<Start<'_>, Refusal>
 }
 
 /// The header that a line is.
-fn header_of(line: &[u8]) -> Result<Header, LineError>
-    ensures ok { IfOk result (λ header. IsHeader (words_of line.now) header.vars header.clauses) }
-    ensures err { IfErr result (λ error. error ≢ LineError.NoMemory →
-        (vars clauses : ℕ) → ¬ IsHeader (words_of line.now) vars clauses) }
+fn header_of(line: &[u8]) -> Option<Header>
+    ensures { MatchOption result
+        ((vars clauses : ℕ) → ¬ IsHeader (words_of line.now) vars clauses)
+        (λ header. IsHeader (words_of line.now) header.vars header.clauses) }
 {
-    let (vars, clauses) = counts_in(line).ok_or(LineError::Form)?;
+    let (vars, clauses) = counts_in(line)?;
     let vars = count_of(vars, VARIABLE_LIMIT)?;
     let clauses = count_of(clauses, CLAUSE_LIMIT)?;
-    Ok(Header { vars, clauses })
+    Some(Header { vars, clauses })
 }
 
 /// The two words after `p cnf`, if these are the words of the line.
@@ -92,22 +93,4 @@ fn word_after<'a>(fields: Option<&'a [u8]>, wanted: &[u8]) -> Option<Option<&'a 
 {
     let (word, rest) = next_word(fields)?;
     if word == wanted { Some(rest) } else { None }
-}
-
-/// The number that a word is, from 0 to the limit.
-fn count_of(word: &[u8], limit: u32) -> Result<u32, LineError>
-    requires { limit ≤ clause_limit }
-    ensures ok { IfOk result (λ count. (word.now ≡ numeral count) × (count ≤ limit)) }
-    ensures err { IfErr result (λ error. error ≢ LineError.NoMemory →
-        (count : ℕ) → count ≤ limit → word.now ≢ numeral count) }
-{
-    if word == b"0".as_slice() {
-        return Ok(0);
-    }
-    let count = number_of(word)?;
-    if count <= limit {
-        Ok(count)
-    } else {
-        Err(LineError::Number)
-    }
 }

@@ -5,8 +5,10 @@ mod answer_text;
 mod arguments;
 mod call;
 mod clauses;
+mod count;
 mod decision;
 mod header;
+mod laws;
 mod lines;
 mod refusal;
 mod reply;
@@ -18,6 +20,7 @@ mod words;
 
 pub use call::run;
 pub use decision::decide;
+pub use laws::stops_once;
 pub use refusal::Refusal;
 pub use request::Request;
 pub use status::Status;

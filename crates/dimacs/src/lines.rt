@@ -1,9 +1,9 @@
-ghost use Rattle.std.specs.Prelude.{◌≡◌, ◌≤◌, ℕ, map, All, IfOk, IfErr};
+ghost use Rattle.std.specs.Prelude.{ℕ, ◌+◌, ◌^◌, ◌<◌, ◌≤◌, [], length, IfOk, IfErr};
 ghost use Rattle.std.specs.Option.{option_copied};
 ghost use Rattle.dimacs.specs.Dimacs.{variable_limit};
 ghost use Rattle.dimacs.specs.Verdict.{IsFormulaOf};
-ghost use Rattle.dimacs.specs.inner.Reading.{IsUnread, TokenExists, lines_left, token_word};
-ghost use Rattle.dimacs.specs.inner.Reply.{IsCauseOf};
+ghost use Rattle.dimacs.specs.inner.Reading.{AreRead, IsUnread, lines_in};
+ghost use Rattle.dimacs.specs.Refusal.{IsCauseOf};
 
 use super::clauses::clauses_of;
 use super::header::start_of;
@@ -12,14 +12,15 @@ use super::token::Token;
 use super::words::{push_words, uncommented};
 use clause_core::Formula;
 use list_base::Seq;
-use refutation_log::{LineError, split_once};
+use refutation_log::LineError;
 use std::alloc::Global;
+use text_lines::split_once;
 
 /// The tokens of the lines after the header, and the number of the last line.
 #[derive(Drop)]
 struct Tokens {
     items: Seq<Token>,
-    line: u32,
+    line: u64,
 }
 
 /// The formula that the text is.
@@ -47,19 +48,20 @@ fn tokens_of(
     alloc: Global,
     vars: u32,
     lines: Option<&[u8]>,
-    header_line: u32,
+    header_line: u64,
 ) -> Result<Tokens, Refusal>
-    requires { vars ≤ variable_limit }
-    ensures words { IfOk result
-        (λ tokens. map token_word tokens.items ≡ lines_left (option_copied lines.entry)) }
-    ensures exist { IfOk result (λ tokens. All (TokenExists vars) tokens.items) }
-    ensures err { IfErr result (IsUnread vars (lines_left (option_copied lines.entry))) }
+    requires few { vars ≤ variable_limit }
+    requires short { header_line + length (lines_in (option_copied lines)) < 2 ^ 64 }
+    ensures ok { IfOk result (λ tokens. AreRead vars tokens.items
+        (lines_in (option_copied lines.entry)) [] header_line tokens.line) }
+    ensures err { IfErr result
+        (IsUnread vars (lines_in (option_copied lines.entry)) header_line) }
 {
     let mut items = Seq::new(alloc);
     let mut line = header_line;
     let mut left = lines;
     while let Some(bytes) = left {
-        line = line.saturating_add(1);
+        line += 1;
         let (first, rest) = split_once(bytes, b'\n');
         match push_words(&mut items, vars, uncommented(first)) {
             Ok(()) => left = rest,

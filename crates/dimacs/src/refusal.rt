@@ -6,8 +6,9 @@ use list_base::NoMemory;
 #[derive(Clone, Copy, Debug, PartialEq, Eq)]
 pub enum Refusal {
     /// The line, from 1, is not what is wanted there; the last one where the header or clauses are
-    /// missing, or clauses are too many or without an end.
-    Line(u32),
+    /// missing, or clauses are too many or without an end. A text that ends with a line feed has an
+    /// empty last line, which counts.
+    Line(u64),
     /// Clauses and budget together are 2^32 or more.
     TooMany,
     NoMemory,

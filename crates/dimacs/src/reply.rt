@@ -7,8 +7,8 @@ use super::refusal::Refusal;
 use super::status::Status;
 use list_base::{Bytes, NoMemory};
 use program_frame::Reply;
-use refutation_log::push_number;
 use std::alloc::Global;
+use text_lines::push_decimal;
 
 /// The reply to invalid arguments.
 pub fn usage(alloc: Global) -> Result<Reply<Status>, NoMemory>
@@ -52,12 +52,12 @@ pub fn decided(alloc: Global, budget: u32, text: &[u8]) -> Result<Reply<Status>,
     }
 }
 
-/// The line of a refusal, with the number of a line of the input.
-fn refused_line(alloc: Global, line: u32) -> Result<Bytes, NoMemory>
+/// The line of a refusal, with the number of the line at which reading stops.
+fn refused_line(alloc: Global, line: u64) -> Result<Bytes, NoMemory>
     ensures { IfOk result (λ text. text ≡ refused_line line) }
 {
     let mut text = Bytes::from_slice(alloc, b"refused line ")?;
-    push_number(&mut text, line)?;
+    push_decimal(&mut text, line)?;
     text.push(b'\n')?;
     Ok(text)
 }

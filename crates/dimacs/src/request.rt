@@ -24,14 +24,16 @@ impl<'a> Program<'a> for Request {
 
     ghost answers = { DimacsOutput };
 
-    ghost LIMIT = { dimacs_input_limit };
-
-    const LIMIT: u64 = 536_870_912;
+    ghost limit = { dimacs_input_limit };
 
     fn request(alloc: Global, args: &'a [String]) -> Result<Request, NoMemory> {
         Ok(Request {
-            budget: budget_of(args)?,
+            budget: budget_of(args),
         })
+    }
+
+    fn input_limit(&self) -> u64 {
+        536_870_912
     }
 
     fn unread(&self, alloc: Global) -> Result<Option<Reply<Status>>, NoMemory> {

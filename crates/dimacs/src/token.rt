@@ -1,6 +1,7 @@
 ghost use Rattle.std.specs.Prelude.{◌≡◌, ◌≢◌, ◌≤◌, IfOk, IfErr};
 ghost use Rattle.dimacs.specs.Dimacs.{variable_limit};
-ghost use Rattle.dimacs.specs.inner.Reading.{IsTokenWord, TokenExists, token_word};
+ghost use Rattle.dimacs.specs.RefusedLine.{IsClauseWord};
+ghost use Rattle.dimacs.specs.inner.Reading.{TokenExists, token_word};
 
 use clause_core::Lit;
 use refutation_log::{LineError, pivot_of};
@@ -17,7 +18,8 @@ pub enum Token {
 pub fn token_of(word: &[u8], vars: u32) -> Result<Token, LineError>
     requires { vars ≤ variable_limit }
     ensures ok { IfOk result (λ token. (token_word token ≡ word.now) × TokenExists vars token) }
-    ensures err { IfErr result (λ error. error ≢ LineError.NoMemory → ¬ IsTokenWord vars word.now) }
+    ensures err { IfErr result (λ error. error ≢ LineError.NoMemory →
+        ¬ IsClauseWord vars word.now) }
 {
     if word == b"0".as_slice() {
         return Ok(Token::End);

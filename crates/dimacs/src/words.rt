@@ -1,7 +1,8 @@
 ghost use Rattle.std.specs.Prelude.{◌≡◌, ◌≢◌, ◌≤◌, ◌++◌, ◌∷◌, [], map, All, MatchOption, OnOk, IfErr, Some};
 ghost use Rattle.std.specs.Option.{option_copied};
 ghost use Rattle.dimacs.specs.Dimacs.{line_words, parts_words, variable_limit, words_of};
-ghost use Rattle.dimacs.specs.inner.Reading.{IsTokenWord, TokenExists, blank_parts, words_left, token_word};
+ghost use Rattle.dimacs.specs.RefusedLine.{IsClauseWord};
+ghost use Rattle.dimacs.specs.inner.Reading.{TokenExists, blank_parts, words_left, token_word};
 
 use super::token::{Token, token_of};
 use list_base::Seq;
@@ -62,7 +63,7 @@ pub fn push_words(tokens: &mut Seq<Token>, vars: u32, line: &[u8]) -> Result<(),
     ensures exist { OnOk result
         (All (TokenExists vars) tokens.old → All (TokenExists vars) tokens.new) }
     ensures err { IfErr result (λ error. error ≢ LineError.NoMemory →
-        ¬ All (IsTokenWord vars) (words_of line.now)) }
+        ¬ All (IsClauseWord vars) (words_of line.now)) }
 {
     let mut left = Some(line);
     while let Some((word, rest)) = next_word(left) {

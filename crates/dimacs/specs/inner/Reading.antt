@@ -1,15 +1,16 @@
 -- What is learnt of a text word by word, and clause by clause.
-use Rattle.std.specs.Prelude.{◌≡◌, ℕ, ◌<◌, ◌≤◌, List, [], ◌∷◌, ◌++◌, map, filter, All, Option, Some, None, codes, ⊤}
+use Rattle.std.specs.Prelude.{◌≡◌, ℕ, ◌+◌, ◌<◌, ◌≤◌, List, length, [], ◌∷◌, ◌++◌, map, filter, All, Option, Some, None, codes, ⊤}
 use Rattle.std.specs.List.{flat_map, slice_split}
 use Rattle.clause_core.specs.declared.literal.Lit.{Lit}
 use Rattle.refutation_log.specs.LogText.{pivot_text}
-use Rattle.refutation_log.specs.LineParts.{parts_in}
+use Rattle.list_base.specs.Lines.{parts_in}
 use Rattle.dimacs.specs.declared.refusal.Refusal.{Refusal}
 use Rattle.dimacs.specs.declared.refusal.Refusal.TheVariants as refusals
 use Rattle.dimacs.specs.declared.refusal.Refusal.TheVariants.{Line, TooMany}
 use Rattle.dimacs.specs.declared.token.Token.{Token}
 use Rattle.dimacs.specs.declared.token.Token.TheVariants.{Literal, End}
 use Rattle.dimacs.specs.Dimacs.{HasHeader, parts_words, is_word, line_words}
+use Rattle.dimacs.specs.RefusedLine.{StopsAt, IsClauseLine}
 use Rattle.dimacs.specs.Verdict.{HaveExactly}
 
 -- the parts between blanks of what is left of a line, if anything is
@@ -29,10 +30,6 @@ header_form vars clauses = codes "p" ∷ codes "cnf" ∷ vars ∷ clauses ∷ []
 abbrev pub lines_in : Option (List ℕ) → List (List ℕ)
 lines_in left = parts_in 10 left
 
--- the words of the lines that are left
-abbrev pub lines_left : Option (List ℕ) → List (List ℕ)
-lines_left left = flat_map line_words (lines_in left)
-
 -- the word of a token
 abbrev pub token_word : Token → List ℕ
 token_word (Literal lit) = pivot_text lit
@@ -43,22 +40,41 @@ abbrev pub TokenExists : ℕ → Token → Type 0
 TokenExists vars (Literal lit) = (0 < lit.var) × (lit.var ≤ vars)
 TokenExists vars End = ⊤
 
--- the word is that of a token whose variable exists
-abbrev pub IsTokenWord : ℕ → List ℕ → Type 0
-IsTokenWord vars word = (token : Token) × (token_word token ≡ word) × TokenExists vars token
-
--- the refusal of lines of which the first that has words is no header, or of lines without words
-abbrev pub HasNoHeader : List (List ℕ) → Refusal → Type 0
-HasNoHeader lines (Line line) =
+-- the lines have no header
+abbrev pub AreHeadless : List (List ℕ) → Type 0
+AreHeadless lines =
     (vars clauses : ℕ) (after : List (List ℕ)) → ¬ HasHeader lines vars clauses after
+
+-- the refusal of lines that have no header
+abbrev pub HasNoHeader : List (List ℕ) → Refusal → Type 0
+HasNoHeader lines (Line line) = AreHeadless lines × StopsAt lines line
 HasNoHeader lines TooMany = ⊥
 HasNoHeader lines refusals.NoMemory = ⊤
 
--- the refusal of words of which one is no token
-abbrev pub IsUnread : ℕ → List (List ℕ) → Refusal → Type 0
-IsUnread vars words (Line line) = ¬ All (IsTokenWord vars) words
-IsUnread vars words TooMany = ⊥
-IsUnread vars words refusals.NoMemory = ⊤
+-- the first of the lines with a word of no clause has this number, counted on from another
+pub record HasBadLine (vars : ℕ) (lines : List (List ℕ)) (from line : ℕ) : Type 0 where
+  pub before : List (List ℕ)
+  pub bad : List ℕ
+  pub after : List (List ℕ)
+  pub parts : lines ≡ before ++ bad ∷ after
+  pub good : All (IsClauseLine vars) before
+  pub other : ¬ IsClauseLine vars bad
+  pub counted : line + length after ≡ from + length lines
+
+-- the refusal of lines of which one has a word of no clause
+abbrev pub IsUnread : ℕ → List (List ℕ) → ℕ → Refusal → Type 0
+IsUnread vars lines from (Line line) = HasBadLine vars lines from line
+IsUnread vars lines from TooMany = ⊥
+IsUnread vars lines from refusals.NoMemory = ⊤
+
+-- of these lines some are left; the tokens are the words of the others, and were counted on
+pub record AreRead
+    (vars : ℕ) (tokens : List Token) (lines left : List (List ℕ)) (from line : ℕ) : Type 0 where
+  pub before : List (List ℕ)
+  pub parts : lines ≡ before ++ left
+  pub words : map token_word tokens ≡ flat_map line_words before
+  pub exist : All (TokenExists vars) tokens
+  pub counted : line + length left ≡ from + length lines
 
 -- the tokens of a clause
 abbrev pub clause_tokens : List Lit → List Token

@@ -1,7 +1,7 @@
 -- What the solver found is right for the text.
 use Rattle.std.proofs.Common.{arith}
 use Rattle.dimacs.proofs.ReadingLemmas.{handed_on}
-use Rattle.dimacs.proofs.Written.{read_satisfied, read_too_many}
+use Rattle.dimacs.proofs.Written.{read_refuted, read_satisfied, read_too_many}
 use Rattle.dimacs.proofs.decision.decide.Goals as goal
 
 pub returns-in_err-formula-clause-refused : goal.returns-in_err-formula-clause-refused
@@ -15,6 +15,10 @@ returns-then-len-from-clause-refused c =
 pub returns-in-Sat-clause-right : goal.returns-in-Sat-clause-right
 returns-in-Sat-clause-right c =
     read_satisfied c.args.text.now c.in_ok-formula.formula c.in-Sat.assignment c.in_ok-formula.ensures.ok (rw c.in-Sat.is at c.in_ok-assignment.ensures)
+
+pub returns-in-Unsat-clause-right : goal.returns-in-Unsat-clause-right
+returns-in-Unsat-clause-right c =
+    read_refuted c.args.text.now c.in_ok-formula.formula c.args.budget c.in-Unsat.log c.in_ok-formula.ensures.ok (rw c.in-Unsat.is at c.in_ok-assignment.ensures) c.in_ok-check-in-Unsat.ensures
 
 pub returns-clause-right : goal.returns-clause-right
 returns-clause-right c = record {

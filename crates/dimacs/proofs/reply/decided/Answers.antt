@@ -8,4 +8,5 @@ returns-in_ok-answer_of-in-Ok c =
 
 pub returns-in_ok-refused_line-in-Err-Line : goal.returns-in_ok-refused_line-in-Err-Line
 returns-in_ok-refused_line-in-Err-Line c =
-    refusal_decides c.args.budget c.args.text.now c.in-Err-Line.line _ c.requires.short (rw c.in-Err-Line.field-0-is at c.in-Err-Line.ensures.refused) c.in_ok-refused_line-in-Err-Line.ensures
+    let cause = rw c.in-Err-Line.field-0-is at c.in-Err-Line.ensures.refused in
+    refusal_decides c.args.budget c.args.text.now c.in-Err-Line.line _ c.requires.short cause.0 cause.1 c.in_ok-refused_line-in-Err-Line.ensures

@@ -3,7 +3,8 @@ use Rattle.std.specs.Prelude.{ℕ, ◌+◌, ◌^◌, ◌≤◌, List, length, �
 use Rattle.clause_core.specs.declared.literal.Lit.{Lit}
 use Rattle.dimacs.specs.declared.refusal.Refusal.{Refusal}
 use Rattle.dimacs.specs.declared.refusal.Refusal.TheVariants.{Line, TooMany, NoMemory}
-use Rattle.dimacs.specs.Dimacs.{IsDimacs, IsNoFormula}
+use Rattle.dimacs.specs.Dimacs.{IsDimacs, IsNoFormula, text_lines}
+use Rattle.dimacs.specs.RefusedLine.{StopsAt}
 
 -- the text is a formula, whose clauses and the budget are 2^32 or more
 pub record HasTooMany (text : List ℕ) (budget : ℕ) : Type 0 where
@@ -12,8 +13,8 @@ pub record HasTooMany (text : List ℕ) (budget : ℕ) : Type 0 where
   pub read : IsDimacs text vars written
   pub many : 2 ^ 32 ≤ length written + budget
 
--- the cause of each refusal; out of memory has none
+-- why there is no verdict, unless memory ran out
 abbrev pub IsCauseOf : List ℕ → ℕ → Refusal → Type 0
-IsCauseOf text budget (Line line) = IsNoFormula text
+IsCauseOf text budget (Line line) = IsNoFormula text × StopsAt (text_lines text) line
 IsCauseOf text budget TooMany = HasTooMany text budget
 IsCauseOf text budget NoMemory = ⊤
