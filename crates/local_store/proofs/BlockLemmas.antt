@@ -19,7 +19,7 @@ use Rattle.role_knowledge.specs.declared.block.Block.{Block}
 use Rattle.role_knowledge.specs.declared.block.Block.TheVariants.{Missing, Bound}
 use Rattle.role_knowledge.specs.Blocked.{IsBlockOf, IsFirstBlock, IsPermitted, Permits}
 use Rattle.stamped_history.specs.Local.{KnowsOneValue}
-use Rattle.local_store.specs.inner.Blocking.{block_of, first_block}
+use Rattle.local_store.specs.inner.Blocks.{block_of, first_block}
 use Rattle.local_store.proofs.KnownLemmas.{Reads, first_known, known_from_first}
 
 module _ (law : EqualValuesAreOne) (x : Expanded) (history : List Event) (key : List Value) (one : KnowsOneValue x history) where

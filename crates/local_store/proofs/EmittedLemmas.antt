@@ -23,7 +23,7 @@ use Rattle.bspl_types.specs.Choice.{chosen_params, is_chosen}
 use Rattle.local_store.specs.Emission.{IsEmission}
 use Rattle.local_store.specs.State.{StoreState, acts_of}
 use Rattle.local_store.specs.inner.Acts.{value_in}
-use Rattle.local_store.specs.inner.Filling.{filled, filling, key_value}
+use Rattle.local_store.specs.inner.FilledValues.{filled, filling, key_value}
 use Rattle.local_store.proofs.FillingLemmas.{chosen_are, filled_count, filled_pair, keyed_if}
 use Rattle.local_store.proofs.KeyOrderLemmas.{key_value_at, keys_once}
 use Rattle.local_store.proofs.InstanceLemmas.{params_exist}

@@ -10,7 +10,7 @@ use Rattle.bspl_types.specs.declared.value.Value.{Value}
 use Rattle.bspl_types.specs.declared.value.Value.TheVariants.{Number}
 use Rattle.bspl_types.specs.Adornment.{has_value, valued}
 use Rattle.bspl_types.specs.Choice.{is_out}
-use Rattle.local_store.specs.inner.Filling.{filled, filling, key_value}
+use Rattle.local_store.specs.inner.FilledValues.{filled, filling, key_value}
 
 module _ (known : ℕ → Value) (of_key : ℕ → Option Value) (outs : List Value) where
   -- each parameter adorned `in` or `out` has a value

@@ -11,7 +11,7 @@ use Rattle.list_base.proofs.Partners.{NoRepeat}
 use Rattle.bspl_types.specs.declared.protocol.ParamInfo.{ParamInfo}
 use Rattle.bspl_types.specs.declared.value.Value.{Value}
 use Rattle.bspl_types.specs.Shape.{key_indices}
-use Rattle.local_store.specs.inner.Filling.{key_value}
+use Rattle.local_store.specs.inner.FilledValues.{key_value}
 
 -- the indices of the key parameters among these, of which the first has that index
 abbrev indices_from : ℕ → List ParamInfo → List ℕ

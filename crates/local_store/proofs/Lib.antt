@@ -7,7 +7,6 @@ pub mod LocalLemmas
 pub mod AppendLemmas
 pub mod KnownLemmas
 pub mod BlockLemmas
-pub mod TableLemmas
 pub mod SoundLemmas
 pub mod DifferenceLemmas
 pub mod ReceiptLemmas

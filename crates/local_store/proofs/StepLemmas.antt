@@ -10,9 +10,9 @@ use Rattle.bspl_types.specs.declared.value.Value.TheVariants.{Number}
 use Rattle.bspl_types.specs.Adornment.{has_value, valued}
 use Rattle.role_knowledge.specs.declared.block.Block.{Block}
 use Rattle.local_store.specs.declared.receipt.Receipt.{Receipt}
-use Rattle.local_store.specs.inner.Blocking.{block_of, first_block}
+use Rattle.local_store.specs.inner.Blocks.{block_of, first_block}
 use Rattle.local_store.specs.inner.Difference.{difference, first_difference}
-use Rattle.local_store.specs.inner.Filling.{filled, filling, key_value}
+use Rattle.local_store.specs.inner.FilledValues.{filled, filling, key_value}
 
 -- without a value of the key no key parameter has one
 pub no_key_value : (keys : List ℕ) (left : List Value) (p : ℕ) → length left ≡ 0 → key_value keys left p ≡ None

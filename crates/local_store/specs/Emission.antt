@@ -1,16 +1,31 @@
 -- Which instance a store emits, and with which stamp and number.
-use Rattle.std.specs.Prelude.{◌≡◌, ℕ, ◌+◌, List, map, length}
-use Rattle.std.specs.List.{filter}
+use Rattle.std.specs.Prelude.{◌≡◌, ℕ, ◌+◌, ◌<◌, List, map, length}
+use Rattle.std.specs.List.{Contains, filter}
 use Rattle.bspl_types.specs.declared.envelope.Stamped.{Stamped}
 use Rattle.bspl_types.specs.declared.event.Instance.{Instance}
 use Rattle.bspl_types.specs.declared.expanded.Expanded.{Expanded}
 use Rattle.bspl_types.specs.declared.protocol.Adornment.TheVariants.{In}
 use Rattle.bspl_types.specs.declared.value.Value.{Value}
-use Rattle.bspl_types.specs.Choice.{is_chosen}
+use Rattle.bspl_types.specs.Choice.{chosen_params, is_chosen}
+use Rattle.bspl_types.specs.Expansion.{message_of}
 use Rattle.bspl_types.specs.Instance.{Carries, Fits, pairs}
 use Rattle.bspl_types.specs.Knowledge.{Knows}
-use Rattle.stamped_history.specs.Entries.{last_stamp}
+use Rattle.stamped_history.specs.Entries.{clock_limit, last_stamp}
 use Rattle.local_store.specs.State.{StoreState, acts_of}
+
+-- an emission is proposed: under a held key, with a value for each parameter that the sender
+-- chooses, and with a next stamp
+pub record IsProposal (s : StoreState) (message : ℕ) (key outs : List Value) : Type 0 where
+  pub held : Contains s.keys key
+  pub chosen : length outs ≡ length (chosen_params s.protocol message)
+  pub clock : last_stamp s.entries < clock_limit
+
+-- it can be tried: the role sends the message, and there is room for the event
+pub record IsAttempt (s : StoreState) (message : ℕ) (key outs : List Value) : Type 0 where
+  pub proposal : IsProposal s message key outs
+  pub known : message < length s.protocol.messages
+  pub own : (message_of s.protocol message).sender ≡ s.role
+  pub spare : 0 < s.spare
 
 -- the instance's values of the parameters that the sender chooses, in the message's order
 abbrev pub chosen_values : Expanded → Instance → List Value

@@ -1,5 +1,5 @@
 -- What a store answers to a message, and how it changes.
-use Rattle.std.specs.Prelude.{◌≡◌, ◌≢◌, ℕ, ◌+◌, max, List, ◌∷◌, ◌++◌}
+use Rattle.std.specs.Prelude.{◌≡◌, ◌≢◌, ℕ, ◌+◌, ◌<◌, max, List, ◌∷◌, ◌++◌}
 use Rattle.std.specs.List.{All, Contains}
 use Rattle.bspl_types.specs.declared.envelope.Stamped.{Stamped}
 use Rattle.bspl_types.specs.declared.event.Event.{Event}
@@ -8,12 +8,23 @@ use Rattle.bspl_types.specs.declared.event.Instance.{Instance}
 use Rattle.bspl_types.specs.declared.expanded.Expanded.{Expanded}
 use Rattle.bspl_types.specs.declared.protocol.Carried.{Carried}
 use Rattle.bspl_types.specs.declared.value.Value.{Value}
-use Rattle.bspl_types.specs.Instance.{pairs}
+use Rattle.bspl_types.specs.Expansion.{message_of}
+use Rattle.bspl_types.specs.Instance.{Fits, pairs}
 use Rattle.bspl_types.specs.Knowledge.{Knows}
-use Rattle.stamped_history.specs.Entries.{last_stamp}
+use Rattle.stamped_history.specs.Entries.{clock_limit, last_stamp}
 use Rattle.local_store.specs.declared.receipt.Receipt.{Receipt}
 use Rattle.local_store.specs.declared.receipt.Receipt.TheVariants.{Fresh, Repeat, Differs}
 use Rattle.local_store.specs.State.{StoreState, acts_of, with_entry}
+
+-- a message that the store can take: it fits, the role receives it, its key is held, there is room
+-- for the event, and a stamp above the clock and the message's
+pub record IsArrival (s : StoreState) (m : Stamped) : Type 0 where
+  pub fits : Fits s.protocol m.instance
+  pub own : (message_of s.protocol m.instance.message).receiver ≡ s.role
+  pub held : Contains s.keys m.instance.key
+  pub spare : 0 < s.spare
+  pub clock : last_stamp s.entries < clock_limit
+  pub stamp : m.stamp < clock_limit
 
 -- what the history knows of the pair's parameter under the key is the pair's value
 abbrev pub Agrees : Expanded → List Event → List Value → Carried × Value → Type 0

@@ -1,5 +1,5 @@
 -- What contracts see of a store, and how its calls change it.
-use Rattle.std.specs.Prelude.{◌≡◌, ℕ, ◌-◌, List, [], ◌∷◌, ◌++◌, map, slice_index_or}
+use Rattle.std.specs.Prelude.{◌≡◌, ℕ, ◌-◌, ◌<◌, List, [], ◌∷◌, ◌++◌, length, map, slice_index_or}
 use Rattle.std.specs.List.{Contains}
 use Rattle.bspl_types.specs.declared.event.Event.{Event}
 use Rattle.bspl_types.specs.declared.expanded.Expanded.{Expanded}
@@ -47,3 +47,8 @@ new_store x role = record { protocol = x; role = role; keys = []; entries = []; 
 -- the held key at the index
 abbrev pub key_at : StoreState → ℕ → List Value
 key_at s row = slice_index_or s.keys row []
+
+-- the row is that of a held key, and the message one of the protocol
+pub record AreIndices (s : StoreState) (row message : ℕ) : Type 0 where
+  pub row_within : row < length s.keys
+  pub message_within : message < length s.protocol.messages

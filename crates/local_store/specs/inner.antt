@@ -1,7 +1,8 @@
 -- What only private functions cite.
 pub mod Grids
 pub mod Acts
-pub mod Blocking
-pub mod Filling
+pub mod Blocks
+pub mod FilledValues
 pub mod Difference
 pub mod Kept
+pub mod Appended

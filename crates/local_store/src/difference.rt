@@ -1,8 +1,8 @@
-ghost use Rattle.std.specs.Prelude.{◌≡◌, ◌<◌, length};
-ghost use Rattle.std.specs.List.{All, zip};
+ghost use Rattle.std.specs.Prelude.{◌≡◌, ◌<◌};
+ghost use Rattle.std.specs.List.{zip};
 ghost use Rattle.bspl_types.specs.Adornment.{valued};
 ghost use Rattle.local_store.specs.inner.Difference.{difference, first_difference};
-ghost use Rattle.local_store.specs.inner.Grids.{cell_at};
+ghost use Rattle.local_store.specs.inner.Grids.{HasCells, cell_at};
 
 use super::grid::Grid;
 use super::receipt::Receipt;
@@ -15,8 +15,7 @@ pub fn first_difference(
     carried: &[Carried],
     values: &[Value],
 ) -> Option<Receipt>
-    requires row { row < cells.now.rows }
-    requires params { All (λ c. c.param < cells.now.width) carried.now }
+    requires { HasCells cells.now.width cells.now.rows row carried.now }
     ensures { result ≡ first_difference (cell_at cells.now.width cells.now.items row)
         (zip (valued carried.now) values.now) }
 {

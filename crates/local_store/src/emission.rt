@@ -5,9 +5,7 @@ ghost use Rattle.bspl_types.specs.declared.event.Event.TheVariants.{Emit};
 ghost use Rattle.bspl_types.specs.Expansion.{message_of};
 ghost use Rattle.bspl_types.specs.Knowledge.{CanEmit};
 ghost use Rattle.role_knowledge.specs.Blocked.{IsFirstBlock};
-ghost use Rattle.stamped_history.specs.Entries.{last_stamp};
-ghost use Rattle.bspl_types.specs.Choice.{chosen_params};
-ghost use Rattle.local_store.specs.Emission.{IsEmission};
+ghost use Rattle.local_store.specs.Emission.{IsAttempt, IsEmission, IsProposal};
 ghost use Rattle.local_store.specs.State.{acts_of, with_entry};
 
 use super::act::Kind;
@@ -19,12 +17,7 @@ impl Store {
     /// Emits the message under the key with the known values of its `in` parameters, and these
     /// values of its `out` parameters that are no keys. An error changes nothing.
     pub fn emit(&mut self, message: u32, key: &Key, outs: &[Value]) -> Result<Stamped, Block>
-        requires known { message < length self.old.protocol.messages }
-        requires own { (message_of self.old.protocol message).sender ≡ self.old.role }
-        requires chosen { length outs.now ≡ length (chosen_params self.old.protocol message) }
-        requires held { Contains self.old.keys key.now }
-        requires spare { 0 < self.old.spare }
-        requires clock { last_stamp self.old.entries < 18446744073709551615 }
+        requires { IsAttempt self.old message key.now outs.now }
         ensures ok { IfOk result (IsEmission self.old message key.now outs.now) }
         ensures entry { IfOk result
             (λ m. self.new ≡ with_entry self.old (Emit m.instance) m.stamp m.number) }
@@ -45,9 +38,7 @@ impl Store {
 
     /// What `emit` answers of a message that can be emitted. Nothing changes.
     pub fn planned(&self, message: u32, key: &Key, outs: &[Value]) -> Stamped
-        requires chosen { length outs.now ≡ length (chosen_params self.now.protocol message) }
-        requires held { Contains self.now.keys key.now }
-        requires clock { last_stamp self.now.entries < 18446744073709551615 }
+        requires proposal { IsProposal self.now message key.now outs.now }
         requires can { CanEmit self.now.protocol (acts_of self.now) message key.now }
         ensures { IsEmission self.now message key.now outs.now result }
     {

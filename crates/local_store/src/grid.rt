@@ -1,5 +1,6 @@
-ghost use Rattle.std.specs.Prelude.{◌≡◌, ◌+◌, ◌*◌, ◌<◌, ◌≤◌, ◌++◌, ◌⊎◌, [], length, slice_get, slice_set};
-ghost use Rattle.std.specs.Prelude.{Some, OnOk, OnErr};
+ghost use Rattle.std.specs.Prelude.{◌≡◌, ◌+◌, ◌*◌, ◌<◌, ◌≤◌, ◌++◌, ◌⊎◌, [], length, slice_get};
+ghost use Rattle.std.specs.Prelude.{slice_set, Some, OnOk, OnErr};
+ghost use Rattle.local_store.specs.inner.Grids.{RowsGrow};
 
 use list_base::{NoMemory, Seq};
 use std::alloc::Global;
@@ -43,7 +44,7 @@ impl<T: Copy> Grid<T> {
         ensures index { result ≡ row * self.now.width + column }
         ensures within { result < length self.now.items }
     {
-        let _items = self.items.as_slice();
+        prove!(self.items.len() > row * self.width + column);
         row * self.width + column
     }
 
@@ -67,9 +68,8 @@ impl<T: Copy> Grid<T> {
         requires few { rows < 4294967296 }
         ensures items { (self.new.items ≡ self.old.items) ⊎
             (self.new.items ≡ self.old.items ++ blank.now) }
-        ensures width { self.new.width ≡ self.old.width }
         ensures rows { OnOk result (rows ≤ self.new.rows) }
-        ensures kept { self.old.rows ≤ self.new.rows }
+        ensures grown { RowsGrow self.old.width self.old.rows self.new.width self.new.rows }
     {
         if self.rows < rows {
             self.add_row(blank)?;

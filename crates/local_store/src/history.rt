@@ -1,7 +1,7 @@
 ghost use Rattle.std.specs.Prelude.{◌≡◌, ◌<◌, length, slice_get, Some};
 ghost use Rattle.local_store.specs.State.{numbers, stamped_events};
 
-use super::reading::{event_as, read_values};
+use super::row_values::{event_as, read_values};
 use super::store::Store;
 use bspl_types::{Event, Instance};
 

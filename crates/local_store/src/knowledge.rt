@@ -3,7 +3,7 @@ ghost use Rattle.std.specs.List.{Contains};
 ghost use Rattle.bspl_types.specs.Knowledge.{CanEmit, IsKnown, Knows};
 ghost use Rattle.enactment_model.specs.Liveness.{IsEmitted};
 ghost use Rattle.local_store.specs.Consistent.{IsReceived};
-ghost use Rattle.local_store.specs.State.{acts_of, key_at};
+ghost use Rattle.local_store.specs.State.{AreIndices, acts_of, key_at};
 ghost use Rattle.local_store.specs.inner.Kept.{HasEvent, IsOfRole, IsSound};
 
 use super::act::Kind;
@@ -53,8 +53,7 @@ impl Store {
 
     /// Whether the message can be emitted under the row's key.
     pub fn can_emit_at(&self, row: usize, message: u32) -> bool
-        requires row { row < length self.now.keys }
-        requires known { message < length self.now.protocol.messages }
+        requires { AreIndices self.now row message }
         ensures { IsTrue result ↔
             CanEmit self.now.protocol (acts_of self.now) message (key_at self.now row) }
     {

@@ -4,19 +4,18 @@
 mod act;
 mod acts;
 mod append;
-mod binding;
-mod blocking;
+mod block;
+mod bound_cells;
 mod difference;
 mod emission;
-mod filling;
+mod filled_values;
 mod grid;
 mod history;
-mod key_table;
 mod knowledge;
 mod lookup;
-mod reading;
 mod receipt;
 mod reception;
+mod row_values;
 mod store;
 
 pub use receipt::Receipt;

@@ -1,22 +1,20 @@
-ghost use Rattle.std.specs.Prelude.{◌≡◌, ◌↔◌, ◌<◌, ◌≤◌, length, slice_get, Some, IsTrue, MatchOption};
-ghost use Rattle.std.specs.Prelude.{IfSome, IsNone};
+ghost use Rattle.std.specs.Prelude.{◌≡◌, ◌↔◌, ◌<◌, ◌≤◌, length, slice_get, Some, IsTrue};
+ghost use Rattle.std.specs.Prelude.{IfSome, IsNone, MatchOption};
 ghost use Rattle.std.specs.List.{All, Contains};
 ghost use Rattle.bspl_types.specs.Expansion.{message_of};
 ghost use Rattle.bspl_types.specs.Instance.{Fits};
 ghost use Rattle.bspl_types.specs.Knowledge.{CanEmit, IsKnown, Knows};
 ghost use Rattle.bspl_types.specs.Limits.{carried_limit};
 ghost use Rattle.role_knowledge.specs.Blocked.{IsFirstBlock};
-ghost use Rattle.stamped_history.specs.Entries.{last_stamp};
-ghost use Rattle.bspl_types.specs.Choice.{chosen_params};
-ghost use Rattle.local_store.specs.Emission.{IsEmission};
+ghost use Rattle.local_store.specs.Emission.{IsEmission, IsProposal};
 ghost use Rattle.local_store.specs.Reception.{AllAgree};
-ghost use Rattle.local_store.specs.State.{acts_of, key_at};
+ghost use Rattle.local_store.specs.State.{AreIndices, acts_of, key_at};
 ghost use Rattle.local_store.specs.inner.Difference.{NamesDifference};
 ghost use Rattle.local_store.specs.inner.Kept.{HasEvent, IsSound};
 
-use super::blocking::first_block;
+use super::block::first_block;
 use super::difference::first_difference;
-use super::filling::fill;
+use super::filled_values::fill;
 use super::receipt::Receipt;
 use super::store::Store;
 use bspl_types::{Carried, Instance, Key, Stamped, Value, equal_values_are_one};
@@ -29,7 +27,7 @@ impl Store {
             (λ row. slice_get self.now.keys row ≡ Some key.now) }
         ensures sound { IsSound self.now }
     {
-        self.keys.find(key)
+        self.keys.index_of(key)
     }
 
     /// The known value of the parameter under the row's key.
@@ -45,8 +43,7 @@ impl Store {
 
     /// Whether there is an event of the message under the row's key.
     pub(crate) fn has_event(&self, row: usize, message: u32) -> bool
-        requires row { row < length self.now.keys }
-        requires message { message < length self.now.protocol.messages }
+        requires { AreIndices self.now row message }
         ensures { IsTrue result ↔ HasEvent (acts_of self.now) (key_at self.now row) message }
     {
         self.marks.at(row, message as usize)
@@ -68,8 +65,7 @@ impl Store {
 
     /// What blocks an emission of the message under the row's key.
     pub(crate) fn block_at(&self, row: usize, message: u32) -> Option<Block>
-        requires row { row < length self.now.keys }
-        requires message { message < length self.now.protocol.messages }
+        requires { AreIndices self.now row message }
         ensures exact { IsNone result ↔
             CanEmit self.now.protocol (acts_of self.now) message (key_at self.now row) }
         ensures blocked { IfSome result
@@ -107,8 +103,7 @@ impl Store {
     pub(crate) fn emission(&self, row: usize, message: u32, key: &Key, outs: &[Value]) -> Stamped
         requires row { slice_get self.now.keys row ≡ Some key.now }
         requires can { CanEmit self.now.protocol (acts_of self.now) message key.now }
-        requires chosen { length outs.now ≡ length (chosen_params self.now.protocol message) }
-        requires clock { last_stamp self.now.entries < 18446744073709551615 }
+        requires proposal { IsProposal self.now message key.now outs.now }
         ensures { IsEmission self.now message key.now outs.now result }
     {
         let x = self.admitted.expanded();

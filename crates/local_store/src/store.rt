@@ -7,8 +7,8 @@ ghost use Rattle.local_store.specs.State.{new_store, AddsKey};
 
 use super::acts::Acts;
 use super::grid::Grid;
-use super::key_table::KeyTable;
 use bspl_types::{Admitted, Key, MESSAGE_LIMIT, PARAM_LIMIT, Value};
+use key_table::KeyTable;
 use list_base::NoMemory;
 use std::alloc::Global;
 use std::marker::Model;
@@ -128,6 +128,13 @@ impl Store {
         ensures consistent { IsConsistent self.now }
     {
         self.log.len()
+    }
+
+    /// A law: each store is consistent.
+    pub fn is_consistent(&self)
+        ensures { IsConsistent self.now }
+    {
+        self.len();
     }
 
     /// The stamp of the last event, or 0.

@@ -7,6 +7,10 @@ use Rattle.stamped_history.specs.declared.entry.Entry.{Entry}
 abbrev pub events_of : List Entry → List Event
 events_of entries = map (λ e. e.event) entries
 
+-- the last value of a clock
+abbrev pub clock_limit : ℕ
+clock_limit = 18446744073709551615
+
 -- the stamp of the last entry, or 0 if there is none
 abbrev pub last_stamp : List Entry → ℕ
 last_stamp [] = 0

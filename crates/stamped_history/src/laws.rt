@@ -1,6 +1,7 @@
 ghost use Rattle.stamped_history.specs.Extended.{EmissionKeepsExplained, ReceiptKeepsExplained};
 ghost use Rattle.stamped_history.specs.Laws.{HistoriesMerge, LocalStampsRise};
 ghost use Rattle.stamped_history.specs.Laws.{MergedRunsAreOne, StoresAgree};
+ghost use Rattle.stamped_history.specs.PlayedLaws.{HistoriesPlay, HistoriesSettle, PlayedGrows};
 
 /// Local histories whose receipts are all explained merge into a legal run, in which each role has
 /// its own history (Lamport 1978: an order by logical clocks extends the order of cause and
@@ -28,4 +29,19 @@ pub fn local_stamps_rise()
 pub fn extended_stay_explained()
     ensures emission { EmissionKeepsExplained }
     ensures receipt { ReceiptKeepsExplained }
+{}
+
+/// A run is played if each role's history is: what an agent does rests on its own history alone.
+pub fn histories_play()
+    ensures { HistoriesPlay }
+{}
+
+/// Events that are played stay so with one more that is played after them.
+pub fn played_grows()
+    ensures { PlayedGrows }
+{}
+
+/// A run is settled if the roles' histories are.
+pub fn histories_settle()
+    ensures { HistoriesSettle }
 {}

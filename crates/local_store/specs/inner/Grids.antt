@@ -1,8 +1,19 @@
 -- Items that stand in rows of one width, one row after another.
-use Rattle.std.specs.Prelude.{ℕ, ◌+◌, ◌*◌, Option, None, Some, Bool, false, List, [], ◌∷◌}
-use Rattle.std.specs.Prelude.{slice_index_or, slice_set}
+use Rattle.std.specs.Prelude.{◌≡◌, ℕ, ◌+◌, ◌*◌, ◌<◌, ◌≤◌, Option, None, Some, Bool}
+use Rattle.std.specs.Prelude.{false, List, [], ◌∷◌, slice_index_or, slice_set}
+use Rattle.std.specs.List.{All}
 use Rattle.bspl_types.specs.declared.protocol.Carried.{Carried}
 use Rattle.bspl_types.specs.declared.value.Value.{Value}
+
+-- a grid of that width and that many rows has the row, and a column for each parameter
+pub record HasCells (width rows row : ℕ) (carried : List Carried) : Type 0 where
+  pub within : row < rows
+  pub columns : All (λ c. c.param < width) carried
+
+-- no row is lost, and the width stays
+pub record RowsGrow (width rows new_width new_rows : ℕ) : Type 0 where
+  pub same : new_width ≡ width
+  pub kept : rows ≤ new_rows
 
 -- the value in the row's cell, if it has one; past the end no cell has
 abbrev pub cell_at : ℕ → List (Option Value) → ℕ → ℕ → Option Value

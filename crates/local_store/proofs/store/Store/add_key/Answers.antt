@@ -16,9 +16,9 @@ invariant_of-self c =
     let same = rows_same s.admitted s.keys s.cells.items c.cover.new.self.items s.marks.items s.marks.items cells (λ i. refl) in (
       subst (λ rows. IsKept s.admitted s.role rows s.log s.clock) (sym same) c.self.invariant.0,
       record {
-        params = c.cover.ensures.width ∙ c.self.invariant.1.params;
+        params = c.cover.ensures.grown.same ∙ c.self.invariant.1.params;
         messages = c.self.invariant.1.messages;
-        cells = omega (arith, c.cover.ensures.kept, c.self.invariant.1.cells);
+        cells = omega (arith, c.cover.ensures.grown.kept, c.self.invariant.1.cells);
         marks = c.self.invariant.1.marks;
       },
     )
@@ -38,10 +38,10 @@ invariant_of-self-in_err-cover-2 c =
     let same = rows_same s.admitted s.keys s.cells.items c.cover.new.self.items s.marks.items c.cover-2.new.self.items cells marks in (
       subst (λ rows. IsKept s.admitted s.role rows s.log s.clock) (sym same) c.self.invariant.0,
       record {
-        params = c.cover.ensures.width ∙ c.self.invariant.1.params;
-        messages = c.cover-2.ensures.width ∙ c.self.invariant.1.messages;
-        cells = omega (arith, c.cover.ensures.kept, c.self.invariant.1.cells);
-        marks = omega (arith, c.cover-2.ensures.kept, c.self.invariant.1.marks);
+        params = c.cover.ensures.grown.same ∙ c.self.invariant.1.params;
+        messages = c.cover-2.ensures.grown.same ∙ c.self.invariant.1.messages;
+        cells = omega (arith, c.cover.ensures.grown.kept, c.self.invariant.1.cells);
+        marks = omega (arith, c.cover-2.ensures.grown.kept, c.self.invariant.1.marks);
       },
     )
 
@@ -76,8 +76,8 @@ invariant_of-self-2 c =
     ] in (
       subst (λ rows. IsKept s.admitted s.role rows s.log s.clock) (sym same) kept,
       record {
-        params = c.cover.ensures.width ∙ c.self.invariant.1.params;
-        messages = c.cover-2.ensures.width ∙ c.self.invariant.1.messages;
+        params = c.cover.ensures.grown.same ∙ c.self.invariant.1.params;
+        messages = c.cover-2.ensures.grown.same ∙ c.self.invariant.1.messages;
         cells = omega (arith, most, c.in_ok-cover.ensures.rows, c.len-rows.ensures);
         marks = omega (arith, most, c.in_ok-cover-2.ensures.rows, c.len-rows.ensures);
       },

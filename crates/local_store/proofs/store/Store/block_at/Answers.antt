@@ -22,10 +22,10 @@ found c =
     let one = subst (λ u. KnowsOneValue u.protocol (acts_of u)) c.self.view_is c.self.invariant.0.local.one_value in
     let reads = All-weaker (λ (d : Carried). d.param < length t.protocol.params) (λ d. Reads t.protocol (acts_of t) key d.param (cell d.param))
     (λ d exists. subst (λ k. Reads t.protocol (acts_of t) key d.param (cell_at k s.cells.items c.args.row d.param)) (sym c.self.invariant.1.params)
-    (reads_cell s.admitted s.role s.clock s.keys s.cells.items s.marks.items s.log t c.args.row d.param c.self.invariant.0 c.self.view_is c.requires.row exists)) carried c.carried.ensures.exist in
+    (reads_cell s.admitted s.role s.clock s.keys s.cells.items s.marks.items s.log t c.args.row d.param c.self.invariant.0 c.self.view_is c.requires.row_within exists)) carried c.carried.ensures.exist in
     let all = shown c.equal_values_are_one.ensures.lists t.protocol (acts_of t) key one cell carried reads in
     let means = subst (λ o. MatchOption o (All (IsPermitted t.protocol (acts_of t) key) carried) (IsFirstBlock t.protocol (acts_of t) key carried)) (sym c.first_block.ensures) all in
-    decided t.protocol (acts_of t) c.args.message key c.first_block.result c.requires.message
+    decided t.protocol (acts_of t) c.args.message key c.first_block.result c.requires.message_within
     (subst (λ cs. MatchOption c.first_block.result (All (IsPermitted t.protocol (acts_of t) key) cs) (IsFirstBlock t.protocol (acts_of t) key cs)) c.carried.ensures.carried means)
 
 pub returns-clause-exact : goal.returns-clause-exact

@@ -5,7 +5,7 @@ use Rattle.list_base.proofs.Membership.{member_at}
 use Rattle.bspl_types.specs.declared.expanded.Expanded.{Expanded}
 use Rattle.local_store.specs.State.{StoreState, acts_of, key_at}
 use Rattle.local_store.specs.inner.Acts.{value_in}
-use Rattle.local_store.specs.inner.Filling.{filled, key_value}
+use Rattle.local_store.specs.inner.FilledValues.{filled, key_value}
 use Rattle.local_store.specs.inner.Grids.{cell_at}
 use Rattle.local_store.proofs.EmittedLemmas.{is_emission}
 use Rattle.local_store.proofs.KnownLemmas.{Reads, reads_cell}
@@ -28,6 +28,6 @@ returns c =
       reads = λ p exists. subst (λ k. Reads t.protocol (acts_of t) k p (cell p)) row_key
           (subst (λ n. Reads t.protocol (acts_of t) (key_at t c.args.row) p (cell_at n s.cells.items c.args.row p)) (sym c.self.invariant.1.params)
           (reads_cell s.admitted s.role s.clock s.keys s.cells.items s.marks.items s.log t c.args.row p c.self.invariant.0 c.self.view_is within exists));
-      chosen = c.requires.chosen;
+      chosen = c.requires.proposal.chosen;
       values_are = c.fill.ensures ∙ (λ i. filled (λ (p : ℕ). value_in (cell p)) (key_value (keys i) (c.as_slice.ensures.values i)) c.args.outs.now (c.carried-carried.ensures.carried i) 0);
     }) (ap (λ n. n + 1) c.clock.ensures) c.len.ensures.count

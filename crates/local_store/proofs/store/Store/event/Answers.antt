@@ -1,5 +1,5 @@
 -- The event that an act stands for is rebuilt from its row.
-use Rattle.std.proofs.Common.{◌≡◌, ◌<◌, ℕ, [], length, map, Some, ap, subst, sym, ◌∙◌, arith}
+use Rattle.std.proofs.Common.{◌≡◌, ◌<◌, ℕ, [], length, map, Some, ap, subst, sym, ◌∙◌, arith, All}
 use Rattle.std.specs.Prelude.{slice_get, option_map}
 use Rattle.std.proofs.lemmas.Option.{get_or_from_slice_get, slice_get-map}
 use Rattle.bspl_types.specs.declared.event.Event.{Event}
@@ -7,7 +7,7 @@ use Rattle.bspl_types.specs.declared.protocol.Carried.{Carried}
 use Rattle.bspl_types.specs.Adornment.{valued}
 use Rattle.bspl_types.specs.Expansion.{message_of}
 use Rattle.stamped_history.specs.declared.entry.Entry.{Entry}
-use Rattle.local_store.specs.State.{stamped_events}
+use Rattle.local_store.specs.State.{stamped_events, StoreState}
 use Rattle.local_store.specs.inner.Acts.{entries_in, entry_in, event_as, value_in}
 use Rattle.local_store.specs.inner.Grids.{cell_at}
 use Rattle.local_store.specs.inner.Kept.{rows_of}
@@ -25,10 +25,14 @@ at-requires c =
     let s = c.self.inside in
     (act_exists s.admitted s.role s.clock (rows_of s.admitted s.keys s.cells.items s.marks.items) s.log c.self.invariant.0 c.args.i c.at-act.result c.at-act.ensures).0
 
-pub read_values-requires-clause-row : goal.read_values-requires-clause-row
-read_values-requires-clause-row c =
+pub read_values-requires-clause-cells : goal.read_values-requires-clause-cells
+read_values-requires-clause-cells c =
     let s = c.self.inside in
-    omega (arith, (act_exists s.admitted s.role s.clock (rows_of s.admitted s.keys s.cells.items s.marks.items) s.log c.self.invariant.0 c.args.i c.at-act.result c.at-act.ensures).0, c.self.invariant.1.cells)
+    let width : length c.args.self.now.protocol.params ≡ s.cells.width = sym (c.self.invariant.1.params ∙ ap (λ (t : StoreState). length t.protocol.params) c.self.view_is) in
+    record {
+      within = omega (arith, (act_exists s.admitted s.role s.clock (rows_of s.admitted s.keys s.cells.items s.marks.items) s.log c.self.invariant.0 c.args.i c.at-act.result c.at-act.ensures).0, c.self.invariant.1.cells);
+      columns = subst (λ (n : ℕ). All (λ (d : Carried). d.param < n) c.carried-carried.result.now) width c.carried-carried.ensures.exist;
+    }
 
 pub returns : goal.returns
 returns c =

@@ -19,10 +19,17 @@ returns-then-has_event c =
       refl,
     )
 
-pub append-requires-clause-follows : goal.append-requires-clause-follows
-append-requires-clause-follows c = record {
-  once = λ among. true≢false (sym (c.if-has_event.ensures.1 (subst (λ key. HasEvent (acts_of c.args.self.now) key c.args.m.now.instance.message) (sym c.held_row-row.ensures.key) (has_received c.args.self.now c.args.m.now.instance among))));
-  later = omega (arith, c.max-stamp.ensures, c.clock.ensures);
+pub append-requires : goal.append-requires
+append-requires c = record {
+  key_is = c.held_row-row.ensures.row;
+  fits = c.requires.fits;
+  own = c.requires.own;
+  follows = record {
+    once = λ among. true≢false (sym (c.if-has_event.ensures.1 (subst (λ key. HasEvent (acts_of c.args.self.now) key c.args.m.now.instance.message) (sym c.held_row-row.ensures.key) (has_received c.args.self.now c.args.m.now.instance among))));
+    later = omega (arith, c.max-stamp.ensures, c.clock.ensures);
+  };
+  agree = c.in_default.ensures;
+  spare = c.requires.spare;
 }
 
 pub returns : goal.returns

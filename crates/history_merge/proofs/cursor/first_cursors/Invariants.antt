@@ -1,7 +1,0 @@
--- What the loop keeps: the cursors are at the start of the histories before the index.
-use Rattle.std.proofs.Common.{◌≡◌, map, take}
-use Rattle.history_merge.specs.inner.Cursors.{cursor_at}
-use Rattle.history_merge.proofs.cursor.first_cursors.Given as goal
-
-abbrev pub invariant-loop-history : goal.invariant-loop-history
-invariant-loop-history g l = l.cursors ≡ map (λ h. cursor_at (g.H.History.entries h) 0) (take l.history-index l.histories)
