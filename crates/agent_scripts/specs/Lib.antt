@@ -4,7 +4,7 @@ pub mod Table
 pub mod Statement
 pub mod Rules
 pub mod Script
-pub mod Given
+pub mod StatedScript
 pub mod ScriptText
 pub mod Refusal
 pub mod Laws

@@ -6,7 +6,7 @@ use Rattle.agent_scripts.specs.declared.plan.Plan.{Plan}
 use Rattle.agent_scripts.specs.declared.refusal.ScriptRefusal.{ScriptRefusal}
 use Rattle.agent_scripts.specs.declared.refusal.ScriptRefusal.TheVariants.{Form}
 use Rattle.agent_scripts.specs.declared.statement.Stated.{Stated}
-use Rattle.agent_scripts.specs.Given.{IsGivenScript, IsGivenPlan}
+use Rattle.agent_scripts.specs.StatedScript.{IsGivenScript, IsGivenPlan}
 use Rattle.agent_scripts.specs.Script.{Script}
 use Rattle.agent_scripts.specs.ScriptText.{IsReadTo, IsRefusedNext, IsInRange, statements_of}
 

@@ -9,9 +9,9 @@ use Rattle.agent_scripts.specs.declared.refusal.ScriptRefusal.TheVariants.{Form,
 use Rattle.agent_scripts.specs.declared.statement.Stated.{Stated}
 use Rattle.agent_scripts.specs.declared.statement.Statement.{Statement}
 use Rattle.agent_scripts.specs.Lines.{Field, lines_of, fields_of}
-use Rattle.agent_scripts.specs.Statement.{HasForm, Says}
+use Rattle.agent_scripts.specs.Statement.{HasForm, Means}
 use Rattle.agent_scripts.specs.Rules.{KeepsRules, ValueFits}
-use Rattle.agent_scripts.specs.Given.{keys_given}
+use Rattle.agent_scripts.specs.StatedScript.{keys_given}
 
 -- a line without fields and a comment are passed over
 abbrev pub is_passed_over : List Field → Bool
@@ -24,8 +24,8 @@ telling_lines text =
     filter (λ (_, line). not (is_passed_over (fields_of line))) (enumerate_from 1 (lines_of text))
 
 -- the line says the statement, which has its number
-abbrev pub SaysAt : Expanded → ℕ × List ℕ → Stated → Type 0
-SaysAt x (n, line) s = (s.line ≡ n) × Says x (fields_of line) s.statement
+abbrev pub MeansAt : Expanded → ℕ × List ℕ → Stated → Type 0
+MeansAt x (n, line) s = (s.line ≡ n) × Means x (fields_of line) s.statement
 
 -- what is stated
 abbrev pub statements_of : List Stated → List Statement
@@ -40,12 +40,12 @@ KeepRules statements =
 -- the line says nothing that keeps the rules after what is stated
 abbrev pub IsOutOfForm : Expanded → List Stated → List ℕ → Type 0
 IsOutOfForm x stated line = ¬ HasForm x (fields_of line)
-    ⊎ ((s : Statement) × Says x (fields_of line) s × ¬ KeepsRules (statements_of stated) s)
+    ⊎ ((s : Statement) × Means x (fields_of line) s × ¬ KeepsRules (statements_of stated) s)
 
 -- the line has the form of the table, but says nothing of the protocol
 abbrev pub IsUnknown : Expanded → List ℕ → Type 0
 IsUnknown x line =
-    HasForm x (fields_of line) × ((s : Statement) → ¬ Says x (fields_of line) s)
+    HasForm x (fields_of line) × ((s : Statement) → ¬ Means x (fields_of line) s)
 
 -- of the lines that follow what is stated the first is bad, in that way
 abbrev pub IsRefusedNext
@@ -67,7 +67,7 @@ pub record IsReadTo
     : Type 0 where
   pub before : List (ℕ × List ℕ)
   pub lines : telling_lines text ≡ before ++ rest
-  pub said : AllZip (SaysAt x) before stated
+  pub said : AllZip (MeansAt x) before stated
   pub rules : KeepRules (statements_of stated)
   pub end : IsEnd x stated rest
 

@@ -3,29 +3,27 @@ use Rattle.std.specs.Prelude.{◌≡◌, ℕ, ◌<◌, List, [], length, map, sl
 use Rattle.std.specs.List.{All, Contains}
 use Rattle.bspl_types.specs.declared.expanded.Expanded.{Expanded}
 use Rattle.bspl_types.specs.declared.protocol.Adornment.TheVariants.{Out}
-use Rattle.bspl_types.specs.Expansion.{message_of, Adorns}
+use Rattle.bspl_types.specs.Expansion.{message_of, Adorns, message_name}
 use Rattle.agent_scripts.specs.declared.statement.Statement.{Statement}
 use Rattle.agent_scripts.specs.declared.statement.Statement.TheVariants as says
 use Rattle.agent_scripts.specs.Lines.{Field}
-use Rattle.agent_scripts.specs.Table.{Phrase, Set, Key, Order, Decline, Bind, written, IsInTable}
+use Rattle.agent_scripts.specs.Table.{LineForm, Set, Key, Order, Decline, Bind, written, IsInTable}
 
--- the name of a role, of a message and of a parameter
+-- the name of a role
 abbrev pub role_name : Expanded → ℕ → Field
 role_name x role = slice_index_or x.roles role []
 
-abbrev pub message_name : Expanded → ℕ → Field
-message_name x m = (message_of x m).name
-
+-- the name of a parameter
 abbrev pub param_name : Expanded → ℕ → Field
 param_name x p = slice_index_or (map (λ info. info.name) x.params) p []
 
 -- what the statement says, in names
-abbrev pub phrase_of : Expanded → Statement → Phrase
-phrase_of x (says.Set setting n) = Set setting n
-phrase_of x (says.Key values) = Key values
-phrase_of x (says.Order role messages) = Order (role_name x role) (map (message_name x) messages)
-phrase_of x (says.Decline m every) = Decline (message_name x m) every
-phrase_of x (says.Bind m p rule) = Bind (message_name x m) (param_name x p) rule
+abbrev pub line_form : Expanded → Statement → LineForm
+line_form x (says.Set setting n) = Set setting n
+line_form x (says.Key values) = Key values
+line_form x (says.Order role messages) = Order (role_name x role) (map (message_name x) messages)
+line_form x (says.Decline m every) = Decline (message_name x m) every
+line_form x (says.Bind m p rule) = Bind (message_name x m) (param_name x p) rule
 
 -- the message exists, and that role sends it
 abbrev pub IsSentBy : Expanded → ℕ → ℕ → Type 0
@@ -47,10 +45,10 @@ IsKnown x (says.Bind m p rule) = (m < length x.messages) × IsFreeOut x m p
 -- the fields have the form of a line of the table
 abbrev pub HasForm : Expanded → List Field → Type 0
 HasForm x fields =
-    (phrase : Phrase) × IsInTable (length x.keys) phrase × (fields ≡ written phrase)
+    (form : LineForm) × IsInTable (length x.keys) form × (fields ≡ written form)
 
--- the fields say the statement
-pub record Says (x : Expanded) (fields : List Field) (s : Statement) : Type 0 where
+-- the fields mean the statement
+pub record Means (x : Expanded) (fields : List Field) (s : Statement) : Type 0 where
   pub known : IsKnown x s
-  pub in_table : IsInTable (length x.keys) (phrase_of x s)
-  pub fields_are : fields ≡ written (phrase_of x s)
+  pub in_table : IsInTable (length x.keys) (line_form x s)
+  pub fields_are : fields ≡ written (line_form x s)

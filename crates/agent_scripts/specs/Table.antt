@@ -15,12 +15,12 @@ use Rattle.agent_scripts.specs.Lines.{Field}
 
 -- what a line says: a setting; a workload key; a role's order; a message that is declined,
 -- always or at some numbers; the rule of a value
-pub data Phrase : Type 0 where
-  Set : Setting → ℕ → Phrase
-  Key : List Value → Phrase
-  Order : Field → List Field → Phrase
-  Decline : Field → Option ℕ → Phrase
-  Bind : Field → Field → Rule → Phrase
+pub data LineForm : Type 0 where
+  Set : Setting → ℕ → LineForm
+  Key : List Value → LineForm
+  Order : Field → List Field → LineForm
+  Decline : Field → Option ℕ → LineForm
+  Bind : Field → Field → Rule → LineForm
 
 -- the word of a setting
 abbrev pub setting_word : Setting → Field
@@ -40,7 +40,7 @@ rule_fields (Linear a b) = decimal a ∷ decimal b ∷ []
 rule_fields (Fixed text) = value_spelling (Text text) ∷ []
 
 -- the fields of the line that says it
-abbrev pub written : Phrase → List Field
+abbrev pub written : LineForm → List Field
 written (Set setting n) = setting_word setting ∷ decimal n ∷ []
 written (Key values) = codes "key" ∷ map value_spelling values
 written (Order role messages) = codes "order" ∷ role ∷ messages
@@ -65,7 +65,7 @@ IsRule (Linear a b) = (a < 2 ^ 64) × (b < 2 ^ 64)
 IsRule (Fixed text) = IsValue (Text text)
 
 -- the table has the line, for a protocol with this number of keys
-abbrev pub IsInTable : ℕ → Phrase → Type 0
+abbrev pub IsInTable : ℕ → LineForm → Type 0
 IsInTable keys (Set setting n) = IsSetting setting n
 IsInTable keys (Key values) = (length values ≡ keys) × All IsValue values
 IsInTable keys (Order role messages) = 1 ≤ length messages

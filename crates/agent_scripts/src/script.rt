@@ -5,14 +5,14 @@ ghost use Rattle.agent_scripts.specs.Script.{is_declined, values_of};
 use super::rules::{Declined, ValueRule};
 use super::values::values_of;
 use bspl_types::{Admitted, Key, NumberList, Values};
-use indexmap::IndexSet;
+use key_table::KeyTable;
 use list_base::Seq;
 use std::marker::Model;
 
 /// What the agents of all roles do. Contracts see its parts as lists.
 #[derive(Drop)]
 pub struct Script {
-    keys: IndexSet<Key>,
+    keys: KeyTable,
     orders: Seq<NumberList>,
     declines: Seq<Declined>,
     rules: Seq<ValueRule>,
@@ -25,13 +25,13 @@ impl Model for Script {
     ghost Value = { SpecScript };
 
     ghost view = { λ a. record {
-      keys = a.keys.keys;
+      keys = a.keys;
       orders = a.orders;
       declines = a.declines;
       rules = a.rules;
     } };
 
-    ghost invariant = { λ a. IsFittingScript a.keys.keys a.rules };
+    ghost invariant = { λ a. IsFittingScript a.keys a.rules };
 }
 
 impl Script {
@@ -39,14 +39,14 @@ impl Script {
 
     /// The script with these parts.
     pub fn of(
-        keys: IndexSet<Key>,
+        keys: KeyTable,
         orders: Seq<NumberList>,
         declines: Seq<Declined>,
         rules: Seq<ValueRule>,
     ) -> Script
-        requires { IsFittingScript keys.keys rules }
+        requires { IsFittingScript keys rules }
         ensures { result ≡ record {
-          keys = keys.keys;
+          keys = keys;
           orders = orders;
           declines = declines;
           rules = rules;
@@ -74,7 +74,7 @@ impl Script {
         requires within { n ≤ length self.now.keys }
         ensures { slice_get self.now.keys (n - 1) ≡ Some result }
     {
-        self.keys.as_slice()[n as usize - 1]
+        self.keys.at(n as usize - 1)
     }
 
     /// The number of the workload key, from 1, or nothing if it is none.
@@ -82,7 +82,7 @@ impl Script {
         ensures { MatchOption result (¬ Contains self.now.keys key.now)
             (λ n. (0 < n) × (slice_get self.now.keys (n - 1) ≡ Some key.now)) }
     {
-        match self.keys.get_index_of(key) {
+        match self.keys.index_of(key) {
             Some(index) => Some(index as u64 + 1),
             None => None,
         }

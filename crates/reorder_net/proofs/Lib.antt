@@ -1,1 +1,3 @@
 mod SlotLemmas
+mod CountLemmas
+mod InboxLemmas

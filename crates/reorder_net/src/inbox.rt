@@ -1,38 +1,48 @@
-ghost use Rattle.std.specs.Prelude.{◌≡◌, ◌+◌, ◌<◌, ◌≤◌, length, slice_get, remove, Some, OnOk, OnErr, IsOk};
+ghost use Rattle.std.specs.Prelude.{◌≡◌, ◌+◌, ◌<◌, ◌≤◌, length, slice_get, Some, OnOk, OnErr, IsOk};
 ghost use Rattle.std.specs.Prelude.{[]};
 ghost use Rattle.bspl_types.specs.declared.envelope.Envelope.{Envelope};
+ghost use Rattle.std.specs.List.{count_by};
 ghost use Rattle.reorder_net.specs.Inbox.{put_last, after_spending};
+ghost use Rattle.reorder_net.specs.inner.Slots.{has_copies};
+ghost use Rattle.reorder_net.specs.inner.Counts.{AreCounts, IsHeldSlot};
 
+use super::counts::{first_above, lower, raise, slot_after};
 use bspl_types::Envelope;
 use list_base::NoMemory;
 use std::alloc::Global;
 use std::marker::Model;
 
+/// How many slots a block has, and how many blocks a group.
+const WIDTH: usize = 64;
+
 /// The envelopes that a role can take, in the order in which they came. Contracts see their list,
-/// and beside it a number of puts for which there is room. Each envelope stays in its slot, and
-/// what moves when one leaves is the order of the slots alone.
+/// and beside it a number of puts for which there is room.
+///
+/// Each envelope stays in its slot, and a slot without copies is free. How many are held is counted
+/// for blocks of slots and for groups of blocks, so an envelope is found by its index in some
+/// hundred steps, and none moves when another leaves.
 #[derive(Drop)]
 pub struct Inbox {
     slots: Vec<Envelope>,
-    order: Vec<usize>,
+    blocks: Vec<usize>,
+    groups: Vec<usize>,
+    all: usize,
     spare: usize,
 }
 
 impl Model for Inbox {
-    ghost use Rattle.std.specs.Prelude.{◌+◌, ◌≤◌, vec_len, vec_capacity};
+    ghost use Rattle.std.specs.Prelude.{vec_len, vec_capacity};
     ghost use Rattle.reorder_net.specs.Inbox.{Inbox as Held};
-    ghost use Rattle.reorder_net.specs.inner.Slots.{AreHeld, held};
+    ghost use Rattle.reorder_net.specs.inner.Slots.{held};
+    ghost use Rattle.reorder_net.specs.inner.Counts.{AreTallied, HaveRoom};
 
     ghost Value = { Held };
 
-    ghost view = { λ a. record {
-      envelopes = held a.slots.items a.order.items;
-      spare = a.spare;
-    } };
+    ghost view = { λ a. record { envelopes = held a.slots.items; spare = a.spare } };
 
-    ghost invariant = { λ a. AreHeld a.slots.items a.order.items
-        × (vec_len a.slots + a.spare ≤ vec_capacity a.slots)
-        × (vec_len a.order + a.spare ≤ vec_capacity a.order) };
+    ghost invariant = { λ a. AreTallied a.slots.items a.blocks.items a.groups.items a.all
+        × HaveRoom (vec_len a.slots) a.spare (vec_capacity a.slots) (vec_capacity a.blocks)
+        (vec_capacity a.groups) };
 }
 
 impl Inbox {
@@ -42,7 +52,9 @@ impl Inbox {
     {
         Inbox {
             slots: Vec::new(alloc),
-            order: Vec::new(alloc),
+            blocks: Vec::new(alloc),
+            groups: Vec::new(alloc),
+            all: 0,
             spare: 0,
         }
     }
@@ -55,7 +67,8 @@ impl Inbox {
         ensures err { OnErr result (self.new ≡ self.old) }
     {
         self.slots.reserve(n)?;
-        self.order.reserve(n)?;
+        self.blocks.reserve(n / WIDTH + 1)?;
+        self.groups.reserve(n / WIDTH / WIDTH + 1)?;
         self.spare = self.spare.max(n);
         Ok(())
     }
@@ -72,9 +85,12 @@ impl Inbox {
             return Ok(());
         }
         self.make_room()?;
-        self.spare -= 1;
-        self.order.push_reserved(self.slots.len());
+        let block = self.slots.len() / WIDTH;
+        raise(&mut self.blocks, block);
+        raise(&mut self.groups, block / WIDTH);
         self.slots.push_reserved(envelope);
+        self.all += 1;
+        self.spare -= 1;
         Ok(())
     }
 
@@ -82,7 +98,7 @@ impl Inbox {
     pub fn len(&self) -> usize
         ensures { result ≡ length self.now.envelopes }
     {
-        self.order.len()
+        self.all
     }
 
     /// Lends the envelope at the index, from 0.
@@ -91,7 +107,8 @@ impl Inbox {
         ensures item { slice_get self.now.envelopes i ≡ Some result.now }
         ensures some { 0 < result.now.copies }
     {
-        &self.slots[self.order[i]]
+        let slot = slot_of(&self.slots, &self.blocks, &self.groups, i);
+        &self.slots[slot]
     }
 
     /// Takes one copy of the envelope at the index, and the envelope with its last copy.
@@ -101,24 +118,27 @@ impl Inbox {
             self.new.envelopes ≡ after_spending self.old.envelopes i e }
         ensures spare { self.old.spare ≤ self.new.spare }
     {
-        let slot = self.order[i];
-        if self.slots[slot].copies == 1 {
-            self.leave(i);
-        } else {
-            self.slots[slot].copies -= 1;
+        let slot = slot_of(&self.slots, &self.blocks, &self.groups, i);
+        self.slots[slot].copies -= 1;
+        if self.slots[slot].copies > 0 {
+            return;
         }
+        lower(&mut self.blocks, slot / WIDTH);
+        lower(&mut self.groups, slot / WIDTH / WIDTH);
+        self.all -= 1;
+        self.free_slots();
     }
 
-    /// The envelope at the index leaves. All slots are free once nothing is held.
-    fn leave(&mut self, i: usize)
-        requires { i < length self.old.envelopes }
-        ensures list { self.new.envelopes ≡ remove self.old.envelopes i }
+    /// Makes all slots free once nothing is held.
+    fn free_slots(&mut self)
+        ensures same { self.new.envelopes ≡ self.old.envelopes }
         ensures spare { self.old.spare ≤ self.new.spare }
     {
-        self.order.remove(i);
-        if self.order.is_empty() {
+        if self.all == 0 {
+            self.spare += self.slots.len();
             self.slots.clear();
-            self.spare = self.slots.capacity().min(self.order.capacity());
+            self.blocks.clear();
+            self.groups.clear();
         }
     }
 
@@ -135,4 +155,16 @@ impl Inbox {
         }
         self.reserve(1)
     }
+}
+
+/// The slot of the envelope that is held at the index.
+fn slot_of(slots: &[Envelope], blocks: &[usize], groups: &[usize], i: usize) -> usize
+    requires blocks { AreCounts 64 slots.now blocks.now }
+    requires groups { AreCounts 4096 slots.now groups.now }
+    requires within { i < count_by has_copies slots.now }
+    ensures { IsHeldSlot slots.now i result }
+{
+    let (group, left) = first_above(groups, 0, i);
+    let (block, left) = first_above(blocks, group * WIDTH, left);
+    slot_after(slots, block * WIDTH, left)
 }

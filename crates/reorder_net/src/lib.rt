@@ -2,6 +2,7 @@
 #![tactic(auto)]
 
 mod choice;
+mod counts;
 mod inbox;
 mod losses;
 

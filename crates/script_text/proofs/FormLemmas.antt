@@ -15,8 +15,8 @@ use Rattle.agent_scripts.specs.declared.statement.Setting.{Setting}
 use Rattle.agent_scripts.specs.declared.statement.Setting.TheVariants as settings
 use Rattle.agent_scripts.specs.declared.statement.Statement.{Statement}
 use Rattle.agent_scripts.specs.Lines.{Field}
-use Rattle.agent_scripts.specs.Statement.{HasForm, Says, phrase_of}
-use Rattle.agent_scripts.specs.Table.{Phrase, Set, Key, Order, Decline, Bind, written, setting_word, every_fields, rule_fields, IsInTable, IsSetting, IsEvery, IsRule}
+use Rattle.agent_scripts.specs.Statement.{HasForm, Means, line_form}
+use Rattle.agent_scripts.specs.Table.{LineForm, Set, Key, Order, Decline, Bind, written, setting_word, every_fields, rule_fields, IsInTable, IsSetting, IsEvery, IsRule}
 
 -- what stands after the word of a setting
 pub record FormsSetting (setting : Setting) (fields : List Field) : Type 0 where
@@ -105,72 +105,72 @@ value_is_other settings.Loss same = absurd (words_differ (codes "loss") (codes "
 value_is_other settings.Repeat same = absurd (words_differ (codes "repeat") (codes "value") refl same)
 
 -- the fields after the word of a setting
-setting_phrase : (keys : ℕ) (setting : Setting) (fields : List Field) (phrase : Phrase) → IsInTable keys phrase → setting_word setting ∷ fields ≡ written phrase → FormsSetting setting fields
-setting_phrase keys setting fields (Set other n) has same =
+setting_line : (keys : ℕ) (setting : Setting) (fields : List Field) (form : LineForm) → IsInTable keys form → setting_word setting ∷ fields ≡ written form → FormsSetting setting fields
+setting_line keys setting fields (Set other n) has same =
     let word : setting_word setting ≡ setting_word other = cc in
     let rest : fields ≡ decimal n ∷ [] = cc in
     record { number = n; has = rw (one_setting setting other word) has; fields_are = rest }
-setting_phrase keys setting fields (Key values) has same = absurd (key_is_other setting (cc))
-setting_phrase keys setting fields (Order role messages) has same = absurd (order_is_other setting (cc))
-setting_phrase keys setting fields (Decline message every) has same = absurd (decline_is_other setting (cc))
-setting_phrase keys setting fields (Bind message param rule) has same = absurd (value_is_other setting (cc))
+setting_line keys setting fields (Key values) has same = absurd (key_is_other setting (cc))
+setting_line keys setting fields (Order role messages) has same = absurd (order_is_other setting (cc))
+setting_line keys setting fields (Decline message every) has same = absurd (decline_is_other setting (cc))
+setting_line keys setting fields (Bind message param rule) has same = absurd (value_is_other setting (cc))
 
 pub setting_form : (x : Expanded) (setting : Setting) (fields : List Field) → HasForm x (setting_word setting ∷ fields) → FormsSetting setting fields
-setting_form x setting fields form = setting_phrase (length x.keys) setting fields form.0 form.1 form.2
+setting_form x setting fields form = setting_line (length x.keys) setting fields form.0 form.1 form.2
 
 -- after `key`
-key_phrase : (keys : ℕ) (fields : List Field) (phrase : Phrase) → IsInTable keys phrase → codes "key" ∷ fields ≡ written phrase → FormsKey keys fields
-key_phrase keys fields (Key values) has same = record { values = values; whole = has.0; good = has.1; fields_are = cc }
-key_phrase keys fields (Set other n) has same = absurd (key_is_other other (cc))
-key_phrase keys fields (Order role messages) has same = absurd (words_differ (codes "key") (codes "order") refl (cc))
-key_phrase keys fields (Decline message every) has same = absurd (words_differ (codes "key") (codes "decline") refl (cc))
-key_phrase keys fields (Bind message param rule) has same = absurd (words_differ (codes "key") (codes "value") refl (cc))
+key_line : (keys : ℕ) (fields : List Field) (form : LineForm) → IsInTable keys form → codes "key" ∷ fields ≡ written form → FormsKey keys fields
+key_line keys fields (Key values) has same = record { values = values; whole = has.0; good = has.1; fields_are = cc }
+key_line keys fields (Set other n) has same = absurd (key_is_other other (cc))
+key_line keys fields (Order role messages) has same = absurd (words_differ (codes "key") (codes "order") refl (cc))
+key_line keys fields (Decline message every) has same = absurd (words_differ (codes "key") (codes "decline") refl (cc))
+key_line keys fields (Bind message param rule) has same = absurd (words_differ (codes "key") (codes "value") refl (cc))
 
 pub key_form : (x : Expanded) (fields : List Field) → HasForm x (codes "key" ∷ fields) → FormsKey (length x.keys) fields
-key_form x fields form = key_phrase (length x.keys) fields form.0 form.1 form.2
+key_form x fields form = key_line (length x.keys) fields form.0 form.1 form.2
 
 -- after `order`
-order_phrase : (keys : ℕ) (fields : List Field) (phrase : Phrase) → IsInTable keys phrase → codes "order" ∷ fields ≡ written phrase → FormsOrder fields
-order_phrase keys fields (Order role messages) has same = record { role = role; messages = messages; some = has; fields_are = cc }
-order_phrase keys fields (Set other n) has same = absurd (order_is_other other (cc))
-order_phrase keys fields (Key values) has same = absurd (words_differ (codes "order") (codes "key") refl (cc))
-order_phrase keys fields (Decline message every) has same = absurd (words_differ (codes "order") (codes "decline") refl (cc))
-order_phrase keys fields (Bind message param rule) has same = absurd (words_differ (codes "order") (codes "value") refl (cc))
+order_line : (keys : ℕ) (fields : List Field) (form : LineForm) → IsInTable keys form → codes "order" ∷ fields ≡ written form → FormsOrder fields
+order_line keys fields (Order role messages) has same = record { role = role; messages = messages; some = has; fields_are = cc }
+order_line keys fields (Set other n) has same = absurd (order_is_other other (cc))
+order_line keys fields (Key values) has same = absurd (words_differ (codes "order") (codes "key") refl (cc))
+order_line keys fields (Decline message every) has same = absurd (words_differ (codes "order") (codes "decline") refl (cc))
+order_line keys fields (Bind message param rule) has same = absurd (words_differ (codes "order") (codes "value") refl (cc))
 
 pub order_form : (x : Expanded) (fields : List Field) → HasForm x (codes "order" ∷ fields) → FormsOrder fields
-order_form x fields form = order_phrase (length x.keys) fields form.0 form.1 form.2
+order_form x fields form = order_line (length x.keys) fields form.0 form.1 form.2
 
 -- after `decline`
-decline_phrase : (keys : ℕ) (fields : List Field) (phrase : Phrase) → IsInTable keys phrase → codes "decline" ∷ fields ≡ written phrase → FormsDecline fields
-decline_phrase keys fields (Decline message every) has same = record { message = message; every = every; has = has; fields_are = cc }
-decline_phrase keys fields (Set other n) has same = absurd (decline_is_other other (cc))
-decline_phrase keys fields (Key values) has same = absurd (words_differ (codes "decline") (codes "key") refl (cc))
-decline_phrase keys fields (Order role messages) has same = absurd (words_differ (codes "decline") (codes "order") refl (cc))
-decline_phrase keys fields (Bind message param rule) has same = absurd (words_differ (codes "decline") (codes "value") refl (cc))
+decline_line : (keys : ℕ) (fields : List Field) (form : LineForm) → IsInTable keys form → codes "decline" ∷ fields ≡ written form → FormsDecline fields
+decline_line keys fields (Decline message every) has same = record { message = message; every = every; has = has; fields_are = cc }
+decline_line keys fields (Set other n) has same = absurd (decline_is_other other (cc))
+decline_line keys fields (Key values) has same = absurd (words_differ (codes "decline") (codes "key") refl (cc))
+decline_line keys fields (Order role messages) has same = absurd (words_differ (codes "decline") (codes "order") refl (cc))
+decline_line keys fields (Bind message param rule) has same = absurd (words_differ (codes "decline") (codes "value") refl (cc))
 
 pub decline_form : (x : Expanded) (fields : List Field) → HasForm x (codes "decline" ∷ fields) → FormsDecline fields
-decline_form x fields form = decline_phrase (length x.keys) fields form.0 form.1 form.2
+decline_form x fields form = decline_line (length x.keys) fields form.0 form.1 form.2
 
 -- after `value`
-value_phrase : (keys : ℕ) (fields : List Field) (phrase : Phrase) → IsInTable keys phrase → codes "value" ∷ fields ≡ written phrase → FormsValue fields
-value_phrase keys fields (Bind message param rule) has same = record { message = message; param = param; rule = rule; has = has; fields_are = cc }
-value_phrase keys fields (Set other n) has same = absurd (value_is_other other (cc))
-value_phrase keys fields (Key values) has same = absurd (words_differ (codes "value") (codes "key") refl (cc))
-value_phrase keys fields (Order role messages) has same = absurd (words_differ (codes "value") (codes "order") refl (cc))
-value_phrase keys fields (Decline message every) has same = absurd (words_differ (codes "value") (codes "decline") refl (cc))
+value_line : (keys : ℕ) (fields : List Field) (form : LineForm) → IsInTable keys form → codes "value" ∷ fields ≡ written form → FormsValue fields
+value_line keys fields (Bind message param rule) has same = record { message = message; param = param; rule = rule; has = has; fields_are = cc }
+value_line keys fields (Set other n) has same = absurd (value_is_other other (cc))
+value_line keys fields (Key values) has same = absurd (words_differ (codes "value") (codes "key") refl (cc))
+value_line keys fields (Order role messages) has same = absurd (words_differ (codes "value") (codes "order") refl (cc))
+value_line keys fields (Decline message every) has same = absurd (words_differ (codes "value") (codes "decline") refl (cc))
 
 pub value_form : (x : Expanded) (fields : List Field) → HasForm x (codes "value" ∷ fields) → FormsValue fields
-value_form x fields form = value_phrase (length x.keys) fields form.0 form.1 form.2
+value_form x fields form = value_line (length x.keys) fields form.0 form.1 form.2
 
 -- what is said has a form
-pub said_has_form : (x : Expanded) (fields : List Field) (s : Statement) → Says x fields s → HasForm x fields
-said_has_form x fields s says = (phrase_of x s, says.in_table, says.fields_are)
+pub said_has_form : (x : Expanded) (fields : List Field) (s : Statement) → Means x fields s → HasForm x fields
+said_has_form x fields s says = (line_form x s, says.in_table, says.fields_are)
 
 -- a first field that is no word of the table has no form
 pub no_word : (x : Expanded) (word : Field) (fields : List Field) → IsOther word → (word ≡ codes "key" → ⊥) → (word ≡ codes "order" → ⊥) → (word ≡ codes "decline" → ⊥) → (word ≡ codes "value" → ⊥) → HasForm x (word ∷ fields) → ⊥
 no_word x word fields setting key order decline value form = go form.0 form.2
   where
-    go : (phrase : Phrase) → word ∷ fields ≡ written phrase → ⊥
+    go : (form : LineForm) → word ∷ fields ≡ written form → ⊥
     go (Set other n) same = setting other (cc)
     go (Key values) same = key (cc)
     go (Order role messages) same = order (cc)

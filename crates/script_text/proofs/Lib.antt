@@ -6,6 +6,16 @@ pub mod NameLemmas
 pub mod NumberLemmas
 pub mod ReadingLemmas
 pub mod RuleLemmas
-pub mod SaidLemmas
+pub mod MeaningLemmas
 pub mod StatementLemmas
 pub mod ValueLemmas
+pub mod OrderLemmas
+pub mod StatedLemmas
+pub mod OneName
+pub mod OneWord
+pub mod OneSpelling
+pub mod OneForm
+pub mod OneStatement
+pub mod OneReading
+pub mod OneOutOfRange
+pub mod OneAnswer

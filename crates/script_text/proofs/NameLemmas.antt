@@ -12,8 +12,8 @@ use Rattle.bspl_types.specs.declared.expanded.Expanded.{Expanded}
 use Rattle.bspl_types.specs.declared.protocol.Adornment.TheVariants.{Out}
 use Rattle.bspl_types.specs.declared.protocol.Carried.{Carried}
 use Rattle.bspl_types.specs.declared.protocol.ParamInfo.{ParamInfo}
-use Rattle.bspl_types.specs.Expansion.{message_of, no_message}
-use Rattle.agent_scripts.specs.Statement.{IsFreeOut, message_name, param_name, role_name}
+use Rattle.bspl_types.specs.Expansion.{message_of, no_message, message_name}
+use Rattle.agent_scripts.specs.Statement.{IsFreeOut, param_name, role_name}
 use Rattle.list_base.proofs.FirstIndex.{named_index}
 
 -- what is found has the name

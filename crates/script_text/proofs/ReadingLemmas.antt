@@ -12,8 +12,8 @@ use Rattle.agent_scripts.specs.declared.statement.Statement.{Statement}
 use Rattle.agent_scripts.specs.declared.statement.Statement.TheVariants.{Set, Key, Order, Decline, Bind}
 use Rattle.agent_scripts.specs.Lines.{fields_of, lines_of, Field}
 use Rattle.agent_scripts.specs.Rules.{KeepsRules}
-use Rattle.agent_scripts.specs.ScriptText.{IsRefusedNext, KeepRules, SaysAt, is_passed_over, statements_of, telling_lines}
-use Rattle.agent_scripts.specs.Statement.{Says}
+use Rattle.agent_scripts.specs.ScriptText.{IsRefusedNext, KeepRules, MeansAt, is_passed_over, statements_of, telling_lines}
+use Rattle.agent_scripts.specs.Statement.{Means}
 use Rattle.script_text.specs.Reading.{HasNumbers, IsRead}
 use Rattle.script_text.specs.inner.TextReading.{GoesOn, HasOneMore}
 use Rattle.script_text.proofs.StatementLemmas.{rules_push, statements_push}
@@ -21,7 +21,7 @@ use Rattle.script_text.proofs.StatementLemmas.{rules_push, statements_push}
 -- ---- one line
 
 -- the numbers of what is said are those of the table
-pub said_numbers : (x : Expanded) (fields : List Field) (s : Statement) → Says x fields s → HasNumbers s
+pub said_numbers : (x : Expanded) (fields : List Field) (s : Statement) → Means x fields s → HasNumbers s
 said_numbers x fields (Set settings.Keys n) says = says.in_table
 said_numbers x fields (Set settings.Seed n) says = says.in_table
 said_numbers x fields (Set settings.Loss n) says = says.in_table
@@ -47,7 +47,7 @@ telling_of number lines = filter (λ (_, l). not (is_passed_over (fields_of l)))
 pub record AreLinesRead (x : Expanded) (text : List ℕ) (left : List (List ℕ)) (stated : List Stated) (number : ℕ) : Type 0 where
   pub before : List (ℕ × List ℕ)
   pub lines : telling_lines text ≡ before ++ telling_of number left
-  pub said : AllZip (SaysAt x) before stated
+  pub said : AllZip (MeansAt x) before stated
   pub rules : KeepRules (statements_of stated)
 
 pub no_lines : (x : Expanded) (text : List ℕ) → AreLinesRead x text (lines_of text) [] 1
@@ -71,7 +71,7 @@ pub told : (x : Expanded) (text line : List ℕ) (left : List (List ℕ)) (state
 told x text line left stated number s read some goes = record {
   before = read.before ++ (number, line) ∷ [];
   lines = (rw some at read.lines) ∙ sym (append_assoc read.before ((number, line) ∷ []) (telling_of (number + 1) left));
-  said = zip_append (SaysAt x) read.before stated ((number, line) ∷ []) (s ∷ []) read.said (goes.says, tt);
+  said = zip_append (MeansAt x) read.before stated ((number, line) ∷ []) (s ∷ []) read.said (goes.says, tt);
   rules = rw (statements_push stated s) (rules_push (statements_of stated) s.statement read.rules goes.rules);
 }
 

@@ -1,3 +1,4 @@
--- What is read of a text; what private functions cite is last.
+-- What is read of a text, and its laws; what private functions cite is last.
 pub mod Reading
+pub mod Laws
 pub mod inner

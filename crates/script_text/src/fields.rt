@@ -1,10 +1,10 @@
-ghost use Rattle.std.specs.Prelude.{◌≡◌, ◌<◌, ◌≤◌, ◌∷◌, [], length, MatchOption, take, drop};
+ghost use Rattle.std.specs.Prelude.{◌≡◌, ◌<◌, ◌≤◌, ◌∷◌, [], length, MatchOption};
 ghost use Rattle.std.specs.List.{position_or_len};
 ghost use Rattle.agent_scripts.specs.Lines.{fields_of};
 ghost use Rattle.script_text.specs.inner.Blanks.{is_blank, BeginsField};
 
 /// The first field of a line, and what follows it.
-pub fn first_field(line: &[u8]) -> Option<(&[u8], &[u8])>
+pub(crate) fn first_field(line: &[u8]) -> Option<(&[u8], &[u8])>
     ensures { MatchOption result (fields_of line.now ≡ [])
         (λ read. fields_of line.now ≡ read.0.now ∷ fields_of read.1.now) }
 {

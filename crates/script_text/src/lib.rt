@@ -1,10 +1,13 @@
 //! Reads an agents text, or names its first bad line.
 #![tactic(auto)]
 
+mod agents;
+mod agents_text;
 mod decline_line;
 mod fields;
 mod key_line;
-mod key_table;
+mod keys;
+mod laws;
 mod line;
 mod line_error;
 mod lines;
@@ -12,15 +15,15 @@ mod names;
 mod next_line;
 mod numbers;
 mod order_line;
+mod orders;
+mod plan;
 mod plan_line;
+mod ranges;
 mod reader;
+mod rules;
 mod settings;
 mod statements;
 mod value_line;
 
-pub use fields::first_field;
-pub use key_table::KeyTable;
-pub use numbers::{last_number, number_of};
-pub use reader::{Reading, read_lines};
-pub use settings::{is_setting, setting_of};
-pub use statements::StatementList;
+pub use agents_text::read_scripts;
+pub use laws::reads_once;

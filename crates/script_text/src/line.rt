@@ -8,7 +8,7 @@ use super::key_line::key_statement;
 use super::line_error::LineError;
 use super::order_line::order_statement;
 use super::plan_line::setting_statement;
-use super::settings::setting_of;
+use super::settings::setting_named;
 use super::value_line::value_statement;
 use agent_scripts::Statement;
 use bspl_types::Expanded;
@@ -22,7 +22,7 @@ pub(crate) fn statement_of(alloc: Global, x: &Expanded, line: &[u8]) -> Result<S
     let Some((word, rest)) = first_field(line) else {
         return Err(LineError::Form);
     };
-    if let Some(setting) = setting_of(word) {
+    if let Some(setting) = setting_named(word) {
         return setting_statement(setting, rest);
     }
     if word == b"key".as_slice() {

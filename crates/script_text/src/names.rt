@@ -1,8 +1,9 @@
 ghost use Rattle.std.specs.Prelude.{◌≡◌, ◌≢◌, ◌↔◌, ℕ, ◌<◌, length, IsTrue, MatchOption};
 ghost use Rattle.std.specs.List.{Contains};
 ghost use Rattle.bspl_types.specs.declared.protocol.Adornment.TheVariants.{Out};
-ghost use Rattle.agent_scripts.specs.Statement.{role_name, message_name, param_name};
+ghost use Rattle.agent_scripts.specs.Statement.{role_name, param_name};
 ghost use Rattle.agent_scripts.specs.Statement.{IsSentBy, IsFreeOut};
+ghost use Rattle.bspl_types.specs.Expansion.{message_name};
 
 use bspl_types::{Adornment, Carried, Expanded, index_of};
 

@@ -6,7 +6,7 @@ use super::fields::first_field;
 use bspl_types::{Value, spells_once};
 
 /// The number that the field spells, if it spells one of 64 bits.
-pub fn number_of(field: &[u8]) -> Option<u64>
+pub(crate) fn number_of(field: &[u8]) -> Option<u64>
     ensures { MatchOption result
         ((n : ℕ) → n < 2 ^ 64 → field.now ≢ decimal n) (λ n. field.now ≡ decimal n) }
 {
@@ -19,7 +19,7 @@ pub fn number_of(field: &[u8]) -> Option<u64>
 }
 
 /// The number that is all that is left of a line.
-pub fn last_number(rest: &[u8]) -> Option<u64>
+pub(crate) fn last_number(rest: &[u8]) -> Option<u64>
     ensures { MatchOption result
         ((n : ℕ) → n < 2 ^ 64 → fields_of rest.now ≢ decimal n ∷ [])
         (λ n. fields_of rest.now ≡ decimal n ∷ []) }

@@ -1,4 +1,4 @@
-ghost use Rattle.std.specs.Prelude.{◌≡◌, ◌∷◌, codes};
+ghost use Rattle.std.specs.Prelude.{◌∷◌, codes};
 ghost use Rattle.agent_scripts.specs.Lines.{fields_of};
 ghost use Rattle.script_text.specs.inner.LineReading.{ReadsFields, ReadsOrder};
 

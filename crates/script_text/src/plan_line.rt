@@ -6,7 +6,7 @@ ghost use Rattle.script_text.specs.inner.LineReading.{ReadsFields};
 
 use super::line_error::LineError;
 use super::numbers::last_number;
-use super::settings::is_setting;
+use super::settings::allows_number;
 use agent_scripts::{Setting, Statement};
 
 /// The statement of the line of a setting, of which the rest follows its word.
@@ -16,7 +16,7 @@ pub(crate) fn setting_statement(setting: Setting, rest: &[u8]) -> Result<Stateme
     let Some(number) = last_number(rest) else {
         return Err(LineError::Form);
     };
-    if !is_setting(setting, number) {
+    if !allows_number(setting, number) {
         return Err(LineError::Form);
     }
     Ok(Statement::Set(setting, number))

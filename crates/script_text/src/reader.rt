@@ -12,14 +12,14 @@ use std::alloc::Global;
 
 /// What was read of a text: its statements, and why the line after them is refused, if one is.
 #[derive(Drop)]
-pub struct Reading {
-    pub statements: StatementList,
-    pub refusal: Option<ScriptRefusal>,
+pub(crate) struct Reading {
+    pub(crate) statements: StatementList,
+    pub(crate) refusal: Option<ScriptRefusal>,
 }
 
 /// Reads the lines of the text up to the first that is bad by its form, its names or those before
 /// it.
-pub fn read_lines(alloc: Global, x: &Expanded, text: &[u8]) -> Result<Reading, NoMemory>
+pub(crate) fn read_lines(alloc: Global, x: &Expanded, text: &[u8]) -> Result<Reading, NoMemory>
     requires { IsAdmitted x.now }
     ensures { IfOk result (λ read. IsRead x.now text.now read.statements read.refusal) }
 {

@@ -5,7 +5,7 @@ ghost use Rattle.agent_scripts.specs.Table.{setting_word, IsSetting};
 use agent_scripts::Setting;
 
 /// The setting whose word this is.
-pub fn setting_of(word: &[u8]) -> Option<Setting>
+pub(crate) fn setting_named(word: &[u8]) -> Option<Setting>
     ensures { MatchOption result
         ((s : Setting) → word.now ≢ setting_word s) (λ s. word.now ≡ setting_word s) }
 {
@@ -23,7 +23,7 @@ pub fn setting_of(word: &[u8]) -> Option<Setting>
 }
 
 /// Whether the setting can have the number.
-pub fn is_setting(setting: Setting, n: u64) -> bool
+pub(crate) fn allows_number(setting: Setting, n: u64) -> bool
     ensures exact { IsTrue result ↔ IsSetting setting n }
     ensures number { n < 2 ^ 64 }
 {

@@ -6,9 +6,9 @@ ghost use Rattle.agent_scripts.specs.ScriptText.{KeepRules, statements_of};
 ghost use Rattle.script_text.specs.Reading.{HasNumbers};
 ghost use Rattle.script_text.specs.inner.Statements.{sets_keys};
 
-use super::key_table::KeyTable;
 use agent_scripts::{Setting, Stated, Statement};
 use bspl_types::Key;
+use key_table::KeyTable;
 use list_base::{NoMemory, Seq};
 use std::alloc::Global;
 use std::marker::Model;
@@ -18,7 +18,7 @@ const MOST_KEYS: usize = 10_000;
 
 /// Statements that keep the rules, in order. Contracts see a list.
 #[derive(Drop)]
-pub struct StatementList {
+pub(crate) struct StatementList {
     stated: Seq<Stated>,
     keys: KeyTable,
     counted: bool,
@@ -49,7 +49,7 @@ impl StatementList {
     }
 
     /// The statements, in order.
-    pub fn as_slice(&self) -> &[Stated]
+    pub(crate) fn as_slice(&self) -> &[Stated]
         ensures same { result.now ≡ self.now }
         ensures rules { KeepRules (statements_of self.now) }
         ensures numbers { All HasNumbers (statements_of self.now) }
@@ -59,7 +59,7 @@ impl StatementList {
     }
 
     /// How many `key` lines there are.
-    pub fn key_lines(&self) -> usize
+    pub(crate) fn key_lines(&self) -> usize
         ensures count { result ≡ length (flat_map key_in (statements_of self.now)) }
         ensures few { result ≤ 10000 }
     {
@@ -67,7 +67,7 @@ impl StatementList {
     }
 
     /// The keys of the `key` lines, in order.
-    pub fn into_keys(self) -> KeyTable
+    pub(crate) fn into_keys(self) -> KeyTable
         ensures { result ≡ flat_map key_in (statements_of self) }
     {
         self.keys

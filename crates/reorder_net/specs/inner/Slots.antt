@@ -1,6 +1,6 @@
--- How an inbox keeps its envelopes: each in a slot, and beside them the order of the slots.
-use Rattle.std.specs.Prelude.{ℕ, ◌<◌, List, [], length, map, slice_index_or}
-use Rattle.std.specs.List.{All, AllPairs}
+-- How an inbox keeps its envelopes: each in a slot, which is free once it has no copies.
+use Rattle.std.specs.Prelude.{Bool, nat_lt, List, []}
+use Rattle.std.specs.List.{filter}
 use Rattle.bspl_types.specs.declared.envelope.Envelope.{Envelope}
 
 -- an envelope without copies, which no inbox holds
@@ -16,12 +16,10 @@ no_envelope = record {
   copies = 0;
 }
 
--- the envelopes in the slots of the order
-abbrev pub held : List Envelope → List ℕ → List Envelope
-held slots order = map (λ slot. slice_index_or slots slot no_envelope) order
+-- the envelope is held
+abbrev pub has_copies : Envelope → Bool
+has_copies e = nat_lt 0 e.copies
 
--- the slots of the order exist and rise, and the envelopes in them have copies
-pub record AreHeld (slots : List Envelope) (order : List ℕ) : Type 0 where
-  pub rising : AllPairs (λ slot later. slot < later) order
-  pub exist : All (λ slot. slot < length slots) order
-  pub some : All (λ e. 0 < e.copies) (held slots order)
+-- the envelopes that are held, in the order of their slots
+abbrev pub held : List Envelope → List Envelope
+held slots = filter has_copies slots

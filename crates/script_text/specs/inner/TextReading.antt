@@ -6,7 +6,7 @@ use Rattle.agent_scripts.specs.declared.refusal.ScriptRefusal.TheVariants as ref
 use Rattle.agent_scripts.specs.declared.statement.Stated.{Stated}
 use Rattle.agent_scripts.specs.Lines.{fields_of}
 use Rattle.agent_scripts.specs.Rules.{KeepsRules}
-use Rattle.agent_scripts.specs.ScriptText.{IsRefusedNext, SaysAt, is_passed_over}
+use Rattle.agent_scripts.specs.ScriptText.{IsRefusedNext, MeansAt, is_passed_over}
 use Rattle.agent_scripts.specs.ScriptText.{statements_of}
 use Rattle.list_base.specs.declared.memory.NoMemory.{NoMemory}
 use Rattle.script_text.specs.declared.next_line.Progress.{Progress}
@@ -16,7 +16,7 @@ use Rattle.script_text.specs.Reading.{HasNumbers}
 -- the line says what keeps the rules after the statements
 pub record GoesOn (x : Expanded) (stated : List Stated) (line : ℕ × List ℕ) (s : Stated)
     : Type 0 where
-  pub says : SaysAt x line s
+  pub says : MeansAt x line s
   pub rules : KeepsRules (statements_of stated) s.statement
   pub numbers : HasNumbers s.statement
 

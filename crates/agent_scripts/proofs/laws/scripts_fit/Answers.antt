@@ -1,5 +1,5 @@
 -- Keys and orders are those that the statements give.
-use Rattle.agent_scripts.proofs.GivenLemmas.{script_fits}
+use Rattle.agent_scripts.proofs.StatedLemmas.{script_fits}
 use Rattle.agent_scripts.proofs.laws.scripts_fit.Goals as goal
 
 pub returns : goal.returns

@@ -1,6 +1,6 @@
 -- A line of the form names a message that is not declared.
 use Rattle.std.proofs.Common.{List, ℕ, ◌∷◌, ap, ◌∙◌}
-use Rattle.script_text.proofs.SaidLemmas.{unknown_decline}
+use Rattle.script_text.proofs.MeaningLemmas.{unknown_decline}
 use Rattle.script_text.proofs.decline_line.decline_statement.Goals as goal
 
 pub returns-in-None : goal.returns-in-None

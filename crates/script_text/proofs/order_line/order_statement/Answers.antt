@@ -1,6 +1,6 @@
 -- A line of the form names a role that is not declared, or messages that it does not send.
 use Rattle.std.proofs.lemmas.Result.{err_from_is_err_and}
-use Rattle.script_text.proofs.SaidLemmas.{unknown_role, order_error, some_fields}
+use Rattle.script_text.proofs.MeaningLemmas.{unknown_role, order_error, some_fields}
 use Rattle.script_text.proofs.order_line.order_statement.Goals as goal
 
 pub returns-in_default-role_of : goal.returns-in_default-role_of

@@ -1,6 +1,6 @@
 -- The next name is that of no message that the role sends.
 use Rattle.std.proofs.Common.{◌∙◌}
-use Rattle.script_text.proofs.SaidLemmas.{next_sent}
+use Rattle.script_text.proofs.MeaningLemmas.{next_sent}
 use Rattle.script_text.proofs.order_line.sent_messages.Goals as goal
 
 pub returns-in_default-sent_message : goal.returns-in_default-sent_message

@@ -12,11 +12,11 @@ returns-in_default c = λ x form.
     let has = setting_form x c.args.setting _ form in
     c.in_default.ensures has.number (setting_small c.args.setting has.number has.has) has.fields_are
 
-pub returns-then-not-is_setting : goal.returns-then-not-is_setting
-returns-then-not-is_setting c = λ x form.
+pub returns-then-not-allows_number : goal.returns-then-not-allows_number
+returns-then-not-allows_number c = λ x form.
     let has = setting_form x c.args.setting _ form in
     let n = c.in-Some.number in
     let both : decimal has.number ∷ [] ≡ decimal n ∷ [] = sym has.fields_are ∙ c.in-Some.ensures in
     let words : decimal has.number ≡ decimal n = cc in
-    let one : has.number ≡ n = one_number has.number n (setting_small c.args.setting has.number has.has) c.is_setting.ensures.number words in
-    true≢false (sym (c.is_setting.ensures.exact.1 (subst (IsSetting c.args.setting) one has.has)) ∙ c.if-not-is_setting.true)
+    let one : has.number ≡ n = one_number has.number n (setting_small c.args.setting has.number has.has) c.allows_number.ensures.number words in
+    true≢false (sym (c.allows_number.ensures.exact.1 (subst (IsSetting c.args.setting) one has.has)) ∙ c.if-not-allows_number.true)

@@ -1,6 +1,6 @@
 -- A line of the form names a message that is not declared, or a parameter of which it gives no value.
 use Rattle.std.proofs.Common.{List, ℕ, ◌∷◌, ap, ◌∙◌}
-use Rattle.script_text.proofs.SaidLemmas.{unknown_message, unknown_param}
+use Rattle.script_text.proofs.MeaningLemmas.{unknown_message, unknown_param}
 use Rattle.script_text.proofs.value_line.value_statement.Goals as goal
 
 pub returns-in_default-message_of : goal.returns-in_default-message_of

@@ -1,13 +1,17 @@
-use Rattle.std.proofs.Common.{rules, ◌≡◌, ◌+◌, ◌<◌, ◌≤◌, length, slice_get, Some, [], ℕ, ◌-◌, List, ◌∷◌, ◌++◌, slice_index_or, slice_set, remove, refl, sym, ap, ◌∙◌, subst, arith}
-use Rattle.bspl_types.specs.declared.envelope.Envelope.{Envelope}
-use Rattle.reorder_net.specs.Inbox.{put_last, after_spending}
-use Rattle.reorder_net.specs.inner.Slots.{AreHeld, held}
-use Rattle.reorder_net.proofs.SlotLemmas.{index_within, some_at}
+-- The envelope in the slot is held at the index.
+use Rattle.std.proofs.Common.{◌≡◌, ◌<◌, length, subst, sym}
+use Rattle.std.specs.Prelude.{Some, slice_get}
+use Rattle.reorder_net.specs.inner.Slots.{held}
+use Rattle.reorder_net.proofs.InboxLemmas.{held_at, index_counted}
 use Rattle.reorder_net.proofs.inbox.Inbox.at.Goals as goal
 
-pub returns-clause-some : goal.returns-clause-some
-returns-clause-some c =
-    let slots : List Envelope = c.self.inside.slots.items in
-    let order : List ℕ = c.self.inside.order.items in
-    let within : c.args.i < length order = index_within slots order c.args.i (rw (← c.self.view_is) at c.requires) in
-    some_at slots order c.args.i c.index.result.now c.index-2.result.now c.self.invariant.0 within c.index.ensures c.index-2.ensures
+pub slot_of-slot-requires-clause-within : goal.slot_of-slot-requires-clause-within
+slot_of-slot-requires-clause-within c =
+    rw c.deref.ensures.value (index_counted c.self.inside.slots.items c.args.i (subst (λ inbox. c.args.i < length inbox.envelopes) (sym c.self.view_is) c.requires))
+
+pub returns-clause-item : goal.returns-clause-item
+returns-clause-item c =
+    let slots = c.self.inside.slots.items in
+    let within : c.args.i < length (held slots) = subst (λ inbox. c.args.i < length inbox.envelopes) (sym c.self.view_is) c.requires in
+    let is = rw c.deref.ensures.value at c.slot_of-slot.ensures in
+    subst (λ inbox. slice_get inbox.envelopes c.args.i ≡ Some c.index.result.now) c.self.view_is (held_at slots c.args.i c.slot_of-slot.result c.index.result.now is c.index.ensures within)

@@ -1,32 +1,19 @@
-use Rattle.std.proofs.Common.{rules, ◌≡◌, ◌+◌, ◌<◌, ◌≤◌, length, slice_get, Some, [], ℕ, ◌-◌, List, ◌∷◌, ◌++◌, slice_index_or, slice_set, remove, false, refl, sym, ap, ap₂, ◌∙◌, subst, arith}
-use Rattle.std.specs.Prelude.{◌==◌, if◌then◌else◌}
-use Rattle.bspl_types.specs.declared.envelope.Envelope.{Envelope}
-use Rattle.reorder_net.specs.Inbox.{put_last, after_spending}
-use Rattle.reorder_net.specs.inner.Slots.{AreHeld, held}
-use Rattle.reorder_net.proofs.SlotLemmas.{found_other, held_put, put_held}
+-- The envelope has the next slot, and its block and group count one more.
+use Rattle.std.proofs.Common.{◌≡◌, ◌<◌, length, sym, subst, arith}
+use Rattle.reorder_net.proofs.InboxLemmas.{tallied_more}
 use Rattle.reorder_net.proofs.inbox.Inbox.put.Goals as goal
 
 pub invariant_of-self : goal.invariant_of-self
 invariant_of-self c =
-    let slots : List Envelope = c.self.inside.slots.items in
-    let order : List ℕ = c.self.inside.order.items in
-    let number : c.len.result ≡ length slots = search in
-    let pushed : c.push_reserved.new.self.items ≡ order ++ length slots ∷ [] = c.push_reserved.ensures.items ∙ ap (λ n. order ++ n ∷ []) number in
+    let slots = c.self.inside.slots.items in
+    let number : c.len-block.result ≡ length slots = search in
     let some : 0 < c.args.envelope.copies = omega (arith, c.if-envelope-eq0.false) in
-    let are : AreHeld (slots ++ c.args.envelope ∷ []) (order ++ length slots ∷ []) = put_held slots order c.args.envelope c.self.invariant.0 some in (
-      subst (λ s. AreHeld s c.push_reserved.new.self.items) (sym c.push_reserved-2.ensures.items) (subst (λ o. AreHeld (slots ++ c.args.envelope ∷ []) o) (sym pushed) are),
-      omega (arith, c.self.invariant.1, c.push_reserved-2.ensures.len, c.push_reserved-2.ensures.capacity, c.in_ok-make_room.ensures.ok),
-      omega (arith, c.self.invariant.2, c.push_reserved.ensures.len, c.push_reserved.ensures.capacity, c.in_ok-make_room.ensures.ok),
+    let room : 0 < c.self.inside.spare = subst (λ inbox. 0 < inbox.spare) (sym c.self.view_is) c.in_ok-make_room.ensures.ok in
+    let are = tallied_more slots c.self.inside.blocks.items c.self.inside.groups.items c.self.inside.all c.len-block.result c.args.envelope number some c.self.invariant.0 in (
+      rw (c.push_reserved.ensures.items, c.raise.ensures.items, c.raise-2.ensures.items) are,
+      record {
+        slot_room = omega (arith, c.self.invariant.1.slot_room, c.push_reserved.ensures.len, c.push_reserved.ensures.capacity, room);
+        block_room = omega (arith, c.self.invariant.1.block_room, c.push_reserved.ensures.len, c.raise.ensures.capacity, room);
+        group_room = omega (arith, c.self.invariant.1.group_room, c.push_reserved.ensures.len, c.raise-2.ensures.capacity, room);
+      },
     )
-
-pub returns-clause-ok : goal.returns-clause-ok
-returns-clause-ok c =
-    let slots : List Envelope = c.self.inside.slots.items in
-    let order : List ℕ = c.self.inside.order.items in
-    let number : c.len.result ≡ length slots = search in
-    let pushed : c.push_reserved.new.self.items ≡ order ++ length slots ∷ [] = c.push_reserved.ensures.items ∙ ap (λ n. order ++ n ∷ []) number in
-    let last : held c.push_reserved-2.new.self.items c.push_reserved.new.self.items ≡ held slots order ++ c.args.envelope ∷ [] =
-    ap₂ (λ s o. held s o) c.push_reserved-2.ensures.items pushed ∙ held_put slots order c.args.envelope c.self.invariant.0 in
-    let some : (c.args.envelope.copies == 0) ≡ false = found_other c.args.envelope.copies 0 c.if-envelope-eq0.false in
-    subst (λ b. held c.push_reserved-2.new.self.items c.push_reserved.new.self.items ≡ (if b then c.args.self.now.envelopes else c.args.self.now.envelopes ++ c.args.envelope ∷ [])) (sym some)
-    (last ∙ ap (λ inbox. inbox.envelopes ++ c.args.envelope ∷ []) c.self.view_is ∙ ap (λ es. es ++ c.args.envelope ∷ []) c.in_ok-make_room.ensures.same)

@@ -1,8 +1,0 @@
--- The orders of the roles so far.
-use Rattle.std.proofs.Common.{◌≡◌, take}
-use Rattle.agent_scripts.specs.Given.{orders_given}
-use Rattle.agent_scripts.specs.ScriptText.{statements_of}
-use Rattle.script_reader.proofs.orders.orders_of.Given as goal
-
-abbrev pub invariant-loop-role : goal.invariant-loop-role
-invariant-loop-role l = l.orders ≡ take l.role (orders_given l.x (statements_of l.stated))

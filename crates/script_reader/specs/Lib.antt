@@ -1,2 +1,0 @@
--- What holds of agents' texts.
-pub mod Laws
