@@ -6,5 +6,5 @@ mod OrderLemmas
 mod PendingLemmas
 mod PlanLemmas
 mod TakingLemmas
-mod TurnLemmas
+mod StepLemmas
 mod ValueLemmas

@@ -13,10 +13,10 @@ use Rattle.agent_scripts.specs.Statement.{IsSentBy}
 use Rattle.local_store.specs.State.{StoreState}
 use Rattle.adapter.specs.Desk.{DeskState}
 use Rattle.adapter.specs.Kept.{IsKept}
-use Rattle.adapter.specs.Next.{IsFirstReady, IsNext, IsPassedOver, IsReady}
+use Rattle.adapter.specs.Next.{IsFirstToEmit, IsNext, IsPassedOver, CanEmitNext}
 
 -- a ready message after those that are passed over is the first one
-pub first_at : (script : Script) (s : StoreState) (n : ℕ) (key : List Value) (order : List ℕ) (k : ℕ) → k < length order → All (IsPassedOver script s n key) (take k order) → IsReady script s n key (get_or order k 0) → IsFirstReady script s n key order (get_or order k 0)
+pub first_at : (script : Script) (s : StoreState) (n : ℕ) (key : List Value) (order : List ℕ) (k : ℕ) → k < length order → All (IsPassedOver script s n key) (take k order) → CanEmitNext script s n key (get_or order k 0) → IsFirstToEmit script s n key order (get_or order k 0)
 first_at script s n key order k within passed ready =
     record {
       before = take k order;
@@ -43,7 +43,7 @@ pub key_held : (job : Job) (d : DeskState) (k : ℕ) (key : List Value) → IsKe
 key_held job d k key kept at = All-contains (Contains d.store.keys) job.script.keys key kept.held (member_at job.script.keys k key at)
 
 -- what is first in the order under the key is next
-pub next_is : (job : Job) (s : StoreState) (n : ℕ) (key : List Value) (order : List ℕ) (next : Option ℕ) → slice_get job.script.keys (n - 1) ≡ Some key → slice_get job.script.orders s.role ≡ Some order → MatchOption next (All (IsPassedOver job.script s n key) order) (IsFirstReady job.script s n key order) → IsNext job s n next
+pub next_is : (job : Job) (s : StoreState) (n : ℕ) (key : List Value) (order : List ℕ) (next : Option ℕ) → slice_get job.script.keys (n - 1) ≡ Some key → slice_get job.script.orders s.role ≡ Some order → MatchOption next (All (IsPassedOver job.script s n key) order) (IsFirstToEmit job.script s n key order) → IsNext job s n next
 next_is job s n key order None at_key at_order all =
     let key_is = sym (get_or_from_slice_get job.script.keys (n - 1) key [] at_key) in
     let order_is = sym (get_or_from_slice_get job.script.orders s.role order [] at_order) in
@@ -51,11 +51,11 @@ next_is job s n key order None at_key at_order all =
 next_is job s n key order (Some m) at_key at_order first =
     let key_is = sym (get_or_from_slice_get job.script.keys (n - 1) key [] at_key) in
     let order_is = sym (get_or_from_slice_get job.script.orders s.role order [] at_order) in
-    subst (λ os. IsFirstReady job.script s n (get_or job.script.keys (n - 1) []) os m) order_is (subst (λ k. IsFirstReady job.script s n k order m) key_is first)
+    subst (λ os. IsFirstToEmit job.script s n (get_or job.script.keys (n - 1) []) os m) order_is (subst (λ k. IsFirstToEmit job.script s n k order m) key_is first)
 
 -- the same of what equals the script and the store
-pub next_is_seen : (job : Job) (s : StoreState) (n : ℕ) (key : List Value) (order : List ℕ) (script : Script) (seen : StoreState) (next : Option ℕ) → script ≡ job.script → seen ≡ s → slice_get job.script.keys (n - 1) ≡ Some key → slice_get job.script.orders s.role ≡ Some order → MatchOption next (All (IsPassedOver script seen n key) order) (IsFirstReady script seen n key order) → IsNext job s n next
+pub next_is_seen : (job : Job) (s : StoreState) (n : ℕ) (key : List Value) (order : List ℕ) (script : Script) (seen : StoreState) (next : Option ℕ) → script ≡ job.script → seen ≡ s → slice_get job.script.keys (n - 1) ≡ Some key → slice_get job.script.orders s.role ≡ Some order → MatchOption next (All (IsPassedOver script seen n key) order) (IsFirstToEmit script seen n key order) → IsNext job s n next
 next_is_seen job s n key order script seen next script_is seen_is at_key at_order first =
     next_is job s n key order next at_key at_order
-    (subst (λ (t : StoreState). MatchOption next (All (IsPassedOver job.script t n key) order) (IsFirstReady job.script t n key order)) seen_is
-    (subst (λ (r : Script). MatchOption next (All (IsPassedOver r seen n key) order) (IsFirstReady r seen n key order)) script_is first))
+    (subst (λ (t : StoreState). MatchOption next (All (IsPassedOver job.script t n key) order) (IsFirstToEmit job.script t n key order)) seen_is
+    (subst (λ (r : Script). MatchOption next (All (IsPassedOver r seen n key) order) (IsFirstToEmit r seen n key order)) script_is first))

@@ -14,7 +14,7 @@ use Rattle.bspl_types.specs.declared.protocol.Message.{Message}
 use Rattle.bspl_types.specs.declared.expanded.Expanded.{Expanded}
 use Rattle.agent_scripts.specs.declared.statement.Statement.{Statement}
 use Rattle.agent_scripts.specs.declared.statement.Statement.TheVariants.{Set, Key, Order, Decline, Bind}
-use Rattle.agent_scripts.specs.Given.{order_in, order_of, orders_given, sent_by}
+use Rattle.agent_scripts.specs.StatedScript.{order_in, order_of, orders_given, sent_by}
 use Rattle.agent_scripts.specs.Rules.{HasDistinct, StandTogether}
 use Rattle.agent_scripts.specs.ScriptText.{KeepRules, statements_of}
 use Rattle.adapter.specs.Laws.{OrdersAreDistinct}

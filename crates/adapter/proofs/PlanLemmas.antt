@@ -29,14 +29,14 @@ use Rattle.reorder_net.specs.Losses.{copies_of}
 use Rattle.adapter.specs.Desk.{DeskState}
 use Rattle.adapter.specs.Kept.{IsKept}
 use Rattle.adapter.specs.Laws.{NextEnvelopesAreOne}
-use Rattle.adapter.specs.Next.{IsFirstReady, IsPassedOver, IsReady}
+use Rattle.adapter.specs.Next.{IsFirstToEmit, IsPassedOver, CanEmitNext}
 use Rattle.adapter.specs.Rules.{key_of, rules_of}
 use Rattle.adapter.specs.Steps.{IsNextEnvelope, IsPlanned}
 use Rattle.adapter.proofs.TakingLemmas.{same_values}
 use Rattle.adapter.proofs.ValueLemmas.{given_value, is_among}
 
 -- what is passed over is not ready
-not_both : (script : Script) (s : StoreState) (n : ℕ) (key : List Value) (m : ℕ) → IsPassedOver script s n key m → IsReady script s n key m → ⊥
+not_both : (script : Script) (s : StoreState) (n : ℕ) (key : List Value) (m : ℕ) → IsPassedOver script s n key m → CanEmitNext script s n key m → ⊥
 not_both script s n key m over ready = elim over [
   | inl declined ↦ true≢false (sym declined ∙ ready.accepted)
   | inr rest ↦ elim rest [
@@ -58,13 +58,13 @@ first_is_one P R apart (z ∷ xs) (w ∷ ys) x y after other same over ready ove
     let rest : (xs ++ x ∷ after) ≡ (ys ++ y ∷ other) = cc in
     first_is_one P R apart xs ys x y after other rest (All-tail P z xs over) ready (All-tail P w ys over_too) ready_too
 
-first_ready_is_one : (script : Script) (s : StoreState) (n : ℕ) (key : List Value) (order : List ℕ) (m k : ℕ) → IsFirstReady script s n key order m → IsFirstReady script s n key order k → m ≡ k
-first_ready_is_one script s n key order m k one other =
-    first_is_one (IsPassedOver script s n key) (IsReady script s n key) (not_both script s n key) one.before other.before m k one.after other.after (sym one.split ∙ other.split) one.passed one.ready other.passed other.ready
+first_to_emit_is_one : (script : Script) (s : StoreState) (n : ℕ) (key : List Value) (order : List ℕ) (m k : ℕ) → IsFirstToEmit script s n key order m → IsFirstToEmit script s n key order k → m ≡ k
+first_to_emit_is_one script s n key order m k one other =
+    first_is_one (IsPassedOver script s n key) (CanEmitNext script s n key) (not_both script s n key) one.before other.before m k one.after other.after (sym one.split ∙ other.split) one.passed one.ready other.passed other.ready
 
 -- nothing is ready if all is passed over
-none_ready : (script : Script) (s : StoreState) (n : ℕ) (key : List Value) (order : List ℕ) (m : ℕ) → All (IsPassedOver script s n key) order → IsFirstReady script s n key order m → ⊥
-none_ready script s n key order m all first =
+none_can_emit : (script : Script) (s : StoreState) (n : ℕ) (key : List Value) (order : List ℕ) (m : ℕ) → All (IsPassedOver script s n key) order → IsFirstToEmit script s n key order m → ⊥
+none_can_emit script s n key order m all first =
     let among : Contains order m = subst (λ (ms : List ℕ). Contains ms m) (sym first.split) (Contains-append_right first.before (m ∷ first.after) m (here m first.after)) in
     not_both script s n key m (All-contains (IsPassedOver script s n key) order m all among) first.ready
 
@@ -127,7 +127,7 @@ determined job d role n e kept plan =
 -- and two planned envelopes are one
 one_plan : (job : Job) (role : ℕ) (d : DeskState) (n : ℕ) (e f : Envelope) → IsKept job role d → IsPlanned job d.store n e → IsPlanned job d.store n f → e ≡ f
 one_plan job role d n e f kept one other =
-    let message = first_ready_is_one job.script d.store n (key_of job n) ((rules_of job).order d.store.role) e.message.instance.message f.message.instance.message one.next other.next in
+    let message = first_to_emit_is_one job.script d.store n (key_of job n) ((rules_of job).order d.store.role) e.message.instance.message f.message.instance.message one.next other.next in
     let knows = subst (λ (x : Expanded). KnowsOneValue x (acts_of d.store)) kept.protocol_is kept.consistent.local.one_value in
     let instance = one_instance job.protocol d.store job.script n e.message.instance f.message.instance knows (determined job d role n e kept one) (determined job d role n f kept other) message (one.emission.key_is ∙ sym other.emission.key_is) in
     let stamp = one.emission.stamp_is ∙ sym other.emission.stamp_is in
@@ -137,10 +137,10 @@ one_plan job role d n e f kept one other =
     let copies = one.copies ∙ ap (λ m. copies_of job.plan m n) message ∙ sym other.copies in
     λ k. record { to = to k; from = from k; message = record { instance = instance k; stamp = stamp k; number = number k }; copies = copies k }
 
--- an envelope is planned only if there is a turn
+-- an envelope is planned only if there is a step
 no_plan : (job : Job) (d : DeskState) (n : ℕ) (e : Envelope) → IsNextEnvelope job d.store n None → IsPlanned job d.store n e → ⊥
 no_plan job d n e nothing plan = elim nothing [
-  | inl all ↦ none_ready job.script d.store n (key_of job n) ((rules_of job).order d.store.role) e.message.instance.message all plan.next
+  | inl all ↦ none_can_emit job.script d.store n (key_of job n) ((rules_of job).order d.store.role) e.message.instance.message all plan.next
   | inr limit ↦ omega (arith, limit, plan.clock)
 ]
 

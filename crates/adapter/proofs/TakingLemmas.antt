@@ -25,7 +25,7 @@ use Rattle.local_store.specs.declared.receipt.Receipt.TheVariants.{Fresh, Repeat
 use Rattle.local_store.specs.Consistent.{IsConsistent}
 use Rattle.local_store.specs.Reception.{Agrees, AllAgree, IsReceipt, received}
 use Rattle.local_store.specs.State.{StoreState, acts_of}
-use Rattle.played_runs.specs.Laws.{PlayedGrows}
+use Rattle.stamped_history.specs.PlayedLaws.{PlayedGrows}
 use Rattle.reorder_net.specs.Inbox.{Inbox, after_spending}
 use Rattle.adapter.specs.Desk.{DeskState}
 use Rattle.adapter.specs.Kept.{IsFor, IsKept}

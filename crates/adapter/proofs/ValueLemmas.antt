@@ -9,7 +9,6 @@ use Rattle.std.proofs.lemmas.List.Folds.{list_any_none}
 use Rattle.list_base.proofs.Members.{cons_cases, here_same, nowhere, there}
 use Rattle.bspl_types.specs.declared.event.Instance.{Instance}
 use Rattle.bspl_types.specs.declared.expanded.Expanded.{Expanded}
-use Rattle.bspl_types.specs.declared.protocol.Adornment.{Adornment}
 use Rattle.bspl_types.specs.declared.protocol.Adornment.TheVariants.{In, Out, Nil}
 use Rattle.bspl_types.specs.declared.protocol.Carried.{Carried}
 use Rattle.bspl_types.specs.declared.value.Value.{Value}

@@ -3,12 +3,23 @@ use Rattle.std.specs.Prelude.{◌≡◌, ◌≢◌, ℕ, List, slice_get, Option
 use Rattle.std.specs.List.{AllPairs}
 use Rattle.bspl_types.specs.declared.envelope.Envelope.{Envelope}
 use Rattle.bspl_types.specs.declared.expanded.Expanded.{Expanded}
+use Rattle.agent_scripts.specs.Fitting.{IsFittingScript}
 use Rattle.agent_scripts.specs.Job.{Job}
+use Rattle.agent_scripts.specs.Laws.{FitsProtocol}
 use Rattle.agent_scripts.specs.Refusal.{IsScriptFor}
 use Rattle.agent_scripts.specs.Script.{Script}
 use Rattle.adapter.specs.Desk.{DeskState}
 use Rattle.adapter.specs.Kept.{IsKept}
 use Rattle.adapter.specs.Steps.{IsNextEnvelope}
+
+-- the script is one for the protocol and fits it, its keys and rules fit each other, and no message
+-- stands twice in an order
+pub record IsOrderly (job : Job) : Type 0 where
+  pub script_is : IsScriptFor job.protocol job.script
+  pub fits : FitsProtocol job.protocol job.script
+  pub fitting : IsFittingScript job.script.keys job.script.rules
+  pub orders : (role : ℕ) (order : List ℕ) →
+      slice_get job.script.orders role ≡ Some order → AllPairs ◌≢◌ order
 
 -- no message stands twice in a role's order
 abbrev pub OrdersAreDistinct : Type 0

@@ -3,7 +3,7 @@ use Rattle.std.specs.Prelude.{ℕ, ◌-◌, List, [], slice_index_or}
 use Rattle.bspl_types.specs.declared.value.Value.{Value}
 use Rattle.agent_scripts.specs.Job.{Job}
 use Rattle.agent_scripts.specs.Script.{is_declined, rule_of, value_at}
-use Rattle.played_runs.specs.Rules.{Rules}
+use Rattle.stamped_history.specs.Rules.{Rules}
 use Rattle.reorder_net.specs.Losses.{is_lost}
 
 -- those of its script, and the losses of its plan

@@ -7,7 +7,7 @@ use Rattle.bspl_types.specs.declared.envelope.Envelope.{Envelope}
 use Rattle.bspl_types.specs.declared.envelope.Stamped.{Stamped}
 use Rattle.bspl_types.specs.declared.event.Event.TheVariants.{Emit}
 use Rattle.bspl_types.specs.Expansion.{message_of}
-use Rattle.stamped_history.specs.Entries.{last_stamp}
+use Rattle.stamped_history.specs.Entries.{clock_limit, last_stamp}
 use Rattle.agent_scripts.specs.Job.{Job}
 use Rattle.agent_scripts.specs.Script.{values_of}
 use Rattle.local_store.specs.declared.receipt.Receipt.{Receipt}
@@ -15,16 +15,12 @@ use Rattle.local_store.specs.declared.receipt.Receipt.TheVariants.{Fresh, Repeat
 use Rattle.local_store.specs.Emission.{IsEmission}
 use Rattle.local_store.specs.Reception.{IsReceipt}
 use Rattle.local_store.specs.State.{StoreState, acts_of, with_entry}
-use Rattle.played_runs.specs.Played.{IsPlayed}
+use Rattle.stamped_history.specs.Played.{IsPlayed}
 use Rattle.reorder_net.specs.Inbox.{Inbox, after_spending, put_last}
 use Rattle.reorder_net.specs.Losses.{copies_of}
 use Rattle.adapter.specs.Desk.{DeskState}
 use Rattle.adapter.specs.Next.{IsNext}
 use Rattle.adapter.specs.Rules.{key_of, rules_of}
-
--- the last value of a clock
-abbrev pub clock_limit : ℕ
-clock_limit = 18446744073709551615
 
 -- the envelope has the next message of the role's order, as the store emits it with the script's
 -- values, which the agents' rules allow; it goes from the role to the message's receiver, in as

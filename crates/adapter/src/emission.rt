@@ -2,70 +2,67 @@ ghost use Rattle.std.specs.Prelude.{◌≡◌, ◌<◌, length, None, IfSome, Ma
 ghost use Rattle.local_store.specs.Consistent.{IsConsistent};
 ghost use Rattle.local_store.specs.Emission.{IsEmission};
 ghost use Rattle.adapter.specs.Kept.{IsFor, IsKept};
-ghost use Rattle.adapter.specs.Next.{IsWorkload};
+ghost use Rattle.adapter.specs.Next.{IsAtWork};
 ghost use Rattle.adapter.specs.Steps.{IsNextEnvelope, after_emission, with_emission};
-ghost use Rattle.adapter.specs.inner.Turns.{IsPossible, IsTurn, envelope_of};
+ghost use Rattle.adapter.specs.inner.NextStep.{IsPossible, IsNextStep, envelope_of};
 
 use super::desk::Desk;
-use super::laws::script_laws;
+use super::laws::is_orderly;
 use super::next::next_message;
-use super::turn::Turn;
+use super::step::Step;
 use agent_scripts::Job;
 use bspl_types::{Envelope, Stamped, equal_values_are_one};
 use local_store::Store;
-use played_runs::played_grows;
 use reorder_net::copies;
+use stamped_history::played_grows;
 
 /// The agent of the desk's role emits the next message of its order at the workload number, if
 /// there is one. The answer is the envelope to be posted, in as many copies as the plan gives: with
 /// none it is lost. A kept desk has room for the emission, so this takes no memory.
 pub fn desk_emit(desk: &mut Desk, job: &Job, n: u64) -> Option<Envelope>
-    requires kept { IsKept job.now desk.old.store.role desk.old }
-    requires number { IsWorkload job.now n }
+    requires { IsAtWork job.now desk.old n }
     ensures kept { IsKept job.now desk.old.store.role desk.new }
     ensures plan { IsNextEnvelope job.now desk.old.store n result }
     ensures changed { desk.new ≡ after_emission desk.old result }
     ensures posted { IfSome result (λ e. 0 < e.copies → IsFor job.now e.to e) }
 {
     // laws: of the script; a played event leaves the events played; equal keys are one key
-    script_laws(job);
+    is_orderly(job);
     played_grows();
     equal_values_are_one();
-    let turn = next_turn(desk, job, n)?;
+    let step = next_step(desk, job, n)?;
     let role = desk.store.role();
-    let message = emit_turn(desk, &turn);
+    let message = emit_step(desk, &step);
     Some(envelope_of(job, role, message, n))
 }
 
 /// The envelope that `desk_emit` would answer: there is one at most, as `next_envelopes_are_one`
 /// states. Nothing changes.
 pub fn desk_plan(desk: &Desk, job: &Job, n: u64) -> Option<Envelope>
-    requires kept { IsKept job.now desk.now.store.role desk.now }
-    requires number { IsWorkload job.now n }
+    requires { IsAtWork job.now desk.now n }
     ensures plan { IsNextEnvelope job.now desk.now.store n result }
     ensures posted { IfSome result (λ e. 0 < e.copies → IsFor job.now e.to e) }
 {
     // law: the script fits its protocol
-    script_laws(job);
-    let turn = next_turn(desk, job, n)?;
-    let message = plan_turn(&desk.store, &turn);
+    is_orderly(job);
+    let step = next_step(desk, job, n)?;
+    let message = plan_step(&desk.store, &step);
     Some(envelope_of(job, desk.store.role(), message, n))
 }
 
-/// The agent's turn at the workload number, if it has one and the clock can go on.
-fn next_turn(desk: &Desk, job: &Job, n: u64) -> Option<Turn>
-    requires kept { IsKept job.now desk.now.store.role desk.now }
-    requires number { IsWorkload job.now n }
+/// The agent's step at the workload number, if it has one and the clock can go on.
+fn next_step(desk: &Desk, job: &Job, n: u64) -> Option<Step>
+    requires { IsAtWork job.now desk.now n }
     ensures { MatchOption result
         (IsNextEnvelope job.now desk.now.store n None)
-        (IsTurn job.now desk.now.store n) }
+        (IsNextStep job.now desk.now.store n) }
 {
     if desk.store.clock() == u64::MAX {
         return None;
     }
     let message = next_message(desk, job, n)?;
     let script = job.script();
-    Some(Turn {
+    Some(Step {
         message,
         key: script.key(n),
         outs: script.values(job.admitted(), message, n),
@@ -87,24 +84,24 @@ fn envelope_of(job: &Job, role: u32, message: Stamped, n: u64) -> Envelope
     }
 }
 
-/// The store emits the turn's message.
-fn emit_turn(desk: &mut Desk, turn: &Turn) -> Stamped
-    requires { IsPossible desk.old.store turn.now }
-    ensures sent { IsEmission desk.old.store turn.now.message turn.now.key turn.now.outs result }
+/// The store emits the step's message.
+fn emit_step(desk: &mut Desk, step: &Step) -> Stamped
+    requires { IsPossible desk.old.store step.now }
+    ensures sent { IsEmission desk.old.store step.now.message step.now.key step.now.outs result }
     ensures changed { desk.new ≡ with_emission desk.old result }
     ensures consistent { IsConsistent desk.new.store }
 {
-    let outs = turn.outs.as_slice();
-    let message = desk.store.emit(turn.message, &turn.key, outs).unwrap();
+    let outs = step.outs.as_slice();
+    let message = desk.store.emit(step.message, &step.key, outs).unwrap();
     // law: each store is consistent
-    desk.store.len();
+    desk.store.is_consistent();
     message
 }
 
-/// What the store would emit at the turn.
-fn plan_turn(store: &Store, turn: &Turn) -> Stamped
-    requires { IsPossible store.now turn.now }
-    ensures { IsEmission store.now turn.now.message turn.now.key turn.now.outs result }
+/// What the store would emit at the step.
+fn plan_step(store: &Store, step: &Step) -> Stamped
+    requires { IsPossible store.now step.now }
+    ensures { IsEmission store.now step.now.message step.now.key step.now.outs result }
 {
-    store.planned(turn.message, &turn.key, turn.outs.as_slice())
+    store.planned(step.message, &step.key, step.outs.as_slice())
 }

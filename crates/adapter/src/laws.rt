@@ -1,5 +1,4 @@
-ghost use Rattle.adapter.specs.Laws.{NextEnvelopesAreOne, OrdersAreDistinct};
-ghost use Rattle.adapter.specs.inner.Turns.{IsOrderly};
+ghost use Rattle.adapter.specs.Laws.{IsOrderly, NextEnvelopesAreOne, OrdersAreDistinct};
 
 use agent_scripts::{Job, scripts_fit};
 
@@ -13,12 +12,12 @@ pub fn next_envelopes_are_one()
     ensures { NextEnvelopesAreOne }
 {}
 
-/// A law: the job's script fits its protocol, no message stands twice in an order, and no two keys
-/// are equal.
-pub(crate) fn script_laws(job: &Job)
+/// A law: the job's script is one for its protocol and fits it, its keys and rules fit each other,
+/// and no message stands twice in an order.
+pub fn is_orderly(job: &Job)
     ensures { IsOrderly job.now }
 {
-    // laws: a script fits its protocol, its orders are distinct, and its keys are
+    // laws: a script fits its protocol, its orders are distinct, and its keys and rules fit
     scripts_fit();
     orders_are_distinct();
     job.script().count();

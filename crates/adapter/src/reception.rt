@@ -1,16 +1,16 @@
 ghost use Rattle.std.specs.Prelude.{◌≡◌, ◌<◌, length, slice_get, Some};
 ghost use Rattle.bspl_types.specs.declared.envelope.Envelope.{Envelope};
-ghost use Rattle.stamped_history.specs.Entries.{last_stamp};
+ghost use Rattle.stamped_history.specs.Entries.{clock_limit, last_stamp};
 ghost use Rattle.adapter.specs.Kept.{IsKept};
-ghost use Rattle.adapter.specs.Steps.{IsSpent, IsTaken, IsTaking, after_pick, clock_limit};
+ghost use Rattle.adapter.specs.Steps.{IsSpent, IsTaken, IsTaking, after_pick};
 
 use super::desk::Desk;
 use agent_scripts::Job;
 use bspl_types::equal_values_are_one;
 use local_store::Receipt;
-use played_runs::played_grows;
 use rand_pcg::Pcg32;
 use reorder_net::{Inbox, pick};
+use stamped_history::played_grows;
 
 /// Takes one of the envelopes that are held, as the generator picks it, and hands its message to
 /// the store. A receipt, or one that is repeated, spends a copy of the envelope. A message that
@@ -48,7 +48,7 @@ fn take_at(desk: &mut Desk, job: &Job, index: usize) -> Receipt
     let envelope = *desk.inbox.at(index);
     let receipt = desk.store.receive(&envelope.message);
     // law: each store is consistent
-    desk.store.len();
+    desk.store.is_consistent();
     spend(&mut desk.inbox, index, &receipt);
     receipt
 }

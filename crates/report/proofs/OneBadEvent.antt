@@ -15,13 +15,14 @@ use Rattle.bspl_types.specs.declared.value.Value.{Value}
 use Rattle.bspl_types.specs.Admission.{IsAdmitted}
 use Rattle.bspl_types.specs.Expansion.{message_of}
 use Rattle.bspl_types.specs.Knowledge.{CanEmit, IsEnabled, IsKnown}
+use Rattle.bspl_types.specs.History.{sender_history}
 use Rattle.role_knowledge.specs.Blocked.{IsPermitted, Permits}
 use Rattle.role_knowledge.specs.FirstKnown.{IsFirstKnown}
 use Rattle.role_knowledge.specs.Laws.{FirstKnownIsOne}
 use Rattle.enactment_model.specs.declared.bad_event.BadEvent.{BadEvent}
 use Rattle.enactment_model.specs.declared.bad_event.Why.{Why}
 use Rattle.enactment_model.specs.declared.bad_event.Why.TheVariants.{Missing, Bound, Other, Unsent}
-use Rattle.enactment_model.specs.BadEvent.{IsAllowed, IsFirstBadEvent, IsFirstReason, IsReasonOf, MayNotFollow, sender_history}
+use Rattle.enactment_model.specs.BadEvent.{IsAllowed, IsFirstBadEvent, IsFirstReason, IsReasonOf, MayNotFollow}
 use Rattle.enactment_model.specs.Legal.{IsLegal, LegalAfter, MayFollow}
 
 -- the item comes in the list after those of the first list
@@ -106,7 +107,7 @@ not_enabled x history i why reason enabled =
 
 -- an event that may not follow does not follow
 not_follows : (x : Expanded) (before : List Event) (event : Event) (why : Why) → MayNotFollow x before event why → ¬ MayFollow x before event
-not_follows x before (Emit i) why bad follows = not_enabled x (sender_history x before i) i why bad follows
+not_follows x before (Emit i) why bad follows = not_enabled x (sender_history x before i.message) i why bad follows
 not_follows x before (Receive i) why bad follows = bad.1 follows
 
 -- a parameter has one reason
@@ -139,7 +140,7 @@ one_first_reason once x history i carried admitted why other one two =
 -- an event may not follow for one reason
 one_why : FirstKnownIsOne → (x : Expanded) (before : List Event) (event : Event) → IsAdmitted x → (why other : Why) → MayNotFollow x before event why → MayNotFollow x before event other → why ≡ other
 one_why once x before (Emit i) admitted why other one two =
-    one_first_reason once x (sender_history x before i) i (message_of x i.message).carried admitted why other one two
+    one_first_reason once x (sender_history x before i.message) i (message_of x i.message).carried admitted why other one two
 one_why once x before (Receive i) admitted why other one two = one.0 ∙ sym two.0
 
 -- a legal run has no bad event

@@ -10,7 +10,7 @@ use Rattle.list_base.proofs.Zipped.{paired_push}
 use Rattle.bspl_types.specs.declared.event.Event.{Event}
 use Rattle.bspl_types.specs.declared.expanded.Expanded.{Expanded}
 use Rattle.bspl_types.specs.declared.value.Value.{Value}
-use Rattle.played_runs.specs.TableValue.{IsTableValue}
+use Rattle.stamped_history.specs.TableValue.{IsTableValue}
 use Rattle.run_text.specs.inner.LineFields.{spaced_fields}
 use Rattle.report.specs.WorldText.{IsRowLine, cell_field, row_line}
 use Rattle.report.specs.inner.WorldRows.{AppendsCells, AppendsRow, AppendsRows}

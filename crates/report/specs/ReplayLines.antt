@@ -4,7 +4,7 @@ use Rattle.std.specs.Fmt.{decimal}
 use Rattle.bspl_types.specs.declared.event.Event.{Event}
 use Rattle.bspl_types.specs.declared.expanded.Expanded.{Expanded}
 use Rattle.bspl_types.specs.declared.value.Value.{Value}
-use Rattle.bspl_types.specs.Expansion.{message_of}
+use Rattle.bspl_types.specs.Expansion.{message_of, param_name}
 use Rattle.bspl_types.specs.ValueSpelling.{value_spelling}
 use Rattle.enactment_model.specs.declared.bad_event.BadEvent.{BadEvent}
 use Rattle.enactment_model.specs.declared.bad_event.Why.{Why}
@@ -14,10 +14,6 @@ use Rattle.refutation_log.specs.LogText.{line_of}
 use Rattle.run_text.specs.RunText.{no_param}
 use Rattle.report.specs.declared.status.Status.{Status as KeyStatus}
 use Rattle.report.specs.declared.status.Status.TheVariants.{Loose, Incomplete, Complete}
-
--- the name of the parameter of that index
-abbrev pub param_name : Expanded → ℕ → List ℕ
-param_name x p = (slice_index_or x.params p no_param).name
 
 -- why an event may not follow those before it
 abbrev pub reason_fields : Expanded → Why → List (List ℕ)

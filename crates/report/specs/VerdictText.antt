@@ -3,6 +3,7 @@ use Rattle.std.specs.Prelude.{ℕ, Bool, if◌then◌else◌, List, [], ◌∷�
 use Rattle.std.specs.Fmt.{decimal}
 use Rattle.bspl_types.specs.declared.expanded.Expanded.{Expanded}
 use Rattle.bspl_types.specs.History.{IsRun}
+use Rattle.bspl_types.specs.Expansion.{param_name}
 use Rattle.refutation_log.specs.declared.refutation.Kind.{Kind}
 use Rattle.refutation_log.specs.declared.refutation.Kind.TheVariants as kinds
 use Rattle.refutation_log.specs.declared.refutation.Log.{Log}
@@ -14,7 +15,6 @@ use Rattle.verdict.specs.declared.outcome.Safety.{Safety}
 use Rattle.verdict.specs.declared.outcome.Safety.TheVariants.{Safe, Undecided, Unsafe}
 use Rattle.verdict.specs.declared.outcome.Verdicts.{Verdicts}
 use Rattle.verdict.specs.Verdicts.{AreRight}
-use Rattle.report.specs.ReplayLines.{param_name}
 
 -- the first line: the protocol's name
 abbrev pub protocol_line : Expanded → List ℕ

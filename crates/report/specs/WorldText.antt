@@ -8,12 +8,11 @@ use Rattle.bspl_types.specs.declared.event.Event.{Event}
 use Rattle.bspl_types.specs.declared.event.Event.TheVariants.{Emit, Receive}
 use Rattle.bspl_types.specs.declared.expanded.Expanded.{Expanded}
 use Rattle.bspl_types.specs.declared.value.Value.{Value}
-use Rattle.bspl_types.specs.Expansion.{message_of}
+use Rattle.bspl_types.specs.Expansion.{message_of, param_name}
 use Rattle.bspl_types.specs.ValueSpelling.{value_spelling}
 use Rattle.agent_scripts.specs.Script.{Script}
-use Rattle.played_runs.specs.TableValue.{IsTableValue}
+use Rattle.stamped_history.specs.TableValue.{IsTableValue}
 use Rattle.refutation_log.specs.LogText.{end_line, line_of}
-use Rattle.report.specs.ReplayLines.{param_name}
 
 -- an emission, and a reception, of message m
 abbrev pub sends : ℕ → Event → Bool

@@ -1,8 +1,7 @@
 ghost use Rattle.std.specs.Prelude.{◌≡◌, ◌∷◌, ◌++◌, OnOk};
 ghost use Rattle.std.specs.Fmt.{decimal};
-ghost use Rattle.bspl_types.specs.Expansion.{message_of};
+ghost use Rattle.bspl_types.specs.Expansion.{message_of, param_name};
 ghost use Rattle.bspl_types.specs.ValueSpelling.{value_spelling};
-ghost use Rattle.report.specs.ReplayLines.{param_name};
 
 use bspl_types::{Expanded, Value};
 use list_base::{Bytes, NoMemory};

@@ -1,9 +1,9 @@
 ghost use Rattle.std.specs.Prelude.{◌≡◌, ◌<◌, length, IfOk};
 ghost use Rattle.std.specs.List.{All};
-ghost use Rattle.bspl_types.specs.History.{instance_of, IsRun};
+ghost use Rattle.bspl_types.specs.History.{IsRun};
 ghost use Rattle.report.specs.Keys.{keys_of, reported_keys};
 
-use bspl_types::{Event, Expanded, Key, equal_values_are_one};
+use bspl_types::{Expanded, Key, equal_values_are_one};
 use list_base::{NoMemory, Seq};
 use run_index::RunIndex;
 use std::alloc::Global;
@@ -36,17 +36,8 @@ fn keys_of(alloc: Global, index: &RunIndex) -> Result<Seq<Key>, NoMemory>
     let mut keys = Seq::new(alloc);
     for (position, event) in index.events().iter().enumerate() {
         if index.is_first(position) {
-            keys.push(key_of(event))?;
+            keys.push(event.instance().key)?;
         }
     }
     Ok(keys)
-}
-
-/// The key of what is emitted or received.
-fn key_of(event: &Event) -> Key
-    ensures { result ≡ (instance_of event.now).key }
-{
-    match event {
-        Event::Emit(instance) | Event::Receive(instance) => instance.key,
-    }
 }

@@ -5,7 +5,7 @@ use Rattle.agent_scripts.specs.Job.{Job}
 use Rattle.world_run.specs.Course.{AreSteps, IsPlay, IsRound, PlayState}
 
 -- after the first steps comes that of the next number
-pub step_more : (step : ℕ → PlayState → PlayState → Type 0) (k : ℕ) (old middle new : PlayState) → AreSteps step k old middle → step k middle new → AreSteps step (k + 1) old new
+pub step_more : {S : Type 0} (step : ℕ → S → S → Type 0) (k : ℕ) (old middle new : S) → AreSteps step k old middle → step k middle new → AreSteps step (k + 1) old new
 step_more step k old middle new before next =
     let same : suc k ≡ k + 1 = omega (arith) in
     subst (λ (n : ℕ). AreSteps step n old new) same (middle, before, next)
@@ -19,7 +19,7 @@ pub round_more : (job : Job) (old middle new : PlayState) → IsPlay job old mid
 round_more job old middle new before next =
     record { rounds = before.rounds + 1; each = step_more (λ _. IsRound job) before.rounds old middle new before.each next }
 
--- what holds of a result's three facts holds of the result
-pub on_ok_three : {A E : Type 0} (r : Result A E) (P Q S T : Type 0) → (P → Q → S → T) → OnOk r P → OnOk r Q → OnOk r S → OnOk r T
-on_ok_three (Ok x) P Q S T from p q s = from p q s
-on_ok_three (Err e) P Q S T from p q s = p
+-- what follows of an `Ok`
+pub on_ok_then : {A E : Type 0} (r : Result A E) (P Q : Type 0) → (P → Q) → OnOk r P → OnOk r Q
+on_ok_then (Ok x) P Q from p = from p
+on_ok_then (Err e) P Q from p = p

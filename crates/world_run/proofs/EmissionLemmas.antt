@@ -1,4 +1,4 @@
--- An entry that is an emission, and what is owed for it.
+-- An entry that is an emission, and what is undelivered of it.
 use Rattle.std.proofs.Common.{◌≡◌, ◌≢◌, ℕ, ◌+◌, ◌<◌, inl, true, false, Some, List, ◌∷◌, ◌++◌, length, take, drop, refl, sym, ap, ◌∙◌, subst, arith, option_map, Contains}
 use Rattle.std.specs.Prelude.{if◌then◌else◌, slice_get}
 use Rattle.std.specs.List.{AllPairs}
@@ -18,18 +18,20 @@ use Rattle.adapter.specs.Rules.{rules_of}
 use Rattle.agent_scripts.specs.Job.{Job}
 use Rattle.local_store.specs.Consistent.{IsReceived}
 use Rattle.local_store.specs.State.{acts_of, stamped_events, StoreState}
-use Rattle.played_runs.specs.Rules.{IsNumber}
+use Rattle.stamped_history.specs.Rules.{IsNumber}
 use Rattle.reorder_net.specs.Losses.{copies_of, is_lost}
 use Rattle.stamped_history.specs.declared.entry.Entry.{Entry}
+use Rattle.stamped_history.specs.Entries.{events_of}
 use Rattle.stamped_history.specs.Explained.{history_at}
 use Rattle.stamped_history.specs.Local.{IsLocal, MayEmit, MayFollowAs}
 use Rattle.world_run.specs.World.{histories_of}
-use Rattle.world_run.specs.inner.Owed.{EntryArrives, IsOwed}
-use Rattle.world_run.specs.inner.Underway.{Arrives, AreSound, Survives}
+use Rattle.world_run.specs.inner.Undelivered.{CanBePosted, EntryArrives, OwesNothing}
+use Rattle.world_run.specs.inner.InProgress.{Arrives, AreSound, Survives}
 use Rattle.world_run.proofs.EmitLemmas.{some_copies}
 use Rattle.world_run.proofs.EntryLemmas.{pair_is}
 use Rattle.world_run.proofs.FinishLemmas.{number_once}
-use Rattle.world_run.proofs.OwedLemmas.{emitted_in, received_is}
+use Rattle.world_run.proofs.RenewalLemmas.{lost_none, receipt_none, received_none}
+use Rattle.world_run.proofs.UndeliveredLemmas.{emitted_in, received_is}
 use Rattle.world_run.proofs.WorldLemmas.{history_is, local_at}
 
 -- an entry of the role's history as its store shows it
@@ -82,7 +84,7 @@ emission_at job desks role k d entry i sound desk at emitted =
     }
 
 -- a receipt owes nothing
-pub receipt_arrives : (job : Job) (desks : List DeskState) (entry : Entry) (j : Instance) → entry.event ≡ Receive j → EntryArrives job desks entry
+receipt_arrives : (job : Job) (desks : List DeskState) (entry : Entry) (j : Instance) → entry.event ≡ Receive j → EntryArrives job desks entry
 receipt_arrives job desks entry j received i receiver emitted survives at = absurd (no_receipt (sym received ∙ emitted))
   where
     no_receipt : Receive j ≡ Emit i → ⊥
@@ -93,28 +95,51 @@ arrives_of : (job : Job) (desks : List DeskState) (entry : Entry) (i : Instance)
 arrives_of job desks entry i is arrives j receiver emitted survives at =
     subst (λ k. Survives job k → slice_get desks (message_of job.protocol k.message).receiver ≡ Some receiver → Arrives receiver k) (ap emitted_in (sym is ∙ emitted)) (λ s a. arrives s receiver a) survives at
 
+-- nothing is owed of a receipt
+pub receipt_owes : (job : Job) (desks : List DeskState) (entry : Entry) (j : Instance) → entry.event ≡ Receive j → OwesNothing job desks entry
+receipt_owes job desks entry j received =
+    record { arrives = receipt_arrives job desks entry j received; nothing = receipt_none job (histories_of desks) entry j received }
+
 -- one under no workload key is none
-pub unnumbered_arrives : (job : Job) (desks : List DeskState) (role k : ℕ) (d : DeskState) (entry : Entry) (i : Instance) → EmissionAt job desks role k d entry i → (Contains job.script.keys i.key → ⊥) → EntryArrives job desks entry
-unnumbered_arrives job desks role k d entry i is none = absurd (none is.workload)
+pub unnumbered_owes : (job : Job) (desks : List DeskState) (role k : ℕ) (d : DeskState) (entry : Entry) (i : Instance) → EmissionAt job desks role k d entry i → (Contains job.script.keys i.key → ⊥) → OwesNothing job desks entry
+unnumbered_owes job desks role k d entry i is none = absurd (none is.workload)
 
 -- one that is lost owes nothing
-pub lost_arrives : (job : Job) (desks : List DeskState) (entry : Entry) (i : Instance) (n : ℕ) → entry.event ≡ Emit i → IsNumber (rules_of job) n i.key → copies_of job.plan i.message n ≡ 0 → EntryArrives job desks entry
+lost_arrives : (job : Job) (desks : List DeskState) (entry : Entry) (i : Instance) (n : ℕ) → entry.event ≡ Emit i → IsNumber (rules_of job) n i.key → copies_of job.plan i.message n ≡ 0 → EntryArrives job desks entry
 lost_arrives job desks entry i n is number none = arrives_of job desks entry i is (λ survives receiver at.
     absurd (omega (arith, none, some_copies job.plan i.message n (survives n number))))
 
+-- nothing is owed of it
+pub lost_owes : (job : Job) (desks : List DeskState) (entry : Entry) (i : Instance) (n : ℕ) → AllPairs ◌≢◌ job.script.keys → entry.event ≡ Emit i → IsNumber (rules_of job) n i.key → copies_of job.plan i.message n ≡ 0 → OwesNothing job desks entry
+lost_owes job desks entry i n distinct is number none =
+    record { arrives = lost_arrives job desks entry i n is number none; nothing = lost_none job (histories_of desks) entry i n distinct is number none }
+
 -- one that was received arrives
-pub received_arrives : (job : Job) (desks : List DeskState) (role k : ℕ) (d : DeskState) (entry : Entry) (i : Instance) (target : DeskState) → AreSound job desks → EmissionAt job desks role k d entry i → slice_get desks (message_of job.protocol i.message).receiver ≡ Some target → IsReceived (acts_of target.store) i.key i.message → EntryArrives job desks entry
+received_arrives : (job : Job) (desks : List DeskState) (role k : ℕ) (d : DeskState) (entry : Entry) (i : Instance) (target : DeskState) → AreSound job desks → EmissionAt job desks role k d entry i → slice_get desks (message_of job.protocol i.message).receiver ≡ Some target → IsReceived (acts_of target.store) i.key i.message → EntryArrives job desks entry
 received_arrives job desks role k d entry i target sound is target_at got = arrives_of job desks entry i is.emitted (λ survives receiver at.
     let same : target ≡ receiver = sym (get_or_from_slice_get desks (message_of job.protocol i.message).receiver target target target_at) ∙ get_or_from_slice_get desks (message_of job.protocol i.message).receiver receiver target at in
     subst (λ (f : DeskState). Arrives f i) same (inl (received_is job desks role d target i sound is.desk is.own is.among (message_of job.protocol i.message).receiver target_at got)))
 
--- an envelope with the emission is owed otherwise
-pub owed_of : (job : Job) (desks : List DeskState) (role k : ℕ) (d : DeskState) (entry : Entry) (e : Envelope) (n : ℕ) (target : DeskState) → AllPairs ◌≢◌ job.script.keys → AreSound job desks → EmissionAt job desks role k d entry e.message.instance → e.from ≡ role → e.to ≡ (message_of job.protocol e.message.instance.message).receiver → e.message.stamp ≡ entry.stamp → e.message.number ≡ k → IsNumber (rules_of job) n e.message.instance.key → e.copies ≡ copies_of job.plan e.message.instance.message n → e.copies ≢ 0 → slice_get desks e.to ≡ Some target → (IsReceived (acts_of target.store) e.message.instance.key e.message.instance.message → ⊥) → IsOwed job desks entry e
-owed_of job desks role k d entry e n target distinct sound is from to stamp number at_number copies some target_at none =
+-- nothing is owed of it
+pub received_owes : (job : Job) (desks : List DeskState) (role k : ℕ) (d : DeskState) (entry : Entry) (i : Instance) (target : DeskState) → AreSound job desks → EmissionAt job desks role k d entry i → slice_get desks (message_of job.protocol i.message).receiver ≡ Some target → IsReceived (acts_of target.store) i.key i.message → OwesNothing job desks entry
+received_owes job desks role k d entry i target sound is target_at got =
+    record { arrives = received_arrives job desks role k d entry i target sound is target_at got; nothing = received_none job desks entry i target is.emitted target_at got }
+
+-- an envelope with the emission is undelivered otherwise
+pub undelivered_of : (job : Job) (desks : List DeskState) (role k : ℕ) (d : DeskState) (entry : Entry) (e : Envelope) (n : ℕ) (target : DeskState) → AllPairs ◌≢◌ job.script.keys → AreSound job desks → EmissionAt job desks role k d entry e.message.instance → e.from ≡ role → e.to ≡ (message_of job.protocol e.message.instance.message).receiver → e.message.stamp ≡ entry.stamp → e.message.number ≡ k → IsNumber (rules_of job) n e.message.instance.key → e.copies ≡ copies_of job.plan e.message.instance.message n → e.copies ≢ 0 → slice_get desks e.to ≡ Some target → (IsReceived (acts_of target.store) e.message.instance.key e.message.instance.message → ⊥) → CanBePosted job desks entry e
+undelivered_of job desks role k d entry e n target distinct sound is from to stamp number at_number copies some target_at none =
     let i : Instance = e.message.instance in
     let m : ℕ = i.message in
     record {
-      emitted = is.emitted;
+      undelivered = record {
+        emitted = is.emitted;
+        stamp = stamp;
+        number = number ∙ sym is.number;
+        from = from ∙ sym is.own;
+        to = to;
+        copies = record { n = n; number = at_number; copies = copies; some = omega (arith, some) };
+        unreceived = λ got. none (subst (λ (h : List Entry). IsReceived (events_of h) i.key m) (history_is desks e.to target target_at) got);
+      };
       sent = record {
         emission = entry;
         numbered = subst (λ h. slice_get h e.message.number ≡ Some entry) (sym (ap (history_at (histories_of desks)) is.own ∙ history_is desks role d is.desk))
@@ -122,7 +147,6 @@ owed_of job desks role k d entry e n target distinct sound is from to stamp numb
         emitted = is.emitted;
         stamped = sym stamp;
       };
-      from = from ∙ sym is.own;
       is_for = record {
         fits = is.fits;
         to_role = refl;
@@ -132,9 +156,6 @@ owed_of job desks role k d entry e n target distinct sound is from to stamp numb
         some = omega (arith, some);
       };
       within = slice_get_within desks e.to target target_at;
-      copies = λ j also. copies ∙ ap (copies_of job.plan m) (number_once job n j i.key distinct at_number also);
-      unreceived = λ other at got. none (subst (λ (f : DeskState). IsReceived (acts_of f.store) i.key m)
-          (sym (get_or_from_slice_get desks e.to other target at) ∙ get_or_from_slice_get desks e.to target target target_at) got);
     }
   where
     not_lost : (c : ℕ) → e.copies ≡ c → c ≡ copies_of job.plan e.message.instance.message n → is_lost job.plan e.message.instance.message n ≡ false

@@ -24,7 +24,7 @@ use Rattle.adapter.specs.Steps.{after_emission, IsNextEnvelope, IsPlanned}
 use Rattle.agent_scripts.specs.declared.plan.Plan.{Plan}
 use Rattle.agent_scripts.specs.Job.{Job}
 use Rattle.local_store.specs.State.{acts_of, StoreState}
-use Rattle.played_runs.specs.Rules.{IsNumber}
+use Rattle.stamped_history.specs.Rules.{IsNumber}
 use Rattle.reorder_net.specs.Inbox.{put_last}
 use Rattle.reorder_net.specs.Losses.{copies_of, is_lost}
 use Rattle.stamped_history.specs.declared.entry.Entry.{Entry}
@@ -33,7 +33,7 @@ use Rattle.stamped_history.specs.Extended.{EmissionKeepsExplained}
 use Rattle.world_run.specs.Sent.{IsSent}
 use Rattle.world_run.specs.World.{histories_of, HistoriesGrow}
 use Rattle.world_run.specs.inner.Steps.{IsProgress}
-use Rattle.world_run.specs.inner.Underway.{AreSound, AreWhole, Extend}
+use Rattle.world_run.specs.inner.InProgress.{AreSound, AreWhole, Extend}
 use Rattle.world_run.specs.inner.Work.{copies_in, work_left, work_of}
 use Rattle.world_run.proofs.GrowLemmas.{clock_bounded, grow, grow_twice, history_here, run_short}
 use Rattle.world_run.proofs.InboxLemmas.{put_all, put_copies, put_holds, put_keeps}

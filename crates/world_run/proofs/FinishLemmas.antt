@@ -25,8 +25,8 @@ use Rattle.agent_scripts.specs.Job.{Job}
 use Rattle.agent_scripts.specs.Laws.{FitsProtocol}
 use Rattle.agent_scripts.specs.Script.{is_declined}
 use Rattle.local_store.specs.State.{acts_of}
-use Rattle.played_runs.specs.Laws.{HistoriesSettle}
-use Rattle.played_runs.specs.Rules.{IsNumber}
+use Rattle.stamped_history.specs.PlayedLaws.{HistoriesSettle}
+use Rattle.stamped_history.specs.Rules.{IsNumber}
 use Rattle.reorder_net.specs.Losses.{is_lost}
 use Rattle.stamped_history.specs.Entries.{events_of}
 use Rattle.stamped_history.specs.Explained.{history_at}
@@ -34,7 +34,7 @@ use Rattle.world_run.specs.inner.Ending.{AreEnded}
 use Rattle.world_run.specs.Laws.{MergePlayed}
 use Rattle.world_run.specs.World.{histories_of}
 use Rattle.world_run.specs.inner.Idle.{AreIdle}
-use Rattle.world_run.specs.inner.Underway.{AreSound, AreWhole, Survives}
+use Rattle.world_run.specs.inner.InProgress.{AreSound, AreWhole, Survives}
 use Rattle.world_run.proofs.EmitLemmas.{message_exists}
 use Rattle.world_run.proofs.WorldLemmas.{all_items, history_is, history_past}
 

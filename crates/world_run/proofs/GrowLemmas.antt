@@ -23,7 +23,7 @@ use Rattle.stamped_history.specs.Entries.{events_of, last_stamp}
 use Rattle.stamped_history.specs.Explained.{history_at}
 use Rattle.world_run.specs.Sent.{IsSent}
 use Rattle.world_run.specs.World.{AreKept, HistoriesGrow, histories_of}
-use Rattle.world_run.specs.inner.Underway.{HaveRun}
+use Rattle.world_run.specs.inner.InProgress.{HaveRun}
 use Rattle.world_run.proofs.SetLemmas.{item_longer, item_set, set_same}
 use Rattle.world_run.proofs.WorldLemmas.{all_items, each_history, history_is}
 

@@ -7,7 +7,8 @@ pub mod GrowLemmas
 pub mod InboxLemmas
 pub mod MergeLemmas
 pub mod OpenLemmas
-pub mod OwedLemmas
+pub mod UndeliveredLemmas
+pub mod RenewalLemmas
 pub mod RoundLemmas
 pub mod SetLemmas
 pub mod SoundLemmas

@@ -18,22 +18,22 @@ use Rattle.bspl_types.specs.declared.expanded.Expanded.{Expanded}
 use Rattle.bspl_types.specs.declared.protocol.Message.{Message}
 use Rattle.bspl_types.specs.declared.value.Value.{Value}
 use Rattle.adapter.specs.Desk.{DeskState}
-use Rattle.adapter.specs.Kept.{AreApart, IsFor}
+use Rattle.adapter.specs.Kept.{AreDistinct, IsFor}
 use Rattle.adapter.specs.Pending.{is_of_pair, messages_of, pairs_of, pending}
 use Rattle.adapter.specs.Rules.{rules_of}
 use Rattle.agent_scripts.specs.Job.{Job}
 use Rattle.agent_scripts.specs.Script.{Script}
 use Rattle.local_store.specs.Consistent.{IsConsistent}
 use Rattle.local_store.specs.State.{acts_of, AddsKey, new_store, StoreState}
-use Rattle.played_runs.specs.Played.{Played}
+use Rattle.stamped_history.specs.Played.{Played}
 use Rattle.stamped_history.specs.declared.entry.Entry.{Entry}
 use Rattle.stamped_history.specs.Entries.{events_of}
 use Rattle.stamped_history.specs.Explained.{history_at}
 use Rattle.world_run.specs.Sent.{IsSent}
 use Rattle.world_run.specs.Settling.{AreNew}
 use Rattle.world_run.specs.World.{histories_of}
-use Rattle.world_run.specs.inner.Opening.{AreOpened, envelopes_to, events_of_role, IsOpened, opened_store, own}
-use Rattle.world_run.specs.inner.Underway.{AreSound, AreWhole}
+use Rattle.world_run.specs.inner.Opened.{AreOpened, envelopes_to, events_of_role, IsOpened, opened_store, own}
+use Rattle.world_run.specs.inner.InProgress.{AreSound, AreWhole}
 use Rattle.world_run.proofs.WorldLemmas.{all_items, each_history, played_none}
 
 -- a filtered list is not longer
@@ -80,7 +80,7 @@ opened job role d consistent store_is empty envelopes =
         protocol_is = ap (λ (s : StoreState). s.protocol) store_is;
         role_is = ap (λ (s : StoreState). s.role) store_is;
         consistent = consistent;
-        once = subst (AllPairs AreApart) (sym acts) (λ i j e before within. absurd (omega (arith, within)));
+        once = subst (AllPairs AreDistinct) (sym acts) (λ i j e before within. absurd (omega (arith, within)));
         held = subst (λ ks. All (Contains ks) job.script.keys) (sym (ap (λ (s : StoreState). s.keys) store_is)) (All-contains_itself job.script.keys);
         room = subst (λ h. length (pending h (pairs_of job.script.keys (messages_of job.protocol role))) < d.store.spare) (sym acts) (omega (arith, ap (λ (s : StoreState). s.spare) store_is, room_needed job role));
         played = subst (Played job.protocol (rules_of job)) (sym acts) (played_none job);

@@ -1,5 +1,5 @@
 -- Steps one after another.
-use Rattle.std.proofs.Common.{◌≡◌, ℕ, ◌+◌, ◌<◌, Bool, true, false, None, Some, List, [], slice_get, inl, inr, refl, sym, subst, arith}
+use Rattle.std.proofs.Common.{◌≡◌, ℕ, ◌+◌, ◌<◌, Bool, true, false, None, Some, List, [], length, slice_get, inl, inr, refl, sym, subst, arith}
 use Rattle.std.specs.Prelude.{◌||◌}
 use Rattle.std.proofs.lemmas.Bool.{cases_eq}
 use Rattle.adapter.specs.Desk.{DeskState}
@@ -8,13 +8,17 @@ use Rattle.agent_scripts.specs.Job.{Job}
 use Rattle.world_run.specs.World.{histories_of}
 use Rattle.world_run.specs.inner.Idle.{IsIdleAt}
 use Rattle.world_run.specs.inner.Steps.{IsProgress}
-use Rattle.world_run.specs.inner.Underway.{AreSound, AreWhole, Extend}
+use Rattle.world_run.specs.inner.InProgress.{AreSound, AreWhole, Extend}
 use Rattle.world_run.specs.inner.Work.{work_left}
 use Rattle.world_run.proofs.GrowLemmas.{grow_none, grow_twice}
 
 -- no step
 pub extend_none : (job : Job) (desks : List DeskState) → AreSound job desks → Extend job desks desks
 extend_none job desks sound = record { sound = sound; grow = grow_none (histories_of desks) }
+
+-- sound desks are as many as before
+pub still_within : (job : Job) (old new : List DeskState) (role : ℕ) → AreSound job old → AreSound job new → role < length old → role < length new
+still_within job old new role before after within = omega (arith, before.kept.count, after.kept.count, within)
 
 -- no progress
 pub progress_none : (job : Job) (desks : List DeskState) → AreWhole job desks → IsProgress job desks false desks

@@ -34,7 +34,7 @@ use Rattle.stamped_history.specs.Extended.{EmissionKeepsExplained, extended, Rec
 use Rattle.stamped_history.specs.Local.{IsLocal, MayEmit, MayFollowAs}
 use Rattle.world_run.specs.Sent.{AreSent, IsSent}
 use Rattle.world_run.specs.World.{AreKept, HistoriesGrow, histories_of}
-use Rattle.world_run.specs.inner.Underway.{AreSound, HaveRun}
+use Rattle.world_run.specs.inner.InProgress.{AreSound, HaveRun}
 use Rattle.world_run.proofs.GrowLemmas.{clock_bounded, grow, histories_after, histories_same, history_own, IsMore, legal_longer, run_more, sent_later}
 use Rattle.world_run.proofs.SetLemmas.{item_after}
 use Rattle.world_run.proofs.WorldLemmas.{history_is, local_at}

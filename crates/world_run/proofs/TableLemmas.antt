@@ -19,7 +19,7 @@ use Rattle.bspl_types.specs.Value.{equal_values, EqualValuesAreOne}
 use Rattle.role_knowledge.specs.FirstKnown.{IsFirstKnown}
 use Rattle.adapter.specs.Desk.{DeskState}
 use Rattle.local_store.specs.State.{acts_of}
-use Rattle.played_runs.specs.TableValue.{IsTableValue}
+use Rattle.stamped_history.specs.TableValue.{IsTableValue}
 use Rattle.stamped_history.specs.Entries.{events_of}
 use Rattle.stamped_history.specs.Explained.{AreLocal}
 use Rattle.stamped_history.specs.Local.{KnowsOneValue}

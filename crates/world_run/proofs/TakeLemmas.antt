@@ -30,7 +30,7 @@ use Rattle.stamped_history.specs.Extended.{ReceiptKeepsExplained}
 use Rattle.world_run.specs.Sent.{IsSent}
 use Rattle.world_run.specs.World.{histories_of}
 use Rattle.world_run.specs.inner.Steps.{IsProgress}
-use Rattle.world_run.specs.inner.Underway.{Arrives, AreSound, AreWhole, Extend}
+use Rattle.world_run.specs.inner.InProgress.{Arrives, AreSound, AreWhole, Extend}
 use Rattle.world_run.specs.inner.Work.{copies_in, work_left, work_of}
 use Rattle.world_run.proofs.GrowLemmas.{clock_bounded, grow, grow_none, run_short}
 use Rattle.world_run.proofs.InboxLemmas.{spent_all, spent_less, spent_other}

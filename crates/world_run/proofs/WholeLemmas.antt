@@ -7,7 +7,7 @@ use Rattle.bspl_types.specs.Expansion.{message_of}
 use Rattle.adapter.specs.Desk.{DeskState}
 use Rattle.agent_scripts.specs.Job.{Job}
 use Rattle.local_store.specs.State.{acts_of}
-use Rattle.world_run.specs.inner.Underway.{Arrives, AreWhole, Survives}
+use Rattle.world_run.specs.inner.InProgress.{Arrives, AreWhole, Survives}
 use Rattle.world_run.proofs.SetLemmas.{item_after}
 
 -- each emission arrives, but for those of which P holds

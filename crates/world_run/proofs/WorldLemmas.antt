@@ -13,8 +13,8 @@ use Rattle.adapter.specs.Rules.{rules_of}
 use Rattle.agent_scripts.specs.Job.{Job}
 use Rattle.agent_scripts.specs.Laws.{FitsProtocol}
 use Rattle.agent_scripts.specs.Statement.{IsSentBy}
-use Rattle.played_runs.specs.Laws.{HistoriesPlay, OrdersAreOwn}
-use Rattle.played_runs.specs.Played.{Played}
+use Rattle.stamped_history.specs.PlayedLaws.{HistoriesPlay, OrdersAreOwn}
+use Rattle.stamped_history.specs.Played.{Played}
 use Rattle.stamped_history.specs.declared.entry.Entry.{Entry}
 use Rattle.stamped_history.specs.Entries.{events_of, StampsRise}
 use Rattle.stamped_history.specs.Explained.{AreExplained, AreLocal, history_at}

@@ -1,5 +1,6 @@
 -- In which order the agents of a world act, and from which generator.
-use Rattle.std.specs.Prelude.{◌≡◌, ℕ, zero, suc, ◌+◌, List, length, slice_get, slice_set, Option, None, Some}
+use Rattle.std.specs.Prelude.{◌≡◌, ℕ, zero, suc, ◌+◌, List, length, slice_get, slice_set}
+use Rattle.std.specs.Prelude.{Option, None, Some}
 use Rattle.rand_core.specs.Pcg32Seed.{pcg32_seed}
 use Rattle.rand_pcg.specs.Lcg.{Lcg}
 use Rattle.rand_pcg.specs.Pcg.{pcg32_of_seed}
@@ -8,8 +9,6 @@ use Rattle.adapter.specs.Desk.{DeskState}
 use Rattle.adapter.specs.Steps.{Accepts, IsNextEnvelope, IsTaking, after_emission, after_pick}
 use Rattle.agent_scripts.specs.Job.{Job}
 use Rattle.local_store.specs.declared.receipt.Receipt.{Receipt}
-use Rattle.world_run.specs.Sent.{AreSent}
-use Rattle.world_run.specs.World.{histories_of}
 
 -- the desks, and the generator that picks envelopes
 pub record PlayState : Type 0 where
@@ -65,9 +64,10 @@ pub record IsTurn (job : Job) (role n : ℕ) (old new : PlayState) : Type 0 wher
   pub word : new.generator ≡ middle.generator
 
 -- the steps of the first numbers, from 0, one after another
-abbrev pub AreSteps : (ℕ → PlayState → PlayState → Type 0) → ℕ → PlayState → PlayState → Type 0
-AreSteps step zero old new = new ≡ old
-AreSteps step (suc k) old new = (middle : PlayState) × AreSteps step k old middle × step k middle new
+abbrev pub AreSteps : {S : Type 0} → (ℕ → S → S → Type 0) → ℕ → S → S → Type 0
+AreSteps {S} step zero old new = new ≡ old
+AreSteps {S} step (suc k) old new =
+    (middle : S) × AreSteps step k old middle × step k middle new
 
 -- the role has a turn at each workload number
 abbrev pub AreTurns : Job → ℕ → PlayState → PlayState → Type 0
@@ -81,12 +81,3 @@ IsRound job = AreSteps (AreTurns job) (length job.protocol.roles)
 pub record IsPlay (job : Job) (old new : PlayState) : Type 0 where
   pub rounds : ℕ
   pub each : AreSteps (λ _. IsRound job) rounds old new
-
--- from desks of the same histories, whose inboxes hold sent messages alone, the agents play in
--- rounds, by the generator of the plan's seed
-pub record IsCourse (job : Job) (old new : List DeskState) : Type 0 where
-  pub renewed : List DeskState
-  pub same : histories_of renewed ≡ histories_of old
-  pub sent : AreSent job.protocol renewed
-  pub last : Lcg
-  pub play : IsPlay job (state renewed (generator_of job)) (state new last)

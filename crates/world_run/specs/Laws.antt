@@ -6,7 +6,7 @@ use Rattle.adapter.specs.Desk.{DeskState}
 use Rattle.adapter.specs.Rules.{rules_of}
 use Rattle.agent_scripts.specs.Job.{Job}
 use Rattle.agent_scripts.specs.Refusal.{IsScriptFor}
-use Rattle.played_runs.specs.Played.{Played}
+use Rattle.stamped_history.specs.Played.{Played}
 use Rattle.stamped_history.specs.Explained.{AreExplained, AreLocal}
 use Rattle.stamped_history.specs.Laws.{IsRunOf}
 use Rattle.stamped_history.specs.Merged.{IsMerged}

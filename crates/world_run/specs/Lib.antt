@@ -4,6 +4,7 @@ pub mod World
 pub mod Finished
 pub mod Sent
 pub mod Course
+pub mod Renewal
 pub mod Settling
 pub mod Laws
 pub mod inner

@@ -1,10 +1,10 @@
 -- What only private functions cite.
 pub mod Readable
 pub mod Unknown
-pub mod Underway
+pub mod InProgress
 pub mod Idle
 pub mod Steps
-pub mod Opening
-pub mod Owed
+pub mod Opened
+pub mod Undelivered
 pub mod Ending
 pub mod Work

@@ -17,9 +17,9 @@ impl<'a> DeskHistory<'a> {
     pub fn of(desk: &'a Desk) -> DeskHistory<'a>
         ensures { result.desk.now ≡ desk.now }
     {
-        // law: the stamps of a local history rise, and a store's history is local
+        // laws: the stamps of a local history rise, and a store's history is local
         local_stamps_rise();
-        desk.store().len();
+        desk.store().is_consistent();
         DeskHistory { desk }
     }
 }

@@ -2,27 +2,33 @@ ghost use Rattle.std.specs.Prelude.{◌≡◌, ◌<◌, length, slice_get, Some,
 ghost use Rattle.stamped_history.specs.Explained.{history_at};
 ghost use Rattle.stamped_history.specs.declared.entry.Entry.{Entry};
 ghost use Rattle.world_run.specs.World.{histories_of};
-ghost use Rattle.world_run.specs.inner.Owed.{EntryArrives, IsOwed};
-ghost use Rattle.world_run.specs.inner.Underway.{AreSound};
+ghost use Rattle.world_run.specs.inner.Undelivered.{CanBePosted, OwesNothing};
+ghost use Rattle.world_run.specs.inner.InProgress.{AreSound};
 
 use super::world::DeskList;
+use adapter::is_orderly;
 use agent_scripts::Job;
 use bspl_types::{Envelope, Event, Stamped};
 use reorder_net::copies;
 
-/// The envelope that is owed for the role's event at the index: it is an emission that the plan
-/// does not lose and that its receiver has not received.
-pub fn owed_envelope(desks: &DeskList, job: &Job, role: usize, index: u32) -> Option<Envelope>
+/// The undelivered envelope of the role's event at the index: the event is an emission that the
+/// plan does not lose and that its receiver has not received.
+pub fn undelivered_envelope(
+    desks: &DeskList,
+    job: &Job,
+    role: usize,
+    index: u32,
+) -> Option<Envelope>
     requires sound { AreSound job.now desks.now }
     requires role { role < length desks.now }
     requires index { index < length (history_at (histories_of desks.now) role) }
     ensures { (entry : Entry) →
         slice_get (history_at (histories_of desks.now) role) index ≡ Some entry →
-        MatchOption result (EntryArrives job.now desks.now entry)
-        (IsOwed job.now desks.now entry) }
+        MatchOption result (OwesNothing job.now desks.now entry)
+        (CanBePosted job.now desks.now entry) }
 {
-    // a job's keys are distinct
-    job.script().count();
+    // law: a job's keys are distinct
+    is_orderly(job);
     let store = desks.at(role).store();
     let (event, stamp) = store.event(index);
     let Event::Emit(instance) = event else {

@@ -1,9 +1,9 @@
 ghost use Rattle.world_run.specs.Laws.{KeptDesksMerge};
 ghost use Rattle.world_run.specs.inner.Ending.{IdleDesksFinish};
 
+use adapter::is_orderly;
 use agent_scripts::{Job, scripts_fit};
-use played_runs::{histories_play, histories_settle};
-use stamped_history::{histories_merge, local_stamps_rise};
+use stamped_history::{histories_merge, histories_play, histories_settle, local_stamps_rise};
 
 /// A law: kept desks whose receipts are all explained have local histories, which merge into a
 /// legal run that the agents play.
@@ -20,12 +20,12 @@ pub fn kept_desks_merge()
     scripts_fit();
 }
 
-/// A law: sound desks at which nothing is owed and no agent has anything to do are finished.
+/// A law: sound desks at which nothing is undelivered and no agent has anything to do are finished.
 pub(crate) fn idle_desks_finish(job: &Job)
     ensures { IdleDesksFinish job.now }
 {
-    // a job's script is one for its protocol, and its keys are distinct
-    job.script().count();
+    // law: a job's script is one for its protocol, and its keys are distinct
+    is_orderly(job);
     // law: kept desks merge into a played run
     kept_desks_merge();
     // law: a run is settled if the roles' histories are

@@ -6,7 +6,7 @@ mod emissions;
 mod inboxes;
 mod laws;
 mod merged_run;
-mod opening;
+mod opened_desks;
 mod rounds;
 mod run;
 mod steps;

@@ -5,8 +5,8 @@ ghost use Rattle.world_run.specs.World.{histories_of};
 use super::desk_history::DeskHistory;
 use super::world::World;
 use bspl_types::{NoMemory, Run};
-use history_merge::merge_histories;
 use list_base::Seq;
+use stamped_history::merge_histories;
 use std::alloc::Global;
 
 /// All events of the world in one run, by stamp and then by role.

@@ -8,7 +8,7 @@ ghost use Rattle.world_run.specs.World.{AreKept, histories_of};
 
 use super::inboxes::renew_inboxes;
 use super::laws::idle_desks_finish;
-use super::opening::open_desks;
+use super::opened_desks::open_desks;
 use super::rounds::play;
 use super::world::World;
 use agent_scripts::Job;
@@ -29,9 +29,9 @@ pub fn run_one(alloc: Global, job: &Job) -> Result<World, NoMemory>
     Ok(world)
 }
 
-/// Delivers what is undelivered and lets the agents act until nothing is left. The inboxes are made
-/// anew, in their old room, so what they held before does not matter. Out of memory leaves longer
-/// histories.
+/// Delivers what is undelivered and lets the agents act until nothing is left. The inboxes are
+/// emptied, which leaves them their room, and hold what is undelivered alone; so what they held
+/// before does not matter. Out of memory leaves no shorter histories.
 pub fn settle(alloc: Global, job: &Job, world: &mut World) -> Result<(), NoMemory>
     requires safe { SafeProtocol job.now.protocol }
     requires kept { AreKept job.now world.old.desks }

@@ -1,8 +1,8 @@
 ghost use Rattle.bspl_types.specs.declared.event.Event.{Event};
 ghost use Rattle.bspl_types.specs.declared.expanded.Expanded.{Expanded};
 ghost use Rattle.std.specs.Prelude.{List};
-ghost use Rattle.played_runs.specs.TableValue.{IsTableValue};
 ghost use Rattle.stamped_history.specs.Explained.{AreLocal};
+ghost use Rattle.stamped_history.specs.TableValue.{IsTableValue};
 ghost use Rattle.world_run.specs.World.{AreDesksOf, HasHistories, histories_of};
 
 use super::world::World;

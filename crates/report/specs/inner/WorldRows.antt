@@ -5,7 +5,7 @@ use Rattle.bspl_types.specs.declared.event.Event.{Event}
 use Rattle.bspl_types.specs.declared.expanded.Expanded.{Expanded}
 use Rattle.bspl_types.specs.declared.value.Value.{Value}
 use Rattle.adapter.specs.Desk.{DeskState}
-use Rattle.played_runs.specs.TableValue.{IsTableValue}
+use Rattle.stamped_history.specs.TableValue.{IsTableValue}
 use Rattle.run_text.specs.inner.LineFields.{spaced_fields}
 use Rattle.stamped_history.specs.Explained.{AreLocal}
 use Rattle.world_run.specs.World.{AreDesksOf, HasHistories, histories_of}

@@ -4,7 +4,7 @@ use Rattle.adapter.specs.Desk.{DeskState}
 use Rattle.agent_scripts.specs.Job.{Job}
 use Rattle.world_run.specs.Finished.{AreEmptied, IsFinished}
 use Rattle.world_run.specs.inner.Idle.{AreIdle}
-use Rattle.world_run.specs.inner.Underway.{AreSound, AreWhole}
+use Rattle.world_run.specs.inner.InProgress.{AreSound, AreWhole}
 
 -- the desks are finished and hold no envelope
 pub record AreEnded (job : Job) (desks : List DeskState) : Type 0 where

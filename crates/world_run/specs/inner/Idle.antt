@@ -9,6 +9,20 @@ pub record IsIdleAt (job : Job) (d : DeskState) (n : ℕ) : Type 0 where
   pub empty : d.inbox.envelopes ≡ []
   pub done : IsNext job d.store n None
 
+-- the role's desk is idle at the number
+abbrev pub IsIdleRoleAt : Job → List DeskState → ℕ → ℕ → Type 0
+IsIdleRoleAt job desks role n = (d : DeskState) → slice_get desks role ≡ Some d → IsIdleAt job d n
+
+-- the role's desk holds nothing
+abbrev pub HoldsNothing : List DeskState → ℕ → Type 0
+HoldsNothing desks role =
+    (d : DeskState) → slice_get desks role ≡ Some d → d.inbox.envelopes ≡ []
+
+-- the role's agent can emit nothing at the number
+abbrev pub EmitsNothing : Job → List DeskState → ℕ → ℕ → Type 0
+EmitsNothing job desks role n =
+    (d : DeskState) → slice_get desks role ≡ Some d → IsNext job d.store n None
+
 -- at each workload number
 abbrev pub IsIdle : Job → DeskState → Type 0
 IsIdle job d = (n : ℕ) → IsWorkload job n → IsIdleAt job d n

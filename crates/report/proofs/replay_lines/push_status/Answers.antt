@@ -1,8 +1,8 @@
 -- The three fields of an enactment that is not complete.
 use Rattle.std.proofs.Common.{codes}
-use Rattle.report.specs.ReplayLines.{param_name}
 use Rattle.report.proofs.LineLemmas.{three_fields}
 use Rattle.report.proofs.replay_lines.push_status.Goals as goal
+use Rattle.bspl_types.specs.Expansion.{param_name}
 
 pub returns-in_ok-push_field-in-Incomplete-2 : goal.returns-in_ok-push_field-in-Incomplete-2
 returns-in_ok-push_field-in-Incomplete-2 c =

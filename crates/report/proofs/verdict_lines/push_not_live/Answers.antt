@@ -1,7 +1,7 @@
 -- The line is written field by field.
-use Rattle.report.specs.ReplayLines.{param_name}
 use Rattle.report.proofs.LineLemmas.{not_live_written}
 use Rattle.report.proofs.verdict_lines.push_not_live.Goals as goal
+use Rattle.bspl_types.specs.Expansion.{param_name}
 
 pub returns : goal.returns
 returns c =

@@ -1,6 +1,6 @@
 -- One desk more is emptied.
 use Rattle.std.proofs.Common.{arith}
-use Rattle.world_run.proofs.OwedLemmas.{cleared_all, cleared_length, cleared_more, cleared_start}
+use Rattle.world_run.proofs.UndeliveredLemmas.{cleared_all, cleared_length, cleared_more, cleared_start}
 use Rattle.world_run.proofs.inboxes.clear_inboxes.Goals as goal
 
 pub loop-role-init : goal.loop-role-init

@@ -1,9 +1,9 @@
 -- What posting one envelope leaves.
-use Rattle.std.proofs.Common.{subst, sym}
+use Rattle.std.proofs.Common.{None, Some, refl, subst, sym}
 use Rattle.adapter.specs.Kept.{IsFor, IsKept}
 use Rattle.stamped_history.specs.Explained.{history_at}
 use Rattle.world_run.specs.World.{histories_of}
-use Rattle.world_run.proofs.OwedLemmas.{item_there, owed_arrives, posted_failed, posted_none, posted_one}
+use Rattle.world_run.proofs.UndeliveredLemmas.{item_there, undelivered_arrives, posted_failed, posted_none, posted_one}
 use Rattle.world_run.proofs.inboxes.post.Goals as goal
 
 pub returns-in_default-clause-posted : goal.returns-in_default-clause-posted
@@ -38,4 +38,23 @@ returns-clause-posted c =
 
 pub returns-clause-arrive : goal.returns-clause-arrive
 returns-clause-arrive c = λ entry at.
-    owed_arrives c.args.job.now c.args.desks.now entry c.in-Some.envelope c.at_mut.result.now c.accept.new.desk (c.in-Some.ensures entry at) c.at_mut.ensures.item c.in_ok-accept.ensures.ok.envelopes
+    undelivered_arrives c.args.job.now c.args.desks.now entry c.in-Some.envelope c.at_mut.result.now c.accept.new.desk (c.in-Some.ensures entry at) c.at_mut.ensures.item c.in_ok-accept.ensures.ok.envelopes
+
+pub returns-in_default-clause-arrive : goal.returns-in_default-clause-arrive
+returns-in_default-clause-arrive c = λ entry at. (c.in_default.ensures entry at).arrives
+
+pub returns-in_default-clause-step : goal.returns-in_default-clause-step
+returns-in_default-clause-step c =
+    let entry = item_there (history_at (histories_of c.args.desks.now) c.args.role) c.args.index c.requires.index in
+    record { entry = entry.0; at = entry.1; envelope = None; undelivered = (c.in_default.ensures entry.0 entry.1).nothing; posted = refl }
+
+pub returns-clause-step : goal.returns-clause-step
+returns-clause-step c =
+    let entry = item_there (history_at (histories_of c.args.desks.now) c.args.role) c.args.index c.requires.index in
+    record {
+      entry = entry.0;
+      at = entry.1;
+      envelope = Some c.in-Some.envelope;
+      undelivered = (c.in-Some.ensures entry.0 entry.1).undelivered;
+      posted = record { receiver = c.at_mut.result.now; at = c.at_mut.ensures.item; after = c.accept.new.desk; accepted = c.in_ok-accept.ensures.ok; desks = refl };
+    }

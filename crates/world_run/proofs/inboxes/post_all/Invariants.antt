@@ -1,5 +1,5 @@
 -- What the entries before the index emit was posted.
-use Rattle.world_run.proofs.OwedLemmas.{PostedTo}
+use Rattle.world_run.proofs.UndeliveredLemmas.{PostedTo}
 use Rattle.world_run.proofs.inboxes.post_all.Given as goal
 
 abbrev pub invariant-loop-index : goal.invariant-loop-index

@@ -9,17 +9,21 @@ pub returns-in_err-acted-clause-extend : goal.returns-in_err-acted-clause-extend
 returns-in_err-acted-clause-extend c =
     extend_twice c.args.job.now c.args.desks.now c.rounds.desks c.round.new.desks c.rounds.invariant.extend c.round.ensures.extend
 
-pub returns-then-not-acted-clause-idle : goal.returns-then-not-acted-clause-idle
-returns-then-not-acted-clause-idle c =
+pub returns-then-not-acted-clause-ok : goal.returns-then-not-acted-clause-ok
+returns-then-not-acted-clause-ok c =
     let rested : c.in_ok-acted.acted ≡ false = grind (arith, c.if-not-acted.true) in
-    c.in_ok-acted.ensures.idle rested
+    record {
+      whole = c.in_ok-acted.ensures.made.progress.whole;
+      idle = c.in_ok-acted.ensures.made.idle rested;
+      course = round_more c.args.job.now (state c.args.desks.now c.args.rng.now) (state c.rounds.desks c.rounds.rng) (state c.round.new.desks c.round.new.rng) c.rounds.invariant.course c.in_ok-acted.ensures.made.course;
+    }
 
 pub rounds-preserved : goal.rounds-preserved
 rounds-preserved c =
     record {
       extend = extend_twice c.args.job.now c.args.desks.now c.rounds.desks c.round.new.desks c.rounds.invariant.extend c.round.ensures.extend;
-      whole = c.in_ok-acted.ensures.progress.whole;
-      course = round_more c.args.job.now (state c.args.desks.now c.args.rng.now) (state c.rounds.desks c.rounds.rng) (state c.round.new.desks c.round.new.rng) c.rounds.invariant.course c.in_ok-acted.ensures.course;
+      whole = c.in_ok-acted.ensures.made.progress.whole;
+      course = round_more c.args.job.now (state c.args.desks.now c.args.rng.now) (state c.rounds.desks c.rounds.rng) (state c.round.new.desks c.round.new.rng) c.rounds.invariant.course c.in_ok-acted.ensures.made.course;
     }
 
 pub rounds-init : goal.rounds-init
@@ -30,6 +34,5 @@ rounds-init c =
       course = no_rounds c.args.job.now (state c.args.desks.now c.args.rng.now);
     }
 
-pub returns-then-not-acted-clause-course : goal.returns-then-not-acted-clause-course
-returns-then-not-acted-clause-course c =
-    round_more c.args.job.now (state c.args.desks.now c.args.rng.now) (state c.rounds.desks c.rounds.rng) (state c.round.new.desks c.round.new.rng) c.rounds.invariant.course c.in_ok-acted.ensures.course
+pub round-requires : goal.round-requires
+round-requires c = record { safe = c.requires.safe; sound = c.rounds.invariant.extend.sound; whole = c.rounds.invariant.whole }

@@ -1,6 +1,6 @@
 -- The desks stay sound and whole, and each round that goes on leaves less to do.
 use Rattle.world_run.specs.Course.{IsPlay, state}
-use Rattle.world_run.specs.inner.Underway.{AreWhole, Extend}
+use Rattle.world_run.specs.inner.InProgress.{AreWhole, Extend}
 use Rattle.world_run.specs.inner.Work.{work_left}
 use Rattle.world_run.proofs.rounds.play.Given as goal
 

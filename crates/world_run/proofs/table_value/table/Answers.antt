@@ -8,7 +8,7 @@ use Rattle.bspl_types.specs.declared.expanded.Expanded.{Expanded}
 use Rattle.bspl_types.specs.Knowledge.{IsKnown, Knows}
 use Rattle.adapter.specs.Desk.{DeskState}
 use Rattle.local_store.specs.State.{acts_of, StoreState}
-use Rattle.played_runs.specs.TableValue.{IsTableValue}
+use Rattle.stamped_history.specs.TableValue.{IsTableValue}
 use Rattle.stamped_history.specs.Explained.{AreLocal}
 use Rattle.world_run.specs.World.{AreDesksOf, HasHistories, histories_of, WorldState}
 use Rattle.world_run.specs.inner.Unknown.{IsUnknownAt}

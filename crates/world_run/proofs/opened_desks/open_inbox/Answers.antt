@@ -3,9 +3,9 @@ use Rattle.std.proofs.Common.{◌≡◌, ◌≤◌, ◌*◌, List, arith, ap, le
 use Rattle.std.specs.Prelude.{◌==◌}
 use Rattle.agent_scripts.specs.Job.{Job}
 use Rattle.bspl_types.specs.declared.protocol.Message.{Message}
-use Rattle.world_run.specs.inner.Opening.{incoming}
+use Rattle.world_run.specs.inner.Opened.{incoming}
 use Rattle.world_run.proofs.OpenLemmas.{few_passing, keys_of_script, messages_of_job, product_small}
-use Rattle.world_run.proofs.opening.open_inbox.Goals as goal
+use Rattle.world_run.proofs.opened_desks.open_inbox.Goals as goal
 
 pub overflow_mul-count : goal.overflow_mul-count
 overflow_mul-count c =

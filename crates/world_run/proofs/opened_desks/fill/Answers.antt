@@ -3,7 +3,7 @@ use Rattle.std.proofs.Common.{length, arith, ap, refl, sym, ◌∙◌}
 use Rattle.std.proofs.lemmas.Result.{on_ok_weaker}
 use Rattle.local_store.specs.State.{new_store, StoreState}
 use Rattle.world_run.proofs.OpenLemmas.{store_made}
-use Rattle.world_run.proofs.opening.fill.Goals as goal
+use Rattle.world_run.proofs.opened_desks.fill.Goals as goal
 
 pub hold_keys-requires : goal.hold_keys-requires
 hold_keys-requires c = c.requires ∙ ap (new_store c.args.job.now.protocol) (sym (ap (λ (s : StoreState). s.role) c.requires))

@@ -3,9 +3,9 @@ use Rattle.std.proofs.Common.{◌≡◌, ◌≤◌, ◌*◌, ◌+◌, List, arit
 use Rattle.std.specs.Prelude.{◌==◌, ◌||◌}
 use Rattle.agent_scripts.specs.Job.{Job}
 use Rattle.bspl_types.specs.declared.protocol.Message.{Message}
-use Rattle.world_run.specs.inner.Opening.{own}
+use Rattle.world_run.specs.inner.Opened.{own}
 use Rattle.world_run.proofs.OpenLemmas.{few_passing, keys_of_script, messages_of_job, product_small}
-use Rattle.world_run.proofs.opening.event_room.Goals as goal
+use Rattle.world_run.proofs.opened_desks.event_room.Goals as goal
 
 pub overflow_cast-result-2 : goal.overflow_cast-result-2
 overflow_cast-result-2 c =

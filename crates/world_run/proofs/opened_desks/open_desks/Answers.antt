@@ -3,7 +3,7 @@ use Rattle.std.proofs.Common.{◌+◌, List, arith, length, ap, sym, subst, ◌�
 use Rattle.adapter.specs.Desk.{DeskState}
 use Rattle.bspl_types.specs.declared.expanded.Expanded.{Expanded}
 use Rattle.world_run.proofs.OpenLemmas.{opened_all, opened_more, opened_start, OpenedTo}
-use Rattle.world_run.proofs.opening.open_desks.Goals as goal
+use Rattle.world_run.proofs.opened_desks.open_desks.Goals as goal
 
 pub loop-role-init : goal.loop-role-init
 loop-role-init c = subst (λ (ds : List DeskState). OpenedTo c.args.job.now ds 0) (sym c.new-desks.ensures) (opened_start c.args.job.now)

@@ -1,7 +1,7 @@
 ghost use Rattle.std.specs.Prelude.{◌≡◌, ◌<◌, ◌≤◌, ◌+◌, [], length, IfOk, OnOk};
 ghost use Rattle.local_store.specs.State.{new_store};
-ghost use Rattle.world_run.specs.inner.Opening.{AreOpened, envelopes_to, events_of_role, incoming};
-ghost use Rattle.world_run.specs.inner.Opening.{IsOpened, opened_store, own};
+ghost use Rattle.world_run.specs.inner.Opened.{AreOpened, envelopes_to, events_of_role, incoming};
+ghost use Rattle.world_run.specs.inner.Opened.{IsOpened, opened_store, own};
 
 use super::world::DeskList;
 use adapter::Desk;
@@ -32,7 +32,8 @@ fn open_desk(alloc: Global, job: &Job, role: u32) -> Result<Desk, NoMemory>
 {
     let inbox = open_inbox(alloc, job, role)?;
     let store = open_store(alloc, job, role)?;
-    prove!(store.len() == 0);
+    // law: each store is consistent
+    store.is_consistent();
     Ok(Desk::of(store, inbox))
 }
 

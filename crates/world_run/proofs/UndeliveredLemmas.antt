@@ -1,4 +1,4 @@
--- Inboxes that are made anew: they are emptied, and what is owed is posted.
+-- Inboxes that are made anew: they are emptied, and what is undelivered is posted.
 use Rattle.std.proofs.Common.{◌≡◌, ℕ, ◌+◌, ◌<◌, ◌≤◌, inl, inr, Some, List, [], length, map, refl, sym, ap, ◌∙◌, subst, arith, option_map, get_or, All, Contains}
 use Rattle.std.specs.Prelude.{slice_get, slice_set}
 use Rattle.std.specs.List.{AllPairs}
@@ -15,21 +15,24 @@ use Rattle.bspl_types.specs.declared.event.Event.TheVariants.{Emit, Receive}
 use Rattle.bspl_types.specs.declared.event.Instance.{Instance}
 use Rattle.bspl_types.specs.Expansion.{message_of}
 use Rattle.adapter.specs.Desk.{DeskState}
-use Rattle.adapter.specs.Kept.{AreApart, IsFor, IsKept}
+use Rattle.adapter.specs.Kept.{AreDistinct, IsFor, IsKept}
 use Rattle.adapter.specs.Pending.{messages_of, pairs_of, pending}
 use Rattle.adapter.specs.Rules.{rules_of}
 use Rattle.agent_scripts.specs.Job.{Job}
 use Rattle.local_store.specs.Consistent.{IsConsistent, IsReceived}
 use Rattle.local_store.specs.State.{acts_of, StoreState}
-use Rattle.played_runs.specs.Played.{Played}
+use Rattle.stamped_history.specs.Played.{Played}
 use Rattle.reorder_net.specs.Inbox.{put_last}
 use Rattle.stamped_history.specs.declared.entry.Entry.{Entry}
 use Rattle.stamped_history.specs.Explained.{AreExplained, history_at, IsExplained}
+use Rattle.world_run.specs.Course.{AreSteps}
 use Rattle.world_run.specs.Laws.{MergePlayed}
+use Rattle.world_run.specs.Renewal.{AreCleared, Reposts, RepostsAll}
 use Rattle.world_run.specs.Sent.{IsSent}
 use Rattle.world_run.specs.World.{AreKept, HistoriesGrow, histories_of}
-use Rattle.world_run.specs.inner.Owed.{AreCleared, ArePosted, ArriveUpTo, EntryArrives, HasMore, IsOwed}
-use Rattle.world_run.specs.inner.Underway.{Arrives, AreSound, AreWhole, Extend}
+use Rattle.world_run.specs.inner.Undelivered.{ArePosted, ArriveUpTo, CanBePosted, EntryArrives, HasMore}
+use Rattle.world_run.specs.inner.InProgress.{Arrives, AreSound, AreWhole, Extend}
+use Rattle.world_run.proofs.CourseLemmas.{step_more}
 use Rattle.world_run.proofs.GrowLemmas.{grow_none, histories_same}
 use Rattle.world_run.proofs.InboxLemmas.{put_all, put_holds, put_keeps}
 use Rattle.world_run.proofs.SetLemmas.{item_after, set_same}
@@ -109,13 +112,13 @@ emitted_in (Emit i) = i
 emitted_in (Receive i) = i
 
 -- the emission of a posted envelope arrives
-pub owed_arrives : (job : Job) (desks : List DeskState) (entry : Entry) (e : Envelope) (old new : DeskState) → IsOwed job desks entry e → slice_get desks e.to ≡ Some old → new.inbox.envelopes ≡ put_last old.inbox.envelopes e → EntryArrives job (slice_set desks e.to new) entry
-owed_arrives job desks entry e old new owed at put i receiver emitted survives r_at =
-    let is : e.message.instance ≡ i = ap emitted_in (sym owed.emitted ∙ emitted) in
+pub undelivered_arrives : (job : Job) (desks : List DeskState) (entry : Entry) (e : Envelope) (old new : DeskState) → CanBePosted job desks entry e → slice_get desks e.to ≡ Some old → new.inbox.envelopes ≡ put_last old.inbox.envelopes e → EntryArrives job (slice_set desks e.to new) entry
+undelivered_arrives job desks entry e old new undelivered at put i receiver emitted survives r_at =
+    let is : e.message.instance ≡ i = ap emitted_in (sym undelivered.undelivered.emitted ∙ emitted) in
     elim (item_after desks e.to new (message_of job.protocol i.message).receiver receiver r_at) [
       | inl here ↦ subst (λ (f : DeskState). Arrives f i) here.1 (inr (subst (λ es. Contains (map (λ (f : Envelope). f.message.instance) es) i) (sym put)
-          (subst (λ j. Contains (map (λ (f : Envelope). f.message.instance) (put_last old.inbox.envelopes e)) j) is (put_holds old.inbox.envelopes e owed.is_for.some))))
-      | inr there ↦ absurd (there.0 (ap (λ (j : Instance). (message_of job.protocol j.message).receiver) (sym is) ∙ owed.is_for.own))
+          (subst (λ j. Contains (map (λ (f : Envelope). f.message.instance) (put_last old.inbox.envelopes e)) j) is (put_holds old.inbox.envelopes e undelivered.is_for.some))))
+      | inr there ↦ absurd (there.0 (ap (λ (j : Instance). (message_of job.protocol j.message).receiver) (sym is) ∙ undelivered.is_for.own))
     ]
 
 -- an event of a history is that of an entry
@@ -143,12 +146,12 @@ whole_of job desks arrive role d at i receiver among survives r_at =
     arrive role (slice_get_within desks role d at) entry.0 entry.1 (slice_get_within (history_at (histories_of desks) role) entry.0 entry.1 there) there i receiver entry.3 survives r_at
 
 -- of two emissions of one message under one key there is one
-one_emission : (acts : List Event) (i j : Instance) → AllPairs AreApart acts → Contains acts (Emit i) → Contains acts (Emit j) → i.key ≡ j.key → i.message ≡ j.message → i ≡ j
+one_emission : (acts : List Event) (i j : Instance) → AllPairs AreDistinct acts → Contains acts (Emit i) → Contains acts (Emit j) → i.key ≡ j.key → i.message ≡ j.message → i ≡ j
 one_emission acts i j apart first second key message = elim (cases_order first.0 second.0) [
   | inl same ↦ ap emitted_in (sym first.2 ∙ ap (λ k. get_or acts k (Emit i)) same ∙ one_default acts second.0 (Emit i) (Emit j) second.1 ∙ second.2)
   | inr differ ↦ elim differ [
-    | inl lower ↦ absurd (subst (λ (f : Event). AreApart f (Emit j)) first.2 (subst (λ (f : Event). AreApart (get_or acts first.0 (Emit i)) f) (one_default acts second.0 (Emit i) (Emit j) second.1 ∙ second.2) (apart first.0 second.0 (Emit i) lower second.1)) key message)
-    | inr higher ↦ absurd (subst (λ (f : Event). AreApart f (Emit i)) (one_default acts second.0 (Emit i) (Emit j) second.1 ∙ second.2) (subst (λ (f : Event). AreApart (get_or acts second.0 (Emit i)) f) first.2 (apart second.0 first.0 (Emit i) higher first.1)) (sym key) (sym message))
+    | inl lower ↦ absurd (subst (λ (f : Event). AreDistinct f (Emit j)) first.2 (subst (λ (f : Event). AreDistinct (get_or acts first.0 (Emit i)) f) (one_default acts second.0 (Emit i) (Emit j) second.1 ∙ second.2) (apart first.0 second.0 (Emit i) lower second.1)) key message)
+    | inr higher ↦ absurd (subst (λ (f : Event). AreDistinct f (Emit i)) (one_default acts second.0 (Emit i) (Emit j) second.1 ∙ second.2) (subst (λ (f : Event). AreDistinct (get_or acts second.0 (Emit i)) f) first.2 (apart second.0 first.0 (Emit i) higher first.1)) (sym key) (sym message))
   ]
 ]
   where
@@ -198,7 +201,7 @@ cleared_kept job old new kept cleared =
           protocol_is = ap (λ (s : StoreState). s.protocol) same ∙ is.protocol_is;
           role_is = ap (λ (s : StoreState). s.role) same ∙ is.role_is;
           consistent = subst IsConsistent (sym same) is.consistent;
-          once = subst (λ (s : StoreState). AllPairs AreApart (acts_of s)) (sym same) is.once;
+          once = subst (λ (s : StoreState). AllPairs AreDistinct (acts_of s)) (sym same) is.once;
           held = subst (λ (s : StoreState). All (Contains s.keys) job.script.keys) (sym same) is.held;
           room = subst (λ (s : StoreState). length (pending (acts_of s) (pairs_of job.script.keys (messages_of job.protocol role))) < s.spare) (sym same) is.room;
           played = subst (λ (s : StoreState). Played job.protocol (rules_of job) (acts_of s)) (sym same) is.played;
@@ -242,15 +245,16 @@ item_there xs k within = elim (slice_get_cases xs k).1 [
 pub record PostedTo (job : Job) (start desks : List DeskState) (role count : ℕ) : Type 0 where
   pub posted : ArePosted job start desks
   pub arrive : ArriveUpTo job desks role count
+  pub steps : AreSteps (Reposts job role) count start desks
 
 -- before the first one
 pub posted_start : (job : Job) (desks : List DeskState) (role : ℕ) → AreSound job desks → PostedTo job desks desks role 0
 posted_start job desks role sound =
-    record { posted = posted_none job desks sound; arrive = λ k e within at. absurd (omega (arith, within)) }
+    record { posted = posted_none job desks sound; arrive = λ k e within at. absurd (omega (arith, within)); steps = refl }
 
 -- one more
-pub posted_more : (job : Job) (start desks new : List DeskState) (role count : ℕ) → PostedTo job start desks role count → ArePosted job desks new → ((e : Entry) → slice_get (history_at (histories_of desks) role) count ≡ Some e → EntryArrives job new e) → PostedTo job start new role (count + 1)
-posted_more job start desks new role count before posted arrives =
+pub posted_more : (job : Job) (start desks new : List DeskState) (role count : ℕ) → PostedTo job start desks role count → ArePosted job desks new → ((e : Entry) → slice_get (history_at (histories_of desks) role) count ≡ Some e → EntryArrives job new e) → Reposts job role count desks new → PostedTo job start new role (count + 1)
+posted_more job start desks new role count before posted arrives step =
     record {
       posted = posted_twice job start desks new before.posted posted;
       arrive = λ k e within at.
@@ -259,6 +263,7 @@ posted_more job start desks new role count before posted arrives =
             | inl same ↦ arrives e (subst (λ j. slice_get (history_at (histories_of desks) role) j ≡ Some e) same was)
             | inr other ↦ arrives_later job desks new e posted (before.arrive k e (omega (arith, within, other)) was)
           ];
+      steps = step_more (Reposts job role) count start desks new before.steps step;
     }
 
 -- what the entries of the first roles emit was posted
@@ -266,10 +271,13 @@ pub record Renewed (job : Job) (start desks : List DeskState) (count : ℕ) : Ty
   pub sound : AreSound job desks
   pub histories : histories_of desks ≡ histories_of start
   pub arrive : (role : ℕ) → role < count → ArriveUpTo job desks role (length (history_at (histories_of desks) role))
+  pub emptied : List DeskState
+  pub cleared : AreCleared start emptied
+  pub steps : AreSteps (RepostsAll job) count emptied desks
 
 -- that of one more role
-pub renewed_more : (job : Job) (start desks new : List DeskState) (count : ℕ) → Renewed job start desks count → ArePosted job desks new → ArriveUpTo job new count (length (history_at (histories_of desks) count)) → Renewed job start new (count + 1)
-renewed_more job start desks new count before posted arrive =
+pub renewed_more : (job : Job) (start desks new : List DeskState) (count : ℕ) → Renewed job start desks count → ArePosted job desks new → ArriveUpTo job new count (length (history_at (histories_of desks) count)) → RepostsAll job count desks new → Renewed job start new (count + 1)
+renewed_more job start desks new count before posted arrive steps =
     record {
       sound = posted.sound;
       histories = posted.histories ∙ before.histories;
@@ -277,6 +285,9 @@ renewed_more job start desks new count before posted arrive =
         | inl same ↦ subst (λ r. ArriveUpTo job new r (length (history_at (histories_of desks) r))) (sym same) arrive
         | inr other ↦ up_to_later job desks new role (length (history_at (histories_of desks) role)) posted (before.arrive role (omega (arith, within, other)))
       ]);
+      emptied = before.emptied;
+      cleared = before.cleared;
+      steps = step_more (RepostsAll job) count before.emptied desks new before.steps steps;
     }
 
 -- equal histories grow

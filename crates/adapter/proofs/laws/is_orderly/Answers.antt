@@ -1,14 +1,15 @@
 -- The laws on scripts, at the job's script.
-use Rattle.std.proofs.Common.{◌≢◌, subst}
-use Rattle.std.specs.List.{AllPairs}
+use Rattle.std.proofs.Common.{subst}
+use Rattle.agent_scripts.specs.Fitting.{IsFittingScript}
 use Rattle.agent_scripts.specs.Script.{Script}
-use Rattle.adapter.proofs.laws.script_laws.Goals as goal
+use Rattle.adapter.proofs.laws.is_orderly.Goals as goal
 
 pub returns : goal.returns
 returns c =
     let job = c.args.job.now in
     record {
+      script_is = c.script.ensures.fits;
       fits = c.scripts_fit.ensures job.protocol job.script c.script.ensures.fits;
       orders = c.orders_are_distinct.ensures job.protocol job.script c.script.ensures.fits;
-      keys = subst (λ (s : Script). AllPairs ◌≢◌ s.keys) c.script.ensures.same c.count.ensures.fits.distinct;
+      fitting = subst (λ (s : Script). IsFittingScript s.keys s.rules) c.script.ensures.same c.count.ensures.fits;
     }

@@ -2,7 +2,7 @@
 use Rattle.std.proofs.Common.{take}
 use Rattle.std.specs.List.{All}
 use Rattle.adapter.specs.Next.{IsPassedOver}
-use Rattle.adapter.proofs.next.first_ready.Given as goal
+use Rattle.adapter.proofs.next.first_to_emit.Given as goal
 
 abbrev pub invariant-loop-m : goal.invariant-loop-m
 invariant-loop-m l = All (IsPassedOver l.script l.store l.n l.key) (take l.m-index l.order)

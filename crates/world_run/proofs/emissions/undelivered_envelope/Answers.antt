@@ -1,4 +1,4 @@
--- What is owed for an entry, from its lemmas.
+-- What is undelivered of an entry, from its lemmas.
 use Rattle.std.proofs.Common.{◌≡◌, ℕ, ◌-◌, ◌<◌, List, Some, arith, ap, length, slice_get, subst, sym, ◌∙◌, Contains}
 use Rattle.std.proofs.lemmas.Option.{get_or_from_slice_get}
 use Rattle.adapter.specs.Desk.{DeskState}
@@ -13,17 +13,17 @@ use Rattle.bspl_types.specs.declared.protocol.Message.{Message}
 use Rattle.bspl_types.specs.Expansion.{message_of, no_message}
 use Rattle.local_store.specs.Consistent.{IsReceived}
 use Rattle.local_store.specs.State.{acts_of, numbers, StoreState}
-use Rattle.played_runs.specs.Rules.{IsNumber}
+use Rattle.stamped_history.specs.Rules.{IsNumber}
 use Rattle.reorder_net.specs.Losses.{copies_of}
 use Rattle.stamped_history.specs.declared.entry.Entry.{Entry}
 use Rattle.stamped_history.specs.Explained.{history_at}
 use Rattle.world_run.specs.World.{histories_of}
-use Rattle.world_run.proofs.EmissionLemmas.{emission_at, EmissionAt, lost_arrives, owed_of, received_arrives, receipt_arrives, seen, SeenAt, unnumbered_arrives}
+use Rattle.world_run.proofs.EmissionLemmas.{emission_at, EmissionAt, lost_owes, undelivered_of, received_owes, receipt_owes, seen, SeenAt, unnumbered_owes}
 use Rattle.world_run.proofs.EmitLemmas.{message_exists}
 use Rattle.world_run.proofs.EntryLemmas.{number_is}
-use Rattle.world_run.proofs.OwedLemmas.{item_there}
+use Rattle.world_run.proofs.UndeliveredLemmas.{item_there}
 use Rattle.world_run.proofs.WorldLemmas.{history_is}
-use Rattle.world_run.proofs.emissions.owed_envelope.Goals as goal
+use Rattle.world_run.proofs.emissions.undelivered_envelope.Goals as goal
 
 pub returns-in_default : goal.returns-in_default
 returns-in_default c = λ entry at.
@@ -32,7 +32,7 @@ returns-in_default c = λ entry at.
     let role : ℕ = c.args.role in
     let d : DeskState = c.at.result.now in
     let shown : SeenAt desks role c.args.index d entry c.event-event.result.0 c.event-event.result.1 = seen desks role c.args.index d c.store-store.result.now entry c.event-event.result.0 c.event-event.result.1 c.at.ensures c.store-store.ensures c.event-event.ensures at in
-    receipt_arrives job desks entry c.in_default.field-0 (shown.event_is ∙ c.in_default.is)
+    receipt_owes job desks entry c.in_default.field-0 (shown.event_is ∙ c.in_default.is)
 
 pub at-requires-2 : goal.at-requires-2
 at-requires-2 c =
@@ -58,7 +58,7 @@ returns-in_default-number c = λ entry at.
     let shown : SeenAt desks role c.args.index d entry c.event-event.result.0 c.event-event.result.1 = seen desks role c.args.index d c.store-store.result.now entry c.event-event.result.0 c.event-event.result.1 c.at.ensures c.store-store.ensures c.event-event.ensures at in
     let i : Instance = c.in-Emit.instance in
     let is : EmissionAt job desks role c.args.index d entry i = emission_at job desks role c.args.index d entry i c.requires.sound c.at.ensures shown.at (shown.event_is ∙ c.in-Emit.is) in
-    unnumbered_arrives job desks role c.args.index d entry i is (subst (λ (s : Script). Contains s.keys i.key → ⊥) c.script-2.ensures.same c.in_default-number.ensures)
+    unnumbered_owes job desks role c.args.index d entry i is (subst (λ (s : Script). Contains s.keys i.key → ⊥) c.script.ensures.same c.in_default-number.ensures)
 
 pub at-requires-3 : goal.at-requires-3
 at-requires-3 c =
@@ -88,10 +88,11 @@ returns-then-copies-eq0 c = λ entry at.
     let is : EmissionAt job desks role c.args.index d entry i = emission_at job desks role c.args.index d entry i c.requires.sound c.at.ensures shown.at (shown.event_is ∙ c.in-Emit.is) in
     let number : IsNumber (rules_of job) c.in-Some.n i.key = record {
       some = c.in-Some.ensures.0;
-      at = subst (λ (s : Script). slice_get s.keys (c.in-Some.n - 1) ≡ Some i.key) c.script-2.ensures.same c.in-Some.ensures.1;
+      at = subst (λ (s : Script). slice_get s.keys (c.in-Some.n - 1) ≡ Some i.key) c.script.ensures.same c.in-Some.ensures.1;
     } in
     let copies : c.copies-copies.result ≡ copies_of job.plan i.message c.in-Some.n = c.copies-copies.ensures ∙ ap (λ (p : Plan). copies_of p i.message c.in-Some.n) c.plan.ensures in
-    lost_arrives job desks entry i c.in-Some.n is.emitted number (sym copies ∙ c.if-copies-eq0.true)
+    let fitting : IsFittingScript job.script.keys job.script.rules = c.is_orderly.ensures.fitting in
+    lost_owes job desks entry i c.in-Some.n fitting.distinct is.emitted number (sym copies ∙ c.if-copies-eq0.true)
 
 pub returns-then-received : goal.returns-then-received
 returns-then-received c = λ entry at.
@@ -108,7 +109,7 @@ returns-then-received c = λ entry at.
     let target : DeskState = c.at-3.result.now in
     let target_at : slice_get desks (message_of job.protocol i.message).receiver ≡ Some target = subst (λ (m : Message). slice_get desks m.receiver ≡ Some target) (sym message) c.at-3.ensures in
     let got : IsReceived (acts_of target.store) i.key i.message = subst (λ (s : StoreState). IsReceived (acts_of s) i.key i.message) c.store-receiver.ensures (c.received.ensures.0 c.if-received.true) in
-    received_arrives job desks role c.args.index d entry i target c.requires.sound is target_at got
+    received_owes job desks role c.args.index d entry i target c.requires.sound is target_at got
 
 pub number-requires-2 : goal.number-requires-2
 number-requires-2 c =
@@ -133,16 +134,16 @@ returns c = λ entry at.
     (subst (λ (x : Expanded). slice_get x.messages i.message ≡ Some c.at-2.result.now) protocol c.at-2.ensures) in
     let number : IsNumber (rules_of job) c.in-Some.n i.key = record {
       some = c.in-Some.ensures.0;
-      at = subst (λ (s : Script). slice_get s.keys (c.in-Some.n - 1) ≡ Some i.key) c.script-2.ensures.same c.in-Some.ensures.1;
+      at = subst (λ (s : Script). slice_get s.keys (c.in-Some.n - 1) ≡ Some i.key) c.script.ensures.same c.in-Some.ensures.1;
     } in
     let copies : c.copies-copies.result ≡ copies_of job.plan i.message c.in-Some.n = c.copies-copies.ensures ∙ ap (λ (p : Plan). copies_of p i.message c.in-Some.n) c.plan.ensures in
     let target : DeskState = c.at-3.result.now in
     let target_at : slice_get desks (message_of job.protocol i.message).receiver ≡ Some target = subst (λ (m : Message). slice_get desks m.receiver ≡ Some target) (sym message) c.at-3.ensures in
-    let fitting : IsFittingScript job.script.keys job.script.rules = subst (λ (s : Script). IsFittingScript s.keys s.rules) c.script.ensures.same c.count.ensures.fits in
+    let fitting : IsFittingScript job.script.keys job.script.rules = c.is_orderly.ensures.fitting in
     let given : entry.number ≡ c.number-2.result = number_is d.store.entries c.args.index entry c.number-2.result shown.at
     (subst (λ (s : StoreState). slice_get {X = ℕ} (numbers s) c.args.index ≡ Some c.number-2.result) c.store-store.ensures c.number-2.ensures) in
     let from : c.role.result ≡ role = c.role.ensures ∙ ap (λ (s : StoreState). s.role) c.store-store.ensures ∙ (c.requires.sound.kept.each role d c.at.ensures).role_is in
-    owed_of job desks role c.args.index d entry (record {
+    undelivered_of job desks role c.args.index d entry (record {
       to = c.at-2.result.now.receiver;
       from = c.role.result;
       message = record { instance = i; stamp = c.event-event.result.1; number = c.number-2.result };

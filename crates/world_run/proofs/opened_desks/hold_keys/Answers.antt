@@ -7,7 +7,7 @@ use Rattle.agent_scripts.specs.Script.{Script}
 use Rattle.bspl_types.specs.declared.value.Value.{Value}
 use Rattle.local_store.specs.State.{StoreState}
 use Rattle.world_run.proofs.OpenLemmas.{keys_more}
-use Rattle.world_run.proofs.opening.hold_keys.Goals as goal
+use Rattle.world_run.proofs.opened_desks.hold_keys.Goals as goal
 
 pub add_key-requires-clause-whole : goal.add_key-requires-clause-whole
 add_key-requires-clause-whole c =

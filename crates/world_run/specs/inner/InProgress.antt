@@ -11,7 +11,7 @@ use Rattle.adapter.specs.Desk.{DeskState}
 use Rattle.adapter.specs.Rules.{rules_of}
 use Rattle.agent_scripts.specs.Job.{Job}
 use Rattle.local_store.specs.State.{acts_of}
-use Rattle.played_runs.specs.Rules.{IsNumber}
+use Rattle.stamped_history.specs.Rules.{IsNumber}
 use Rattle.reorder_net.specs.Losses.{is_lost}
 use Rattle.stamped_history.specs.Explained.{AreExplained, history_at}
 use Rattle.world_run.specs.Sent.{AreSent}

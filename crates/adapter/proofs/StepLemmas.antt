@@ -1,4 +1,4 @@
--- What a store emits at an agent's turn is what the rules ask for.
+-- What a store emits at an agent's step is what the rules ask for.
 use Rattle.std.proofs.Common.{◌≡◌, ◌≢◌, ℕ, ◌+◌, ◌-◌, ◌<◌, Bool, true, false, List, [], ◌∷◌, ◌++◌, length, get_or, take, Some, slice_get, refl, sym, ◌∙◌, ap, subst, arith, inl, inr, ⊎_elim, All, Contains}
 use Rattle.std.specs.Prelude.{◌==◌, if◌then◌else◌}
 use Rattle.std.specs.List.{AllPairs, filter}
@@ -31,17 +31,18 @@ use Rattle.local_store.specs.Consistent.{IsConsistent}
 use Rattle.bspl_types.specs.Choice.{chosen_params}
 use Rattle.local_store.specs.Emission.{chosen_values, IsEmission}
 use Rattle.local_store.specs.State.{acts_of}
-use Rattle.played_runs.specs.Laws.{PlayedGrows}
-use Rattle.played_runs.specs.Played.{IsChosen, IsPassed}
-use Rattle.played_runs.specs.Rules.{IsNumber, TriesBefore}
+use Rattle.stamped_history.specs.PlayedLaws.{PlayedGrows}
+use Rattle.stamped_history.specs.Played.{IsChosen, IsPassed}
+use Rattle.stamped_history.specs.Rules.{IsNumber, TriesBefore}
 use Rattle.reorder_net.specs.Losses.{copies_of, is_lost}
-use Rattle.adapter.specs.declared.turn.Turn.{Turn}
+use Rattle.adapter.specs.declared.step.Step.{Step}
 use Rattle.adapter.specs.Desk.{DeskState}
 use Rattle.adapter.specs.Kept.{IsFor, IsKept}
 use Rattle.adapter.specs.Next.{IsNext, IsPassedOver, IsWorkload}
 use Rattle.adapter.specs.Rules.{key_of, rules_of}
 use Rattle.adapter.specs.Steps.{IsPlanned, with_emission}
-use Rattle.adapter.specs.inner.Turns.{envelope_of, IsOrderly, IsPossible, IsTurn}
+use Rattle.adapter.specs.Laws.{IsOrderly}
+use Rattle.adapter.specs.inner.NextStep.{envelope_of, IsNextStep, IsPossible}
 use Rattle.adapter.proofs.EventLemmas.{none_if_not_emitted, with_event}
 use Rattle.adapter.proofs.NextLemmas.{has_order, key_held, order_sent}
 use Rattle.adapter.proofs.ValueLemmas.{given_value}
@@ -55,7 +56,7 @@ sent : (job : Job) (d : DeskState) (m : ℕ) → IsOrderly job → IsKept job d.
 sent job d m orderly kept among =
     All-contains (IsSentBy d.store.protocol d.store.role) ((rules_of job).order d.store.role) m (order_sent job d ((rules_of job).order d.store.role) orderly.fits kept (order_at job d orderly kept)) among
 
--- the turn's message stands in it
+-- the step's message stands in it
 in_order : (job : Job) (d : DeskState) (n m : ℕ) → IsNext job d.store n (Some m) → Contains ((rules_of job).order d.store.role) m
 in_order job d n m next = subst (λ (ms : List ℕ). Contains ms m) (sym next.split) (Contains-append_right next.before (m ∷ next.after) m (here m next.after))
 
@@ -66,22 +67,26 @@ key_at job n number = slice_get-get_or job.script.keys (n - 1) [] (omega (arith,
 -- has no other number
 same_number : (job : Job) (n k : ℕ) (key : List Value) → IsOrderly job → IsWorkload job n → key ≡ key_of job n → IsNumber (rules_of job) k key → k ≡ n
 same_number job n k key orderly number is other =
-    let same : k - 1 ≡ n - 1 = one_index job.script.keys (k - 1) (n - 1) (key_of job n) orderly.keys (other.at ∙ ap (λ v. Some v) is) (key_at job n number) in
+    let same : k - 1 ≡ n - 1 = one_index job.script.keys (k - 1) (n - 1) (key_of job n) orderly.fitting.distinct (other.at ∙ ap (λ v. Some v) is) (key_at job n number) in
     omega (arith, same, other.some, number.some)
 
--- the store can emit the turn's message
-pub possible : (job : Job) (d : DeskState) (n : ℕ) (t : Turn) → IsOrderly job → IsKept job d.store.role d → IsWorkload job n → IsTurn job d.store n t → IsPossible d.store t
-possible job d n t orderly kept number turn =
-    let own : IsSentBy d.store.protocol d.store.role t.message = sent job d t.message orderly kept (in_order job d n t.message turn.next) in
-    let many : length t.outs ≡ length (chosen_params job.protocol t.message) = ap length turn.outs_are ∙ length-map (chosen_params job.protocol t.message) (λ (c : Carried). value_at (rule_of job.script.rules t.message c.param) n) in
+-- the store can emit the step's message
+pub possible : (job : Job) (d : DeskState) (n : ℕ) (t : Step) → IsOrderly job → IsKept job d.store.role d → IsWorkload job n → IsNextStep job d.store n t → IsPossible d.store t
+possible job d n t orderly kept number step =
+    let own : IsSentBy d.store.protocol d.store.role t.message = sent job d t.message orderly kept (in_order job d n t.message step.next) in
+    let many : length t.outs ≡ length (chosen_params job.protocol t.message) = ap length step.outs_are ∙ length-map (chosen_params job.protocol t.message) (λ (c : Carried). value_at (rule_of job.script.rules t.message c.param) n) in
     record {
-      known = own.0;
-      own = own.1;
-      chosen = subst (λ (x : Expanded). length t.outs ≡ length (chosen_params x t.message)) (sym kept.protocol_is) many;
-      held = subst (λ (key : List Value). Contains d.store.keys key) (sym turn.key_is) (key_held job d (n - 1) (key_of job n) kept (key_at job n number));
-      spare = omega (arith, kept.room);
-      clock = turn.clock;
-      can = subst (λ (key : List Value). CanEmit d.store.protocol (acts_of d.store) t.message key) (sym turn.key_is) turn.next.ready.can;
+      attempt = record {
+        proposal = record {
+          held = subst (λ (key : List Value). Contains d.store.keys key) (sym step.key_is) (key_held job d (n - 1) (key_of job n) kept (key_at job n number));
+          chosen = subst (λ (x : Expanded). length t.outs ≡ length (chosen_params x t.message)) (sym kept.protocol_is) many;
+          clock = step.clock;
+        };
+        known = own.0;
+        own = own.1;
+        spare = omega (arith, kept.room);
+      };
+      can = subst (λ (key : List Value). CanEmit d.store.protocol (acts_of d.store) t.message key) (sym step.key_is) step.next.ready.can;
     }
 
 -- a history of one role is its own part
@@ -93,7 +98,7 @@ all_pass {X} p (x ∷ xs) all =
 own_history : (x : Expanded) (role : ℕ) (history : List Event) → All (λ e. role_of x e ≡ role) history → history_of x role history ≡ history
 own_history x role history own = all_pass (λ e. role_of x e == role) history (λ k d within. (Decides-eqb (role_of x (get_or history k d)) role).1 (own k d within))
 
--- what the role tries before the turn's message was passed over
+-- what the role tries before the step's message was passed over
 tried : (job : Job) (d : DeskState) (n m first : ℕ) → IsOrderly job → IsKept job d.store.role d → IsNext job d.store n (Some m) → TriesBefore (rules_of job) d.store.role first m → IsPassedOver job.script d.store n (key_of job n) first
 tried job d n m first orderly kept next tries =
     let order : List ℕ = (rules_of job).order d.store.role in
@@ -130,13 +135,13 @@ passed job d n first kept own over = elim over [
     whole = ap (λ r. history_of job.protocol r (acts_of d.store)) sender_is ∙ own_history job.protocol d.store.role (acts_of d.store) (subst (λ (x : Expanded). All (λ e. role_of x e ≡ d.store.role) (acts_of d.store)) kept.protocol_is kept.consistent.local.own)
 
 -- the agents' rules allow the emission
-pub chosen : (job : Job) (d : DeskState) (n : ℕ) (t : Turn) (m : Stamped) → IsOrderly job → IsKept job d.store.role d → IsWorkload job n → IsTurn job d.store n t → IsEmission d.store t.message t.key t.outs m → IsChosen job.protocol (rules_of job) (acts_of d.store) m.instance
-chosen job d n t m orderly kept number turn emission =
+pub chosen : (job : Job) (d : DeskState) (n : ℕ) (t : Step) (m : Stamped) → IsOrderly job → IsKept job d.store.role d → IsWorkload job n → IsNextStep job d.store n t → IsEmission d.store t.message t.key t.outs m → IsChosen job.protocol (rules_of job) (acts_of d.store) m.instance
+chosen job d n t m orderly kept number step emission =
     let i = m.instance in
-    let key_is : i.key ≡ key_of job n = emission.key_is ∙ turn.key_is in
+    let key_is : i.key ≡ key_of job n = emission.key_is ∙ step.key_is in
     let same = λ (k : ℕ) (is : IsNumber (rules_of job) k i.key). same_number job n k i.key orderly number key_is is in
-    let next : IsNext job d.store n (Some i.message) = subst (λ k. IsNext job d.store n (Some k)) (sym emission.message_is) turn.next in
-    let given : chosen_values d.store.protocol i ≡ values_of job.protocol job.script i.message n = emission.outs_are ∙ turn.outs_are ∙ ap (λ k. values_of job.protocol job.script k n) (sym emission.message_is) in
+    let next : IsNext job d.store n (Some i.message) = subst (λ k. IsNext job d.store n (Some k)) (sym emission.message_is) step.next in
+    let given : chosen_values d.store.protocol i ≡ values_of job.protocol job.script i.message n = emission.outs_are ∙ step.outs_are ∙ ap (λ k. values_of job.protocol job.script k n) (sym emission.message_is) in
     let given_there = subst (λ (x : Expanded). chosen_values x i ≡ values_of job.protocol job.script i.message n) kept.protocol_is given in
     let own : IsSentBy d.store.protocol d.store.role i.message = sent job d i.message orderly kept (in_order job d n i.message next) in
     let sender_is : (message_of job.protocol i.message).sender ≡ d.store.role = subst (λ (x : Expanded). (message_of x i.message).sender ≡ d.store.role) kept.protocol_is own.1 in
@@ -153,21 +158,21 @@ chosen job d n t m orderly kept number turn emission =
     }
 
 -- so its envelope is the planned one
-pub planned : (job : Job) (d : DeskState) (n : ℕ) (t : Turn) (m : Stamped) → IsOrderly job → IsKept job d.store.role d → IsWorkload job n → IsTurn job d.store n t → IsEmission d.store t.message t.key t.outs m → IsPlanned job d.store n (envelope_of job d.store.role n m)
-planned job d n t m orderly kept number turn emission =
+pub planned : (job : Job) (d : DeskState) (n : ℕ) (t : Step) (m : Stamped) → IsOrderly job → IsKept job d.store.role d → IsWorkload job n → IsNextStep job d.store n t → IsEmission d.store t.message t.key t.outs m → IsPlanned job d.store n (envelope_of job d.store.role n m)
+planned job d n t m orderly kept number step emission =
     record {
-      clock = turn.clock;
-      next = subst (λ k. IsNext job d.store n (Some k)) (sym emission.message_is) turn.next;
+      clock = step.clock;
+      next = subst (λ k. IsNext job d.store n (Some k)) (sym emission.message_is) step.next;
       emission = record {
         fits = emission.fits;
         message_is = refl;
-        key_is = emission.key_is ∙ turn.key_is;
-        ins = λ p v carries. subst (λ (key : List Value). Knows d.store.protocol (acts_of d.store) key p v) turn.key_is (emission.ins p v carries);
-        outs_are = emission.outs_are ∙ turn.outs_are ∙ ap (λ k. values_of job.protocol job.script k n) (sym emission.message_is);
+        key_is = emission.key_is ∙ step.key_is;
+        ins = λ p v carries. subst (λ (key : List Value). Knows d.store.protocol (acts_of d.store) key p v) step.key_is (emission.ins p v carries);
+        outs_are = emission.outs_are ∙ step.outs_are ∙ ap (λ k. values_of job.protocol job.script k n) (sym emission.message_is);
         stamp_is = emission.stamp_is;
         number_is = emission.number_is;
       };
-      played = chosen job d n t m orderly kept number turn emission;
+      played = chosen job d n t m orderly kept number step emission;
       from = refl;
       to = refl;
       copies = refl;
@@ -197,14 +202,14 @@ posted job d n m orderly kept number fits key_is some =
         (cases_Bool (is_lost job.plan m.instance.message n))
 
 -- a desk that emitted it is kept
-pub emitted_kept : PlayedGrows → EqualValuesAreOne → (job : Job) (d new : DeskState) (n : ℕ) (t : Turn) (m : Stamped) → IsOrderly job → IsKept job d.store.role d → IsWorkload job n → IsTurn job d.store n t → IsEmission d.store t.message t.key t.outs m → new ≡ with_emission d m → IsConsistent new.store → IsKept job d.store.role new
-emitted_kept grows equal job d new n t m orderly kept number turn emission changed consistent =
+pub emitted_kept : PlayedGrows → EqualValuesAreOne → (job : Job) (d new : DeskState) (n : ℕ) (t : Step) (m : Stamped) → IsOrderly job → IsKept job d.store.role d → IsWorkload job n → IsNextStep job d.store n t → IsEmission d.store t.message t.key t.outs m → new ≡ with_emission d m → IsConsistent new.store → IsKept job d.store.role new
+emitted_kept grows equal job d new n t m orderly kept number step emission changed consistent =
     let x = job.protocol in
     let role : ℕ = d.store.role in
     let i = m.instance in
-    let key_is : i.key ≡ key_of job n = emission.key_is ∙ turn.key_is in
-    let played = chosen job d n t m orderly kept number turn emission in
-    let own : IsSentBy d.store.protocol role i.message = sent job d i.message orderly kept (in_order job d n i.message (subst (λ k. IsNext job d.store n (Some k)) (sym emission.message_is) turn.next)) in
+    let key_is : i.key ≡ key_of job n = emission.key_is ∙ step.key_is in
+    let played = chosen job d n t m orderly kept number step emission in
+    let own : IsSentBy d.store.protocol role i.message = sent job d i.message orderly kept (in_order job d n i.message (subst (λ k. IsNext job d.store n (Some k)) (sym emission.message_is) step.next)) in
     let own_there : IsSentBy x role i.message = subst (λ (y : Expanded). IsSentBy y role i.message) kept.protocol_is own in
     let keyed = member_at job.script.keys (n - 1) i.key (key_at job n number ∙ ap (λ v. Some v) (sym key_is)) in
     let owns = subst (λ (y : Expanded). All (λ e. role_of y e ≡ role) (acts_of d.store)) kept.protocol_is kept.consistent.local.own in
@@ -214,10 +219,10 @@ emitted_kept grows equal job d new n t m orderly kept number turn emission chang
     (with_event grows equal job role d (Emit i) m.stamp m.number kept keyed own_there.0 own_there.1 none played (subst (λ (e : DeskState). IsConsistent e.store) changed consistent))
 
 -- the same of an envelope that equals the message's
-pub planned_as : (job : Job) (d : DeskState) (n role : ℕ) (t : Turn) (m : Stamped) (e : Envelope) → IsOrderly job → IsKept job d.store.role d → IsWorkload job n → IsTurn job d.store n t → IsEmission d.store t.message t.key t.outs m → role ≡ d.store.role → e ≡ envelope_of job role n m → IsPlanned job d.store n e
-planned_as job d n role t m e orderly kept number turn emission role_is is =
-    subst (IsPlanned job d.store n) (sym (is ∙ ap (λ r. envelope_of job r n m) role_is)) (planned job d n t m orderly kept number turn emission)
+pub planned_as : (job : Job) (d : DeskState) (n role : ℕ) (t : Step) (m : Stamped) (e : Envelope) → IsOrderly job → IsKept job d.store.role d → IsWorkload job n → IsNextStep job d.store n t → IsEmission d.store t.message t.key t.outs m → role ≡ d.store.role → e ≡ envelope_of job role n m → IsPlanned job d.store n e
+planned_as job d n role t m e orderly kept number step emission role_is is =
+    subst (IsPlanned job d.store n) (sym (is ∙ ap (λ r. envelope_of job r n m) role_is)) (planned job d n t m orderly kept number step emission)
 
-pub posted_as : (job : Job) (d : DeskState) (n role : ℕ) (t : Turn) (m : Stamped) (e : Envelope) → IsOrderly job → IsKept job d.store.role d → IsWorkload job n → IsTurn job d.store n t → IsEmission d.store t.message t.key t.outs m → role ≡ d.store.role → e ≡ envelope_of job role n m → 0 < e.copies → IsFor job e.to e
-posted_as job d n role t m e orderly kept number turn emission role_is is =
-    subst (λ (f : Envelope). 0 < f.copies → IsFor job f.to f) (sym (is ∙ ap (λ r. envelope_of job r n m) role_is)) (posted job d n m orderly kept number emission.fits (emission.key_is ∙ turn.key_is))
+pub posted_as : (job : Job) (d : DeskState) (n role : ℕ) (t : Step) (m : Stamped) (e : Envelope) → IsOrderly job → IsKept job d.store.role d → IsWorkload job n → IsNextStep job d.store n t → IsEmission d.store t.message t.key t.outs m → role ≡ d.store.role → e ≡ envelope_of job role n m → 0 < e.copies → IsFor job e.to e
+posted_as job d n role t m e orderly kept number step emission role_is is =
+    subst (λ (f : Envelope). 0 < f.copies → IsFor job f.to f) (sym (is ∙ ap (λ r. envelope_of job r n m) role_is)) (posted job d n m orderly kept number emission.fits (emission.key_is ∙ step.key_is))
