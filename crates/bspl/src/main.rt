@@ -2,20 +2,24 @@
 #![tactic(auto)]
 
 ghost use Rattle.std.specs.Prelude.{◌≡◌, map, string_bytes, IfOk, IfErr};
-ghost use Rattle.bspl_tool.specs.Call.{AreCounted, IsCall};
+ghost use Rattle.program_frame.specs.Call.{AreCounted};
+ghost use Rattle.program_frame.specs.declared.ending.Ending.TheVariants.{NoMemory};
+ghost use Rattle.bspl_tool.specs.Call.{IsToolCall};
 ghost use Rattle.bspl_tool.specs.Headline.{TrueWhereSaid};
 
 use bspl_io::{Sink, Source, StdSink, StdSource};
-use bspl_tool::{Status, bspl};
+use bspl_tool::bspl;
 use program_args::args_given;
+use program_frame::Ending;
 use std::alloc::Global;
 use std::io::{self, Read, Write};
 use std::process::ExitCode;
+use tool_input::Status;
 
 fn main(rt: HostRuntime) -> ExitCode {
     let args = args_given(&rt);
-    let (status, _, _) = answer(rt.alloc(), args, rt.reader(), io::writer(&rt));
-    ExitCode::from(status.number())
+    let (ending, _, _) = answer(rt.alloc(), args, rt.reader(), io::writer(&rt));
+    ExitCode::from(ending.number())
 }
 
 /// The call for the arguments over a reader and a writer, which come back as the source and the
@@ -26,8 +30,8 @@ fn answer<R: Read + Drop, W: Write + Drop>(
     args: io::Result<Vec<String>>,
     input: R,
     output: W,
-) -> (Status, StdSource<R>, StdSink<W>)
-    ensures call { IfOk args (λ args. IsCall (map string_bytes args.items) (record {
+) -> (Ending<Status>, StdSource<R>, StdSink<W>)
+    ensures call { IfOk args (λ args. IsToolCall (map string_bytes args.items) (record {
       remaining = R.remaining input;
       remaining_after = ⟦<StdSource<R> as Source>⟧.remaining result.1;
       contents = W.contents output;
@@ -45,7 +49,7 @@ fn answer<R: Read + Drop, W: Write + Drop>(
       contents = W.contents output;
       contents_after = ⟦<StdSink<W> as Sink>⟧.contents result.2;
     })) }
-    ensures no_args { IfErr args (λ _. result.0 ≡ Status.NoMemory) }
+    ensures no_args { IfErr args (λ _. result.0 ≡ NoMemory) }
     ensures unread { IfErr args (λ _.
         ⟦<StdSource<R> as Source>⟧.remaining result.1 ≡ R.remaining input) }
     ensures unwritten { IfErr args (λ _.
@@ -53,9 +57,9 @@ fn answer<R: Read + Drop, W: Write + Drop>(
 {
     let mut source = StdSource::new(input);
     let mut sink = StdSink::new(output);
-    let status = match args {
+    let ending = match args {
         Ok(args) => bspl(alloc, args.as_slice(), &mut source, &mut sink),
-        Err(_) => Status::NoMemory,
+        Err(_) => Ending::NoMemory,
     };
-    (status, source, sink)
+    (ending, source, sink)
 }

@@ -8,7 +8,7 @@ use Rattle.refutation_log.specs.declared.refutation.Log.{Log}
 use Rattle.refutation_log.specs.LogText.{IsTextOf}
 use Rattle.refutation_log.specs.Refusal.{IsRefusedLog}
 use Rattle.bspl_tool.specs.declared.claim.Claim.{Claim}
-use Rattle.bspl_tool.specs.declared.status.Status.TheVariants.{Done, Refuted}
+use Rattle.tool_input.specs.declared.status.Status.TheVariants.{Done, Refuted}
 use Rattle.bspl_tool.specs.CheckAnswer.{Fails, IsAccepted, IsCheckAnswer, IsCheckRefused}
 use Rattle.bspl_tool.specs.Claims.{claim_line}
 use Rattle.bspl_tool.specs.CheckAnswer.{log_rejection}

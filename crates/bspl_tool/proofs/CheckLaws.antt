@@ -14,17 +14,15 @@ use Rattle.refutation_log.specs.declared.refutation.Log.{Log}
 use Rattle.refutation_log.specs.LogText.{IsTextOf}
 use Rattle.refutation_log.specs.TextLaws.{LogIsNotRefused, TextHasOneLog, TextHasOneRefusal}
 use Rattle.tool_input.specs.declared.rejection.Rejection.{Rejection}
-use Rattle.bspl_tool.specs.declared.request.Task.TheVariants.{Check}
-use Rattle.bspl_tool.specs.declared.status.Status.{Status}
-use Rattle.bspl_tool.specs.Answer.{IsAnswer, IsPartRefused}
-use Rattle.bspl_tool.specs.CheckAnswer.{Accepts, Fails, IsCheckAnswer, IsCheckRefused, SaysAccepted, SaysRejected, claim_of}
+use Rattle.tool_input.specs.declared.status.Status.{Status}
+use Rattle.bspl_tool.specs.CheckAnswer.{Accepts, Fails, IsCheckAnswer, IsCheckRefused, SaysAccepted, SaysRejected, check_rules, claim_of}
 use Rattle.bspl_tool.specs.Claims.{IsClaimTrue, claim_line}
 use Rattle.bspl_tool.specs.Laws.{IsOutput}
 use Rattle.bspl_tool.specs.CheckAnswer.{log_rejection}
 use Rattle.tool_input.specs.Lines.{line}
 use Rattle.bspl_tool.specs.Texts.{reject_text}
 use Rattle.bspl_tool.proofs.ClaimsNothing.{ClaimsNothing, line_claims_nothing, says_nothing}
-use Rattle.bspl_tool.proofs.CommandLaws.{CommandLaws, CommandTexts, IsEnd, IsHonest, honest_if}
+use Rattle.bspl_tool.proofs.CommandLaws.{CommandLaws, IsHonest, honest_if}
 use Rattle.bspl_tool.proofs.RejectedNames.{HasNames}
 use Rattle.bspl_tool.proofs.Unbroken.{decimal_has_no_lf, has_lf, joined_has_none}
 
@@ -92,14 +90,6 @@ check_is_honest x part out status n answer =
       | inr rejected ↦ record { claimed = λ claim says. absurd (says_nothing claim out n (subst ClaimsNothing (sym rejected.text) (reject_claims_nothing rejected.reject)) says) }
     ]
 
--- it ends in a status of its own
-check_ends : (x : Expanded) (part out : List ℕ) (status : Status) → IsCheckAnswer x part out status → IsEnd status
-check_ends x part out status answer =
-    elim answer.answer [
-      | inl accepted ↦ subst IsEnd (sym accepted.done) tt
-      | inr rejected ↦ subst IsEnd (sym rejected.refuted) tt
-    ]
-
 -- a line of a text is no name
 line_names : (refusal : LogRefusal) → IfSome (log_rejection refusal) HasNames
 line_names (log.Form number) = record { first = tt; second = tt }
@@ -109,21 +99,6 @@ line_names log.NoMemory = tt
 -- so its refusals have no names but such
 check_names : (part : List ℕ) (r : Rejection) → IsCheckRefused part r → HasNames r
 check_names part r refused = subst (λ o. IfSome o HasNames) refused.rejection_is (line_names refused.refusal)
-
--- what is said
-pub check_texts : CommandTexts (IsAnswer Check) (IsPartRefused Check)
-check_texts = record {
-  ends = check_ends;
-  honest = check_is_honest;
-  names = λ x part r refused. check_names part r refused;
-}
-
--- and how it excludes the rest
-pub check_laws : OneCheck → CommandLaws (IsAnswer Check) (IsPartRefused Check)
-check_laws once = record {
-  distinct = λ x part out status r admitted answer refused. read_or_refused once part answer.kind answer.log r answer.read refused;
-  one_refusal = λ x part r s admitted one other. refused_once once part r s one other;
-}
 
 -- a log has one first failure
 fails_once : OneCheck → (x : Expanded) (kind : Kind) (of : Log) (first second : Reject) → Fails x kind of first → Fails x kind of second → first ≡ second
@@ -145,8 +120,18 @@ same_answer once x kind of out out' status status' (inr one) (inr other) =
     (one.text ∙ ap (λ reject. line (reject_text reject)) (fails_once once x kind of one.reject other.reject one.fails other.fails) ∙ sym other.text, one.refuted ∙ sym other.refuted)
 
 -- and so on one part
-pub checked_once : OneCheck → (x : Expanded) (part out out' : List ℕ) (status status' : Status) → IsCheckAnswer x part out status → IsCheckAnswer x part out' status' → IsOutput out status out' status'
+checked_once : OneCheck → (x : Expanded) (part out out' : List ℕ) (status status' : Status) → IsCheckAnswer x part out status → IsCheckAnswer x part out' status' → IsOutput out status out' status'
 checked_once once x part out out' status status' one other =
     let same = once.logs part other.kind one.kind other.log one.log other.read one.read in
     let as_one = subst (λ kind. SaysAccepted x kind other.log out' status' ⊎ SaysRejected x kind other.log out' status') same.0 other.answer in
     same_answer once x one.kind one.log out out' status status' one.answer (subst (λ of. SaysAccepted x one.kind of out' status' ⊎ SaysRejected x one.kind of out' status') same.1 as_one)
+
+-- the laws of the command
+pub check_laws : CommandLaws OneCheck check_rules
+check_laws = record {
+  honest = check_is_honest;
+  names = λ x part r refused. check_names part r refused;
+  distinct = λ once x part out status r admitted answer refused. read_or_refused once part answer.kind answer.log r answer.read refused;
+  one_refusal = λ once x part r s admitted one other. refused_once once part r s one other;
+  one_answer = λ once x part out out' status status' admitted determined one other. checked_once once x part out out' status status' one other;
+}

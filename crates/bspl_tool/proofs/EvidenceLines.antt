@@ -8,7 +8,7 @@ use Rattle.bspl_types.specs.declared.event.Instance.{Instance}
 use Rattle.bspl_types.specs.declared.expanded.Expanded.{Expanded}
 use Rattle.bspl_types.specs.declared.protocol.Carried.{Carried}
 use Rattle.bspl_types.specs.declared.value.Value.{Value}
-use Rattle.bspl_types.specs.Expansion.{message_of, no_message}
+use Rattle.bspl_types.specs.Expansion.{message_of, no_message, param_name}
 use Rattle.bspl_types.specs.Instance.{pairs}
 use Rattle.bspl_types.specs.ValueSpelling.{value_spelling}
 use Rattle.refutation_log.specs.declared.refutation.Kind.{Kind}
@@ -21,7 +21,6 @@ use Rattle.refutation_log.specs.declared.refutation.Version.{Version}
 use Rattle.refutation_log.specs.declared.refutation.Version.TheVariants.{One, Two}
 use Rattle.refutation_log.specs.Entries.{entries}
 use Rattle.refutation_log.specs.LogText.{drop_fields, entry_line, header_line, least_version, line_of, link_fields, log_text, numeral, pivot_text, step_fields, versioned_text}
-use Rattle.report.specs.ReplayLines.{param_name}
 use Rattle.run_text.specs.RunText.{event_line, head_line, instance_fields, no_param, run_text, value_field}
 use Rattle.bspl_tool.proofs.ClaimsNothing.{IsBlock, block_joined, claims, no_lines}
 use Rattle.bspl_tool.proofs.FieldBytes.{fields_are_block, indexed_has_no_lf, numeral_has_no_lf, value_has_no_lf}

@@ -11,7 +11,7 @@ use Rattle.bspl_types.specs.declared.value.Value.TheVariants.{Number, Text}
 use Rattle.bspl_types.specs.Name.{is_name}
 use Rattle.bspl_types.specs.ValueSpelling.{byte_spelling, is_plain, value_spelling}
 use Rattle.refutation_log.specs.LogText.{line_of}
-use Rattle.text_lines.specs.Decimal.{numeral}
+use Rattle.list_base.specs.Numeral.{numeral}
 use Rattle.bspl_tool.proofs.ClaimsNothing.{IsBlock, claims, closed, line_claims_nothing}
 use Rattle.bspl_tool.proofs.NameBytes.{name_has_no_lf, passes}
 use Rattle.bspl_tool.proofs.Unbroken.{decimal_has_no_lf, digit_is_no_lf, has_lf, joined_has_none}

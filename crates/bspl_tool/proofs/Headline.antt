@@ -1,33 +1,40 @@
 -- A line that claims something is written only of a protocol of which it is true.
-use Rattle.std.proofs.Common.{ℕ, List, [], codes, length, take, Option, Some, None, refl, sym, ◌∙◌, subst, arith, append-nil}
-use Rattle.std.specs.Prelude.{IsTrue}
+use Rattle.std.proofs.Common.{◌≡◌, ◌++◌, inl, inr, ℕ, List, [], codes, length, take, Option, Some, None, refl, sym, ◌∙◌, subst, arith, append-nil}
+use Rattle.std.specs.Prelude.{IfSome, IsTrue}
 use Rattle.std.specs.Io.KnownBytes.{Appends}
 use Rattle.std.proofs.lemmas.List.{append_cancel_left, take_all}
 use Rattle.bspl_types.specs.Name.{is_name}
 use Rattle.bspl_io.specs.Sink.{AppendsPrefix}
 use Rattle.tool_input.specs.declared.rejection.Rejection.{Rejection}
-use Rattle.bspl_tool.specs.declared.request.Task.{Task}
-use Rattle.bspl_tool.specs.declared.status.Status.{Status}
-use Rattle.bspl_tool.specs.Call.{AreRemaining}
+use Rattle.bspl_tool.specs.declared.task.Task.{Task}
+use Rattle.tool_input.specs.declared.status.Status.{Status}
+use Rattle.bspl_types.specs.Limits.{input_limit}
+use Rattle.bspl_io.specs.Traffic.{Traffic}
+use Rattle.program_frame.specs.Call.{AreRemaining, WritesPrefix}
+use Rattle.program_frame.specs.declared.ending.Ending.{Ending}
+use Rattle.program_frame.specs.declared.ending.Ending.TheVariants.{Answered, ReadFault, WriteFault, NoMemory}
+use Rattle.bspl_tool.specs.Call.{IsToolCall}
+use Rattle.bspl_tool.specs.Laws.{CallsAreTrue}
 use Rattle.bspl_tool.specs.Headline.{IsTrueOf, TrueWhereSaid}
 use Rattle.bspl_tool.specs.Output.{IsDone, Output, usage, refused, done}
-use Rattle.tool_input.specs.Parts.{protocol_text}
+use Rattle.bspl_tool.specs.Request.{RequestsInput}
+use Rattle.bspl_tool.specs.Task.{judged_text}
 use Rattle.bspl_tool.specs.Refusals.{Refuses, RefusesInput}
 use Rattle.bspl_tool.proofs.ClaimsNothing.{ClaimsNothing, line_claims_nothing, says_nothing}
 use Rattle.bspl_tool.proofs.RejectedNames.{HasNames, requested_is_name, text_rejection_names}
 use Rattle.bspl_tool.proofs.RejectionLines.{rejection_claims_nothing}
-use Rattle.bspl_tool.proofs.TaskLaws.{texts_of}
+use Rattle.bspl_tool.proofs.TaskLaws.{laws_of}
 
 -- the names in a refusal of an input are names
 input_names : (task : Task) (name input : List ℕ) {r : Rejection} → IsTrue (is_name name) → RefusesInput task name input r → HasNames r
 input_names task name input named (RefusesInput.no_part part lacks) = record { first = tt; second = tt }
-input_names task name input named (RefusesInput.text part q r has reason is) = text_rejection_names name (protocol_text input) q r named reason is
-input_names task name input named (RefusesInput.part part x r has judged reason) = (texts_of task).names x part r reason
+input_names task name input named (RefusesInput.text part q r has reason is) = text_rejection_names name (judged_text task input) q r named reason is
+input_names task name input named (RefusesInput.part part x r has judged reason) = (laws_of task).names x part r reason
 
 -- so are those in each refusal
 refused_names : (args : List (List ℕ)) (bytes : List ℕ) {r : Rejection} → Refuses args bytes r → HasNames r
 refused_names args bytes (Refuses.unsupported requests) = record { first = tt; second = tt }
-refused_names args bytes (Refuses.too_long task name requests reads long) = record { first = tt; second = tt }
+refused_names args bytes (Refuses.too_long asks long) = record { first = tt; second = tt }
 refused_names args bytes (Refuses.read task name r read refuses) = input_names task name bytes (requested_is_name args task name read.requested) refuses
 
 -- a prefix of a text that claims nothing
@@ -38,7 +45,7 @@ nothing_said args remaining text n nothing = record { claimed = λ claim says. a
 truly_said : (args : List (List ℕ)) (remaining : Option (List ℕ)) (bytes out : List ℕ) (status : Status) (n : ℕ) → AreRemaining remaining bytes → IsDone args bytes out status → IsTrueOf args remaining (take n out)
 truly_said args remaining bytes out status n input made =
     let answered = made.answered in
-    let honest = (texts_of made.task).honest answered.protocol answered.part out status n answered.answer in record {
+    let honest = (laws_of made.task).honest answered.protocol answered.part out status n answered.answer in record {
       claimed = λ claim says. (answered.protocol, record { task = made.task; name = made.name; requested = made.read.requested; bytes = bytes; input = input; judged = answered.judged }, honest.claimed claim says);
     }
 
@@ -50,19 +57,42 @@ said_by_output args remaining bytes _ _ n input (refused r refuses) = nothing_sa
 said_by_output args remaining bytes _ _ n input (done out status made) = truly_said args remaining bytes out status n input made
 
 -- what was appended is a prefix of an output
-pub true_after_prefix : (args : List (List ℕ)) (remaining remaining_after old new : Option (List ℕ)) (bytes out : List ℕ) (status : Status) → AreRemaining remaining bytes → Output args bytes out status → AppendsPrefix old new out → TrueWhereSaid args (record { remaining = remaining; remaining_after = remaining_after; contents = old; contents_after = new })
+true_after_prefix : (args : List (List ℕ)) (remaining remaining_after old new : Option (List ℕ)) (bytes out : List ℕ) (status : Status) → AreRemaining remaining bytes → Output args bytes out status → AppendsPrefix old new out → TrueWhereSaid args (record { remaining = remaining; remaining_after = remaining_after; contents = old; contents_after = new })
 true_after_prefix args remaining remaining_after None new bytes out status input output (n, appended) = tt
 true_after_prefix args remaining remaining_after (Some before) None bytes out status input output (n, appended) = tt
 true_after_prefix args remaining remaining_after (Some before) (Some after) bytes out status input output (n, appended) = λ written is.
     subst (IsTrueOf args remaining) (append_cancel_left before (take n out) written (sym appended ∙ is)) (said_by_output args remaining bytes out status n input output)
 
 -- perhaps the whole of it
-pub true_after_text : (args : List (List ℕ)) (remaining remaining_after old new : Option (List ℕ)) (bytes out : List ℕ) (status : Status) → AreRemaining remaining bytes → Output args bytes out status → Appends old new out → TrueWhereSaid args (record { remaining = remaining; remaining_after = remaining_after; contents = old; contents_after = new })
+true_after_text : (args : List (List ℕ)) (remaining remaining_after old new : Option (List ℕ)) (bytes out : List ℕ) (status : Status) → AreRemaining remaining bytes → Output args bytes out status → Appends old new out → TrueWhereSaid args (record { remaining = remaining; remaining_after = remaining_after; contents = old; contents_after = new })
 true_after_text args remaining remaining_after old new bytes out status input output appended =
     true_after_prefix args remaining remaining_after old new bytes out status input output (length out, subst (Appends old new) (sym (take_all (length out) out (omega arith))) appended)
 
 -- or nothing
-pub true_after_nothing : (args : List (List ℕ)) (remaining remaining_after old : Option (List ℕ)) → TrueWhereSaid args (record { remaining = remaining; remaining_after = remaining_after; contents = old; contents_after = old })
-true_after_nothing args remaining remaining_after None = tt
-true_after_nothing args remaining remaining_after (Some before) = λ written is.
-    subst (IsTrueOf args remaining) (append_cancel_left before [] written (append-nil before ∙ is)) (nothing_said args remaining (codes "\n") 0 (record { first = refl; later = refl }))
+true_after_nothing : (args : List (List ℕ)) (remaining remaining_after old new : Option (List ℕ)) → new ≡ old → TrueWhereSaid args (record { remaining = remaining; remaining_after = remaining_after; contents = old; contents_after = new })
+true_after_nothing args remaining remaining_after None new same = tt
+true_after_nothing args remaining remaining_after (Some before) new same = subst (λ after. IfSome after (λ bytes. (out : List ℕ) → bytes ≡ before ++ out → IsTrueOf args remaining out)) (sym same) (λ written is.
+    subst (IsTrueOf args remaining) (append_cancel_left before [] written (append-nil before ∙ is)) (nothing_said args remaining (codes "\n") 0 (record { first = refl; later = refl })))
+
+-- what was written of an output
+prefix_true : (args : List (List ℕ)) (t : Traffic) → WritesPrefix (RequestsInput args) input_limit (Output args) t → TrueWhereSaid args t
+prefix_true args t written =
+    let answer = written.answer in
+    true_after_prefix args t.remaining t.remaining_after t.contents t.contents_after answer.bytes written.out written.status answer.input answer.right written.appended
+
+-- so it is after each call
+calls_true : (args : List (List ℕ)) (t : Traffic) (ending : Ending Status) → IsToolCall args t ending → TrueWhereSaid args t
+calls_true args t (Answered status) call =
+    let written = call.written in
+    let answer = written.answer in
+    true_after_text args t.remaining t.remaining_after t.contents t.contents_after answer.bytes written.out status answer.input answer.right written.appended
+calls_true args t ReadFault call = true_after_nothing args t.remaining t.remaining_after t.contents t.contents_after call.written.1
+calls_true args t WriteFault call = prefix_true args t call.written
+calls_true args t NoMemory call =
+    elim call.written [
+      | inl nothing ↦ true_after_nothing args t.remaining t.remaining_after t.contents t.contents_after nothing
+      | inr some ↦ prefix_true args t some
+    ]
+
+pub true_law : CallsAreTrue
+true_law args t ending call = calls_true args t ending call

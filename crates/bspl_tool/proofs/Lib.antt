@@ -10,7 +10,6 @@ pub mod CommandLaws
 pub mod ExpandLaws
 pub mod VerifyLaws
 pub mod CheckLaws
-pub mod NeverRefused
 pub mod CheckAnswers
 pub mod ReplayLaws
 pub mod WorldLines
@@ -21,4 +20,3 @@ pub mod OneRequest
 pub mod Distinct
 pub mod Headline
 pub mod Replies
-pub mod Calls

@@ -1,21 +1,13 @@
 -- Arguments request one task on one protocol, or a command that is not supported.
-use Rattle.std.proofs.Common.{◌≡◌, ℕ, Bool, true, List, [], ◌∷◌, None, Some, refl, sym, ◌∙◌, subst, arith}
-use Rattle.std.specs.Prelude.{IfSome}
-use Rattle.bspl_types.specs.declared.expanded.Expanded.{Expanded}
-use Rattle.command_line.specs.declared.command.Command.{Command}
-use Rattle.command_line.specs.declared.command.Command.TheVariants as command
+use Rattle.std.proofs.Common.{◌≡◌, ℕ, List, None, Some, refl, sym, ◌∙◌, Bor}
 use Rattle.command_line.specs.declared.line.CommandLine.{CommandLine}
 use Rattle.command_line.specs.declared.line.Subject.{Subject}
 use Rattle.command_line.specs.declared.line.Subject.TheVariants.{Protocol, Size}
-use Rattle.command_line.specs.Command.{takes_conflicts}
-use Rattle.command_line.specs.Line.{IsChosen, IsSameLine, IsSameSubject, OneLine}
-use Rattle.bspl_tool.specs.declared.request.Task.{Task}
-use Rattle.bspl_tool.specs.declared.request.Task.TheVariants.{Check, Expand, Replay, Run, Verify}
-use Rattle.bspl_tool.specs.Call.{RequestsInput}
-use Rattle.tool_input.specs.Input.{Declares}
-use Rattle.tool_input.specs.Parts.{protocol_text}
-use Rattle.bspl_tool.specs.Request.{IsAbout, Requests, RequestsUnsupported, line_task, task_of}
-use Rattle.bspl_tool.specs.Task.{HasBudget, IsBudget, Judged, reads_input}
+use Rattle.command_line.specs.Line.{IsSameLine, IsSameSubject, OneLine}
+use Rattle.bspl_tool.specs.declared.request.Request.{Request}
+use Rattle.bspl_tool.specs.declared.request.Request.TheVariants.{Do, Unsupported, Usage}
+use Rattle.bspl_tool.specs.declared.task.Task.{Task}
+use Rattle.bspl_tool.specs.Request.{IsAbout, IsRequest, Requests, RequestsInput, RequestsUnsupported, line_task}
 
 -- a command line is for one task
 same_task : (one again : CommandLine) → IsSameLine one again → line_task one ≡ line_task again
@@ -46,52 +38,12 @@ task_or_unsupported one_line args task name requests other =
     let is : Some task ≡ None = sym requests.is_task ∙ same ∙ other.unsupported in
     absurd (cc)
 
--- each task reads the input
-pub all_read : (task : Task) → reads_input task ≡ true
-all_read Expand = refl
-all_read (Verify brief conflicts) = refl
-all_read Check = refl
-all_read Replay = refl
-all_read (Run brief conflicts threads) = refl
+-- arguments that request a task ask for the input
+pub requests_input : {args : List (List ℕ)} {task : Task} {name : List ℕ} → Requests args task name → RequestsInput args
+requests_input {args} {task} {name} requests = record { task = task; name = name; requested = requests }
 
--- so arguments that request a task request the input
-pub requests_input : (args : List (List ℕ)) (task : Task) (name : List ℕ) → Requests args task name → RequestsInput args
-requests_input args task name requests = record { task = task; name = name; requested = requests; reads = all_read task }
-
--- each task judges the protocol that the protocol text declares
-pub judged_if_declared : (task : Task) (name input : List ℕ) (x : Expanded) → Declares name (protocol_text input) x → Judged task name input x
-judged_if_declared Expand name input x declares = declares
-judged_if_declared (Verify brief conflicts) name input x declares = declares
-judged_if_declared Check name input x declares = declares
-judged_if_declared Replay name input x declares = declares
-judged_if_declared (Run brief conflicts threads) name input x declares = declares
-
--- and no other
-pub declared_if_judged : (task : Task) (name input : List ℕ) (x : Expanded) → Judged task name input x → Declares name (protocol_text input) x
-declared_if_judged Expand name input x judged = judged
-declared_if_judged (Verify brief conflicts) name input x judged = judged
-declared_if_judged Check name input x judged = judged
-declared_if_judged Replay name input x judged = judged
-declared_if_judged (Run brief conflicts threads) name input x judged = judged
-
--- an option's number of conflicts is a budget
-chosen_budget : (belongs : Bool) (values : List (List ℕ)) (n : ℕ) → IsChosen belongs 1 20000 10000 values n → IsBudget n
-chosen_budget belongs [] n is = record { least = omega arith; most = omega arith }
-chosen_budget belongs (value ∷ []) n chosen = record { least = chosen.0.low; most = chosen.0.high }
-chosen_budget belongs (value ∷ other ∷ values) n chosen = absurd chosen
-
--- so is that of a command's task
-task_budget : (command : Command) (brief : Bool) (n threads : ℕ) → IsBudget n → IfSome (task_of command brief n threads) HasBudget
-task_budget command.Verify brief n threads budget = budget
-task_budget command.Check brief n threads budget = tt
-task_budget command.Replay brief n threads budget = tt
-task_budget command.Expand brief n threads budget = tt
-task_budget command.Run brief n threads budget = budget
-task_budget command.Generate brief n threads budget = tt
-
--- and that of a task that is requested
-pub requested_budget : (args : List (List ℕ)) (task : Task) (name : List ℕ) → Requests args task name → HasBudget task
-requested_budget args task name requests =
-    let line = requests.line in
-    let chosen = chosen_budget (takes_conflicts line.command) _ line.conflicts requests.is_line.line_of.conflicts in
-    subst (λ found. IfSome found HasBudget) requests.is_task (task_budget line.command line.brief line.conflicts line.threads chosen)
+-- arguments that request no task ask for no input
+pub no_task_or_input : OneLine → (args : List (List ℕ)) (request : Request) → ((task : Task) (name : Bor (List ℕ)) → request ≡ Do task name → ⊥) → IsRequest args request → RequestsInput args → ⊥
+no_task_or_input line args Usage other none asks = none (asks.requested.line, asks.requested.is_line)
+no_task_or_input line args Unsupported other requests asks = task_or_unsupported line args asks.task asks.name asks.requested requests
+no_task_or_input line args (Do task name) other requests asks = other task name refl

@@ -17,7 +17,7 @@ use Rattle.bspl_types.specs.declared.protocol.Message.{Message}
 use Rattle.bspl_types.specs.declared.refusals.Refusal.{Refusal}
 use Rattle.bspl_types.specs.declared.refusals.Refusal.TheVariants.{Byte, Syntax, NoProtocol, Duplicate, Unknown, Arity, BadAdornment, Recursion, Limit, NoKey, NotWholeKey, ForeignKey, SelfMessage, RepeatedParam, NoMemory}
 use Rattle.protocol_expand.specs.Refusals.{IsNotExpanded}
-use Rattle.bspl_tool.specs.declared.request.Task.{Task}
+use Rattle.bspl_tool.specs.declared.task.Task.{Task}
 use Rattle.tool_input.specs.declared.rejection.Field.{Field}
 use Rattle.tool_input.specs.declared.rejection.Field.TheVariants.{Name}
 use Rattle.tool_input.specs.declared.rejection.Rejection.{Rejection}

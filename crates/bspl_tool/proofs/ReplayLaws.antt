@@ -8,7 +8,7 @@ use Rattle.bspl_types.specs.declared.event.Event.{Event}
 use Rattle.bspl_types.specs.declared.expanded.Expanded.{Expanded}
 use Rattle.bspl_types.specs.declared.value.Value.{Value}
 use Rattle.bspl_types.specs.Admission.{IsAdmitted}
-use Rattle.bspl_types.specs.Expansion.{message_of}
+use Rattle.bspl_types.specs.Expansion.{message_of, param_name}
 use Rattle.bspl_types.specs.ValueSpelling.{value_spelling}
 use Rattle.enactment_model.specs.declared.bad_event.Why.{Why}
 use Rattle.enactment_model.specs.declared.bad_event.Why.TheVariants.{Missing, Bound, Other, Unsent}
@@ -19,20 +19,18 @@ use Rattle.report.specs.declared.status.Status.{Status as KeyStatus}
 use Rattle.report.specs.declared.status.Status.TheVariants.{Loose, Incomplete, Complete}
 use Rattle.report.specs.Keys.{reported_keys}
 use Rattle.report.specs.Laws.{ReplayIsOnce}
-use Rattle.report.specs.ReplayLines.{conflict_line, illegal_line, legal_line, param_name, reason_fields, status_fields}
+use Rattle.report.specs.ReplayLines.{conflict_line, illegal_line, legal_line, reason_fields, status_fields}
 use Rattle.report.specs.ReplayText.{IsConflictLine, IsKeyLine, IsReplayText}
 use Rattle.run_text.specs.declared.refusal.RunRefusal.{RunRefusal}
 use Rattle.run_text.specs.declared.refusal.RunRefusal.TheVariants.{Form, NoMemory}
 use Rattle.run_text.specs.Refusal.{RunIsNotRefused, TextHasOneBadLine, TextHasOneRun}
 use Rattle.tool_input.specs.declared.rejection.Rejection.{Rejection}
-use Rattle.bspl_tool.specs.declared.request.Task.TheVariants.{Replay}
-use Rattle.bspl_tool.specs.declared.status.Status.{Status}
-use Rattle.bspl_tool.specs.Answer.{IsAnswer, IsPartRefused}
+use Rattle.tool_input.specs.declared.status.Status.{Status}
 use Rattle.bspl_tool.specs.Laws.{IsOutput}
 use Rattle.bspl_tool.specs.ReplayAnswer.{run_rejection}
-use Rattle.bspl_tool.specs.ReplayAnswer.{IsReplayAnswer, IsReplayRefused, SaysLegal}
+use Rattle.bspl_tool.specs.ReplayAnswer.{IsReplayAnswer, IsReplayRefused, SaysLegal, replay_rules}
 use Rattle.bspl_tool.proofs.ClaimsNothing.{IsBlock, block_joined, claims, no_lines, says_nothing}
-use Rattle.bspl_tool.proofs.CommandLaws.{CommandLaws, CommandTexts, IsEnd}
+use Rattle.bspl_tool.proofs.CommandLaws.{CommandLaws}
 use Rattle.bspl_tool.proofs.EvidenceLines.{message_has_no_lf, param_has_no_lf}
 use Rattle.bspl_tool.proofs.FieldBytes.{fields_are_block, value_has_no_lf}
 use Rattle.bspl_tool.proofs.RejectedNames.{HasNames}
@@ -115,32 +113,10 @@ report_is_block x run text (inr legal) =
     let lines = block_joined (block_joined (legal_is_block run) (conflict_is_block x run legal.conflict legal.is_conflict)) (keys_are_block x run (reported_keys x run) legal.keys legal.are_keys) in
     subst IsBlock (sym legal.text_is) lines
 
--- the status is that of an answer
-legal_ends : (x : Expanded) (run : List Event) (status : Status) → SaysLegal x run status → IsEnd status
-legal_ends x run status (inl legal) = subst IsEnd (sym legal.1) tt
-legal_ends x run status (inr illegal) = subst IsEnd (sym illegal.1) tt
-
 -- a line of a text is no name
 line_names : (refusal : RunRefusal) → IfSome (run_rejection refusal) HasNames
 line_names (Form number) = record { first = tt; second = tt }
 line_names NoMemory = tt
-
--- what is said
-pub replay_texts : CommandTexts (IsAnswer Replay) (IsPartRefused Replay)
-replay_texts = record {
-  ends = λ x part out status answer. legal_ends x answer.run status answer.legal;
-  honest = λ x part out status n answer. record {
-    claimed = λ claim says. absurd (says_nothing claim out n (report_is_block x answer.run out answer.text).nothing says);
-  };
-  names = λ x part r refused. subst (λ o. IfSome o HasNames) refused.rejection_is (line_names refused.refusal);
-}
-
--- and how it excludes the rest
-pub replay_laws : OneReplay → CommandLaws (IsAnswer Replay) (IsPartRefused Replay)
-replay_laws once = record {
-  distinct = λ x part out status r admitted answer refused. once.exclusive x part answer.run refused.refusal (not_memory refused.refusal r refused.rejection_is) answer.read refused.refused;
-  one_refusal = λ x part r s admitted one other. refused_once once x part r s one other;
-}
 
 -- a run has one status
 same_status : (x : Expanded) (run : List Event) (status status' : Status) → SaysLegal x run status → SaysLegal x run status' → status ≡ status'
@@ -150,9 +126,21 @@ same_status x run status status' (inr one) (inl other) = absurd (one.0 other.0)
 same_status x run status status' (inr one) (inr other) = one.1 ∙ sym other.1
 
 -- two answers on one run are one
-pub replayed_once : OneReplay → (x : Expanded) (part out out' : List ℕ) (status status' : Status) → IsAdmitted x → IsReplayAnswer x part out status → IsReplayAnswer x part out' status' → IsOutput out status out' status'
+replayed_once : OneReplay → (x : Expanded) (part out out' : List ℕ) (status status' : Status) → IsAdmitted x → IsReplayAnswer x part out status → IsReplayAnswer x part out' status' → IsOutput out status out' status'
 replayed_once once x part out out' status status' admitted one other =
     let same = once.runs x part other.run one.run admitted other.read one.read in (
       once.reports x one.run out out' admitted one.text (subst (λ run. IsReplayText x run out') same other.text),
       same_status x one.run status status' one.legal (subst (λ run. SaysLegal x run status') same other.legal),
     )
+
+-- the laws of the command
+pub replay_laws : CommandLaws OneReplay replay_rules
+replay_laws = record {
+  honest = λ x part out status n answer. record {
+    claimed = λ claim says. absurd (says_nothing claim out n (report_is_block x answer.run out answer.text).nothing says);
+  };
+  names = λ x part r refused. subst (λ o. IfSome o HasNames) refused.rejection_is (line_names refused.refusal);
+  distinct = λ once x part out status r admitted answer refused. once.exclusive x part answer.run refused.refusal (not_memory refused.refusal r refused.rejection_is) answer.read refused.refused;
+  one_refusal = λ once x part r s admitted one other. refused_once once x part r s one other;
+  one_answer = λ once x part out out' status status' admitted determined one other. replayed_once once x part out out' status status' admitted one other;
+}

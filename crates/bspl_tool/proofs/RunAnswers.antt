@@ -1,5 +1,5 @@
 -- What `run` answers, from what is read, verified and played.
-use Rattle.std.proofs.Common.{◌≡◌, ◌≢◌, ℕ, Bool, List, [], refl, sym, subst, ◌++◌}
+use Rattle.std.proofs.Common.{◌≡◌, ◌≢◌, ℕ, Bool, List, [], refl, sym, ◌∙◌, subst, append-nil}
 use Rattle.adapter.specs.Desk.{DeskState}
 use Rattle.agent_scripts.specs.declared.plan.Plan.{Plan}
 use Rattle.agent_scripts.specs.declared.refusal.ScriptRefusal.{ScriptRefusal}
@@ -16,14 +16,20 @@ use Rattle.verdict.specs.declared.outcome.Safety.{Safety}
 use Rattle.verdict.specs.declared.outcome.Safety.TheVariants.{Safe, Undecided, Unsafe}
 use Rattle.verdict.specs.declared.outcome.Verdicts.{Verdicts}
 use Rattle.world_run.specs.Finished.{IsFinished}
+use Rattle.world_run.specs.Settling.{HaveRunWhole}
 use Rattle.world_run.specs.World.{HasHistories, histories_of}
 use Rattle.tool_input.specs.declared.rejection.Code.TheVariants.{S}
 use Rattle.tool_input.specs.declared.rejection.Field.TheVariants as field
-use Rattle.bspl_tool.specs.declared.reply.Reply.{Reply}
+use Rattle.program_frame.specs.declared.reply.Reply.{Reply}
+use Rattle.tool_input.specs.declared.status.Status.{Status}
+use Rattle.verdict.specs.Right.{IsRight}
+use Rattle.enactment_model.specs.Safety.{SafeProtocol}
+use Rattle.bspl_tool.specs.declared.answer.Answer.TheVariants.{Whole, Play}
 use Rattle.bspl_tool.specs.RunAnswer.{script_rejection}
 use Rattle.tool_input.specs.Rejection.{with_one}
 use Rattle.bspl_tool.specs.RunAnswer.{AgentsText, IsJobAnswer, IsPlayedText, IsRunAnswer, IsRunRefused, bad_script}
-use Rattle.bspl_tool.specs.VerifyAnswer.{IsVerdictAnswer}
+use Rattle.bspl_tool.specs.VerifyAnswer.{IsVerdictAnswer, verdict_status}
+use Rattle.bspl_tool.specs.inner.Answer.{IsRightAnswer}
 use Rattle.bspl_tool.specs.inner.Job.{IsGivenJob}
 use Rattle.bspl_tool.specs.inner.Error.{RejectsFor, error_for}
 
@@ -39,37 +45,56 @@ script_refused threads x part NoMemory refused = tt
 pub given_job : (x : Expanded) (part : List ℕ) (script : Script) (plan : Plan) (job : Job) → job ≡ record { protocol = x; script = script; plan = plan } → IsScriptText x part script plan → IsGivenJob x part job
 given_job x part script plan job is given = rw is (record { protocol = refl; given = given })
 
--- its answer is that of the command
-pub given_answer : (brief : Bool) (budget threads : ℕ) (x : Expanded) (part : List ℕ) (job : Job) (reply : Reply) → threads ≡ 0 → IsGivenJob x part job → IsJobAnswer brief budget job reply.text reply.status → IsRunAnswer brief budget threads x part reply.text reply.status
-given_answer brief budget threads x part job reply no_threads given answer = record {
+-- the text that reports on a world which has come to its end
+pub finished_text : (job : Job) (x : Expanded) (script : Script) (desks : List DeskState) (text : List ℕ) → x ≡ job.protocol → script ≡ job.script → IsFinished job desks → HaveRunWhole job desks → ((run : List Event) → AreLocal x (histories_of desks) → HasHistories x desks run → IsWorldText x script run text) → IsPlayedText job text
+finished_text job x script desks text same same_script finished course reports =
+    let local = subst (λ y. AreLocal y (histories_of desks)) (sym same) finished.local in
+    let histories = subst (λ y. HasHistories y desks finished.run) (sym same) finished.played_out.run_is.histories_kept in
+    let text_is = subst (λ y. IsWorldText y script finished.run text) same (reports finished.run local histories) in
+    record { desks = desks; finished = finished; course = course; text_is = subst (λ s. IsWorldText job.protocol s finished.run text) same_script text_is }
+
+-- an answer to the job is one of the command
+given_answer : (brief : Bool) (budget threads : ℕ) (x : Expanded) (part : List ℕ) (job : Job) (out : List ℕ) (status : Status) → threads ≡ 0 → IsGivenJob x part job → IsJobAnswer brief budget job out status → IsRunAnswer brief budget threads x part out status
+given_answer brief budget threads x part job out status no_threads given answer = record {
   no_threads = no_threads;
   script = job.script;
   plan = job.plan;
   given = given.given;
-  answer = subst (λ y. IsJobAnswer brief budget (record { protocol = y; script = job.script; plan = job.plan }) reply.text reply.status) given.protocol answer;
+  answer = subst (λ y. IsJobAnswer brief budget (record { protocol = y; script = job.script; plan = job.plan }) out status) given.protocol answer;
 }
 
--- the text that reports on a world which has come to its end
-pub finished_text : (job : Job) (x : Expanded) (script : Script) (desks : List DeskState) (text : List ℕ) → x ≡ job.protocol → script ≡ job.script → IsFinished job desks → ((run : List Event) → AreLocal x (histories_of desks) → HasHistories x desks run → IsWorldText x script run text) → IsPlayedText job text
-finished_text job x script desks text same same_script finished reports =
-    let local = subst (λ y. AreLocal y (histories_of desks)) (sym same) finished.local in
-    let histories = subst (λ y. HasHistories y desks finished.run) (sym same) finished.played_out.run_is.histories_kept in
-    let text_is = subst (λ y. IsWorldText y script finished.run text) same (reports finished.run local histories) in
-    record { desks = desks; finished = finished; text_is = subst (λ s. IsWorldText job.protocol s finished.run text) same_script text_is }
-
 -- no agents play a protocol that is not found safe
-pub nothing_played : (job : Job) (safety : Safety) → ((log : Log) → safety ≢ Safe log) → AgentsText job safety []
+nothing_played : (job : Job) (safety : Safety) → ((log : Log) → safety ≢ Safe log) → AgentsText job safety []
 nothing_played job (Safe log) other = absurd (other log refl)
 nothing_played job (Unsafe run param first second) other = refl
 nothing_played job (Undecided log) other = refl
 
--- the reply of verdicts, and then what the agents play, is the answer
-pub job_answered : (brief : Bool) (budget : ℕ) (job : Job) (v : Verdicts) (verified : Reply) (played : List ℕ) (reply : Reply) → IsVerdictAnswer brief budget job.protocol v verified.text verified.status → AgentsText job v.safety played → reply ≡ record verified { text = verified.text ++ played } → IsJobAnswer brief budget job reply.text reply.status
-job_answered brief budget job v verified played reply answer agents is = rw is (record {
-  verdicts = v;
-  verdict_text = verified.text;
-  verified = answer;
-  agents_text = played;
-  played = agents;
-  text = refl;
-})
+-- where the protocol is not found safe, the reply of right verdicts is the answer
+pub verdicts_answer : (brief : Bool) (budget threads : ℕ) (x : Expanded) (part : List ℕ) (job : Job) (v : Verdicts) (so_far : Reply Status) → threads ≡ 0 → IsGivenJob x part job → IsVerdictAnswer brief budget job.protocol v so_far.text → so_far.status ≡ verdict_status v.safety v.liveness → ((log : Log) → v.safety ≢ Safe log) → IsRightAnswer (IsRunAnswer brief budget threads x part) (Whole so_far)
+verdicts_answer brief budget threads x part job v so_far no_threads given verified ends unsafe = λ out status completes.
+    given_answer brief budget threads x part job out status no_threads given (record {
+      verdicts = v;
+      verdict_text = so_far.text;
+      verified = verified;
+      ends = completes.1 ∙ ends;
+      agents_text = [];
+      played = nothing_played job v.safety unsafe;
+      text = completes.0 ∙ sym (append-nil so_far.text);
+    })
+
+-- where it is, the answer is that reply, and then what the agents play
+pub playing_answer : (brief : Bool) (budget threads : ℕ) (x : Expanded) (part : List ℕ) (job : Job) (v : Verdicts) (log : Log) (so_far : Reply Status) → threads ≡ 0 → IsGivenJob x part job → IsVerdictAnswer brief budget job.protocol v so_far.text → so_far.status ≡ verdict_status v.safety v.liveness → v.safety ≡ Safe log → IsRightAnswer (IsRunAnswer brief budget threads x part) (Play job so_far)
+playing_answer brief budget threads x part job v log so_far no_threads given verified ends safe = λ out status completes.
+    given_answer brief budget threads x part job out status no_threads given (record {
+      verdicts = v;
+      verdict_text = so_far.text;
+      verified = verified;
+      ends = completes.ends ∙ ends;
+      agents_text = completes.played;
+      played = subst (λ s. AgentsText job s completes.played) (sym safe) completes.is_played;
+      text = completes.text;
+    })
+
+-- a protocol that is found safe by right verdicts is safe
+pub found_safe : (budget : ℕ) (x : Expanded) (s : Safety) (log : Log) → IsRight x budget s → s ≡ Safe log → SafeProtocol x
+found_safe budget x s log right is = (subst (IsRight x budget) is right).holds

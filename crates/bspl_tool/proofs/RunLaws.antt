@@ -9,19 +9,17 @@ use Rattle.agent_scripts.specs.Refusal.{IsScriptText}
 use Rattle.agent_scripts.specs.Script.{Script}
 use Rattle.bspl_types.specs.declared.expanded.Expanded.{Expanded}
 use Rattle.bspl_types.specs.Admission.{IsAdmitted}
-use Rattle.script_reader.specs.Laws.{OneRefusal, ScriptIsNotRefused}
+use Rattle.script_text.specs.Laws.{OneRefusal, ScriptIsNotRefused}
 use Rattle.verdict.specs.declared.outcome.Safety.{Safety}
 use Rattle.verdict.specs.declared.outcome.Safety.TheVariants.{Safe, Undecided, Unsafe}
 use Rattle.tool_input.specs.declared.rejection.Rejection.{Rejection}
-use Rattle.bspl_tool.specs.declared.request.Task.TheVariants.{Run}
-use Rattle.bspl_tool.specs.declared.status.Status.{Status}
-use Rattle.bspl_tool.specs.Answer.{IsAnswer, IsPartRefused}
+use Rattle.tool_input.specs.declared.status.Status.{Status}
 use Rattle.bspl_tool.specs.RunAnswer.{script_rejection}
-use Rattle.bspl_tool.specs.RunAnswer.{AgentsText, IsRunAnswer, IsRunRefused, IsScriptRefused, bad_script, not_supported}
+use Rattle.bspl_tool.specs.RunAnswer.{AgentsText, IsRunAnswer, IsRunRefused, IsScriptRefused, bad_script, not_supported, run_rules}
 use Rattle.bspl_tool.proofs.ClaimsNothing.{IsBlock, no_lines}
-use Rattle.bspl_tool.proofs.CommandLaws.{CommandLaws, CommandTexts, IsEnd, IsHonest}
+use Rattle.bspl_tool.proofs.CommandLaws.{CommandLaws, IsHonest}
 use Rattle.bspl_tool.proofs.RejectedNames.{HasNames}
-use Rattle.bspl_tool.proofs.VerifyLaws.{verdict_ends, verdict_is_honest}
+use Rattle.bspl_tool.proofs.VerifyLaws.{verdict_is_honest}
 use Rattle.bspl_tool.proofs.WorldLines.{world_text_is_block}
 
 -- the text of agents is read once
@@ -55,14 +53,6 @@ run_names : (threads : ℕ) (x : Expanded) (part : List ℕ) {r : Rejection} →
 run_names threads x part (bad_script r refused) = subst (λ o. IfSome o HasNames) refused.rejection_is (line_names refused.refusal)
 run_names threads x part (not_supported script plan given more) = record { first = tt; second = tt }
 
--- what is said
-pub run_texts : (brief : Bool) (budget threads : ℕ) → CommandTexts (IsAnswer (Run brief budget threads)) (IsPartRefused (Run brief budget threads))
-run_texts brief budget threads = record {
-  ends = λ x part out status answer. subst IsEnd (sym answer.answer.verified.ends) (verdict_ends answer.answer.verdicts.safety answer.answer.verdicts.liveness);
-  honest = run_is_honest brief budget threads;
-  names = λ x part r refused. run_names threads x part refused;
-}
-
 -- a text that is read is refused for threads alone
 read_or_refused : OneAgents → (threads : ℕ) (x : Expanded) (part : List ℕ) (script : Script) (plan : Plan) {r : Rejection} → IsAdmitted x → IsScriptText x part script plan → threads ≡ 0 → IsRunRefused threads x part r → ⊥
 read_or_refused once threads x part script plan admitted given none (bad_script r refused) = once.exclusive x part script plan refused.refusal admitted given refused.refused
@@ -82,9 +72,12 @@ refused_once once threads x part admitted (bad_script r one) (not_supported scri
 refused_once once threads x part admitted (not_supported script plan given more) (bad_script s other) = absurd (once.exclusive x part script plan other.refusal admitted given other.refused)
 refused_once once threads x part admitted (not_supported script plan given more) (not_supported script' plan' given' more') = refl
 
--- and how it excludes the rest
-pub run_laws : OneAgents → (brief : Bool) (budget threads : ℕ) → CommandLaws (IsAnswer (Run brief budget threads)) (IsPartRefused (Run brief budget threads))
-run_laws once brief budget threads = record {
-  distinct = λ x part out status r admitted answer refused. read_or_refused once threads x part answer.script answer.plan admitted answer.given answer.no_threads refused;
-  one_refusal = λ x part r s admitted one other. refused_once once threads x part admitted one other;
+-- the laws of the command
+pub run_laws : (brief : Bool) (budget threads : ℕ) → CommandLaws OneAgents (run_rules brief budget threads)
+run_laws brief budget threads = record {
+  honest = run_is_honest brief budget threads;
+  names = λ x part r refused. run_names threads x part refused;
+  distinct = λ once x part out status r admitted answer refused. read_or_refused once threads x part answer.script answer.plan admitted answer.given answer.no_threads refused;
+  one_refusal = λ once x part r s admitted one other. refused_once once threads x part admitted one other;
+  one_answer = λ once x part out out' status status' admitted determined one other. absurd determined;
 }

@@ -10,7 +10,6 @@ use Rattle.refutation_log.specs.declared.refutation.Kind.{Kind}
 use Rattle.refutation_log.specs.declared.refutation.Kind.TheVariants as kinds
 use Rattle.refutation_log.specs.declared.refutation.Log.{Log}
 use Rattle.refutation_log.specs.LogText.{line_of}
-use Rattle.report.specs.ReplayLines.{param_name}
 use Rattle.report.specs.VerdictText.{liveness_text, log_part, not_live_line, protocol_line, safety_text, undecided_line, unsafe_line, verdict_text}
 use Rattle.verdict.specs.declared.outcome.Liveness.{Liveness as LivenessVerdict}
 use Rattle.verdict.specs.declared.outcome.Liveness.TheVariants as liveness
@@ -20,15 +19,14 @@ use Rattle.verdict.specs.declared.outcome.Verdicts.{Verdicts}
 use Rattle.verdict.specs.Right.{IsRight}
 use Rattle.verdict.specs.RightLiveness.{IsRightLiveness}
 use Rattle.verdict.specs.Verdicts.{AreRight}
-use Rattle.bspl_tool.specs.declared.request.Task.TheVariants.{Verify}
-use Rattle.bspl_tool.specs.Answer.{IsAnswer, IsPartRefused}
-use Rattle.bspl_tool.specs.VerifyAnswer.{verdict_status}
+use Rattle.bspl_tool.specs.VerifyAnswer.{verify_rules}
 use Rattle.bspl_tool.proofs.ClaimsNothing.{Avoids, IsBlock, IsBlockWithout, block_joined, closed, joined_without, liveness_lines, no_lines, no_liveness, no_safety, safety_lines}
-use Rattle.bspl_tool.proofs.CommandLaws.{CommandLaws, CommandTexts, IsEnd, IsHonest, honest_if}
+use Rattle.bspl_tool.proofs.CommandLaws.{CommandLaws, IsHonest, honest_if}
 use Rattle.bspl_tool.proofs.EvidenceLines.{log_is_block, param_has_no_lf, run_is_block}
 use Rattle.bspl_tool.proofs.FieldBytes.{fields_are_block}
 use Rattle.bspl_tool.proofs.NameBytes.{name_has_no_lf}
 use Rattle.bspl_tool.proofs.Unbroken.{decimal_has_no_lf, has_lf}
+use Rattle.bspl_types.specs.Expansion.{param_name}
 
 -- the line of the protocol
 protocol_is_block : (x : Expanded) → IsBlock (protocol_line x)
@@ -117,28 +115,13 @@ verdict_is_honest brief budget x v more n right block =
     (more_avoids safety_lines refl text more (safety_part brief budget x v right.safety) (no_safety block))
     (more_avoids liveness_lines refl text more (liveness_part brief budget x v right.liveness) (no_liveness block))
 
--- verdicts end in a status of their own
-pub verdict_ends : (s : SafetyVerdict) (l : LivenessVerdict) → IsEnd (verdict_status s l)
-verdict_ends (Unsafe run param first second) l = tt
-verdict_ends (Safe log) (liveness.NotLive run param) = tt
-verdict_ends (Safe log) (liveness.Undecided log') = tt
-verdict_ends (Safe log) (liveness.Live log') = tt
-verdict_ends (Undecided log) (liveness.NotLive run param) = tt
-verdict_ends (Undecided log) (liveness.Undecided log') = tt
-verdict_ends (Undecided log) (liveness.Live log') = tt
-
--- what is said
-pub verify_texts : (brief : Bool) (budget : ℕ) → CommandTexts (IsAnswer (Verify brief budget)) (IsPartRefused (Verify brief budget))
-verify_texts brief budget = record {
-  ends = λ x part out status given. subst IsEnd (sym given.answer.ends) (verdict_ends given.verdicts.safety given.verdicts.liveness);
+-- verdicts claim only what is true, and no protocol is refused
+pub verify_laws : {Once : Type 0} (brief : Bool) (budget : ℕ) → CommandLaws Once (verify_rules brief budget)
+verify_laws brief budget = record {
   honest = λ x part out status n given.
       subst (λ text. IsHonest x (take n text)) (append-nil (verdict_text x given.verdicts brief) ∙ sym given.answer.text) (verdict_is_honest brief budget x given.verdicts [] n given.answer.right no_lines);
   names = λ x part r refused. absurd refused;
-}
-
--- and no protocol is refused
-pub verify_laws : (brief : Bool) (budget : ℕ) → CommandLaws (IsAnswer (Verify brief budget)) (IsPartRefused (Verify brief budget))
-verify_laws brief budget = record {
-  distinct = λ x part out status r admitted answer refused. refused;
-  one_refusal = λ x part r s admitted one other. absurd one;
+  distinct = λ once x part out status r admitted answer refused. refused;
+  one_refusal = λ once x part r s admitted one other. absurd one;
+  one_answer = λ once x part out out' status status' admitted determined one other. absurd determined;
 }

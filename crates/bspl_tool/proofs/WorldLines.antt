@@ -8,9 +8,8 @@ use Rattle.bspl_types.specs.declared.event.Event.{Event}
 use Rattle.bspl_types.specs.declared.expanded.Expanded.{Expanded}
 use Rattle.bspl_types.specs.declared.protocol.Message.{Message}
 use Rattle.bspl_types.specs.declared.value.Value.{Value}
-use Rattle.bspl_types.specs.Expansion.{message_of}
+use Rattle.bspl_types.specs.Expansion.{message_of, param_name}
 use Rattle.bspl_types.specs.ValueSpelling.{value_spelling}
-use Rattle.report.specs.ReplayLines.{param_name}
 use Rattle.report.specs.WorldText.{IsRowLine, IsWorldText, cell_field, message_line, receives, row_line, sends, world_line}
 use Rattle.bspl_tool.proofs.ClaimsNothing.{IsBlock, block_joined, no_lines}
 use Rattle.bspl_tool.proofs.EvidenceLines.{message_has_no_lf, param_has_no_lf}

@@ -1,5 +1,5 @@
 -- What `check` answers on an admitted protocol and the text of a log.
-use Rattle.std.specs.Prelude.{◌≡◌, ◌⊎◌, ℕ, List, Option, None, Some}
+use Rattle.std.specs.Prelude.{◌≡◌, ◌⊎◌, ℕ, List, Option, None, Some, ⊤}
 use Rattle.bspl_types.specs.declared.expanded.Expanded.{Expanded}
 use Rattle.log_checker.specs.declared.refusal.Reject.{Reject}
 use Rattle.protocol_check.specs.Check.{AcceptsLiveness, AcceptsSafety, FailsLiveness, FailsSafety}
@@ -12,12 +12,14 @@ use Rattle.refutation_log.specs.LogText.{IsTextOf}
 use Rattle.refutation_log.specs.Refusal.{IsRefusedLog}
 use Rattle.bspl_tool.specs.declared.claim.Claim.{Claim}
 use Rattle.bspl_tool.specs.declared.claim.Claim.TheVariants.{AcceptedLiveness, AcceptedSafety}
+use Rattle.tool_input.specs.declared.parts.Part.TheVariants as part
 use Rattle.tool_input.specs.declared.rejection.Code.TheVariants.{L}
 use Rattle.tool_input.specs.declared.rejection.Field.TheVariants as field
 use Rattle.tool_input.specs.declared.rejection.Rejection.{Rejection}
 use Rattle.tool_input.specs.Rejection.{with_one}
-use Rattle.bspl_tool.specs.declared.status.Status.{Status}
-use Rattle.bspl_tool.specs.declared.status.Status.TheVariants.{Done, Refuted}
+use Rattle.tool_input.specs.declared.status.Status.{Status}
+use Rattle.tool_input.specs.declared.status.Status.TheVariants.{Done, Refuted}
+use Rattle.bspl_tool.specs.Rules.{CommandRules}
 use Rattle.bspl_tool.specs.Claims.{IsClaimTrue, claim_line}
 use Rattle.tool_input.specs.Lines.{line}
 use Rattle.bspl_tool.specs.Texts.{reject_text}
@@ -77,3 +79,12 @@ pub record IsCheckRefused (part : List ℕ) (rejection : Rejection) : Type 0 whe
   pub refusal : LogRefusal
   pub refused : IsRefusedLog part refusal
   pub rejection_is : log_rejection refusal ≡ Some rejection
+
+-- it needs a log, and gives one answer or one refusal of it
+abbrev pub check_rules : CommandRules
+check_rules = record {
+  part = Some part.Log;
+  answers = IsCheckAnswer;
+  refuses = λ x. IsCheckRefused;
+  is_determined = ⊤;
+}

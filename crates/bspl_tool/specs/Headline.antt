@@ -1,13 +1,15 @@
--- The headline: what each line of an output claims is true of the protocol that was judged.
+-- The headline: what each of the four lines that claim a property says is true of the protocol that
+-- was judged.
 use Rattle.std.specs.Prelude.{◌≡◌, ℕ, List, ◌++◌, Option, IfSome}
 use Rattle.bspl_types.specs.declared.expanded.Expanded.{Expanded}
 use Rattle.bspl_io.specs.Traffic.{Traffic}
 use Rattle.bspl_tool.specs.declared.claim.Claim.{Claim}
-use Rattle.bspl_tool.specs.declared.request.Task.{Task}
-use Rattle.bspl_tool.specs.Call.{AreRemaining}
+use Rattle.bspl_tool.specs.declared.task.Task.{Task}
+use Rattle.program_frame.specs.Call.{AreRemaining}
+use Rattle.tool_input.specs.Input.{Declares}
 use Rattle.bspl_tool.specs.Claims.{IsClaimTrue, claim_line}
 use Rattle.bspl_tool.specs.Request.{Requests}
-use Rattle.bspl_tool.specs.Task.{Judged}
+use Rattle.bspl_tool.specs.Task.{judged_text}
 use Rattle.bspl_tool.specs.Texts.{SaysLine}
 
 -- the arguments request a task that judges the protocol on the bytes that remain
@@ -18,9 +20,10 @@ pub record IsJudged (args : List (List ℕ)) (remaining : Option (List ℕ))
   pub requested : Requests args task name
   pub bytes : List ℕ
   pub input : AreRemaining remaining bytes
-  pub judged : Judged task name bytes x
+  pub judged : Declares name (judged_text task bytes) x
 
--- what each line of the output claims is true of the protocol that is judged
+-- what each of the four lines that claim a property says, if the output has it, is true of the
+-- protocol that is judged
 pub record IsTrueOf (args : List (List ℕ)) (remaining : Option (List ℕ))
     (out : List ℕ) : Type 0 where
   pub claimed : (claim : Claim) → SaysLine out (claim_line claim) →

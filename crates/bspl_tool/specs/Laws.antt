@@ -1,15 +1,24 @@
--- Which outputs are the only ones.
+-- What calls say, and which outputs are the only ones.
 use Rattle.std.specs.Prelude.{◌≡◌, ℕ, List}
+use Rattle.bspl_io.specs.Traffic.{Traffic}
+use Rattle.program_frame.specs.declared.ending.Ending.{Ending}
 use Rattle.tool_input.specs.declared.rejection.Rejection.{Rejection}
-use Rattle.bspl_tool.specs.declared.request.Task.{Task}
-use Rattle.bspl_tool.specs.declared.status.Status.{Status}
-use Rattle.bspl_tool.specs.declared.status.Status.TheVariants.{Usage, Refused}
+use Rattle.bspl_tool.specs.Call.{IsToolCall}
+use Rattle.bspl_tool.specs.Headline.{TrueWhereSaid}
+use Rattle.bspl_tool.specs.declared.task.Task.{Task}
+use Rattle.tool_input.specs.declared.status.Status.{Status}
+use Rattle.tool_input.specs.declared.status.Status.TheVariants.{Usage, Refused}
 use Rattle.bspl_tool.specs.Output.{Output}
 use Rattle.bspl_tool.specs.Refusals.{Refuses}
 use Rattle.tool_input.specs.Rejection.{rejection_line}
 use Rattle.bspl_tool.specs.Request.{HasCommandLine, Requests}
-use Rattle.bspl_tool.specs.Task.{IsDetermined}
+use Rattle.bspl_tool.specs.Task.{rules_of}
 use Rattle.bspl_tool.specs.Texts.{usage_text}
+
+-- what a call writes claims only what is true of the protocol that it judges
+abbrev pub CallsAreTrue : Type 0
+CallsAreTrue = (args : List (List ℕ)) (t : Traffic) (ending : Ending Status)
+    → IsToolCall args t ending → TrueWhereSaid args t
 
 -- the output and the status are these
 abbrev pub IsOutput : List ℕ → Status → List ℕ → Status → Type 0
@@ -35,5 +44,5 @@ RefusalIsAll = (args : List (List ℕ)) (bytes out : List ℕ) (r : Rejection) (
 abbrev pub OneAnswer : Type 0
 OneAnswer = (args : List (List ℕ)) (bytes : List ℕ) (task : Task) (name out out' : List ℕ)
     (status status' : Status) → Requests args task name
-    → IsDetermined task → Output args bytes out status → Output args bytes out' status'
+    → (rules_of task).is_determined → Output args bytes out status → Output args bytes out' status'
     → IsOutput out status out' status'

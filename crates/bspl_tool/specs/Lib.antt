@@ -5,7 +5,7 @@ pub mod Call
 pub mod Output
 pub mod Request
 pub mod Task
-pub mod Answer
+pub mod Rules
 pub mod ExpandAnswer
 pub mod CheckAnswer
 pub mod VerifyAnswer
@@ -13,6 +13,5 @@ pub mod ReplayAnswer
 pub mod RunAnswer
 pub mod Refusals
 pub mod Texts
-pub mod Status
 pub mod Laws
 pub mod inner

@@ -2,24 +2,24 @@
 use Rattle.std.specs.Prelude.{ℕ, List}
 use Rattle.bspl_types.specs.declared.expanded.Expanded.{Expanded}
 use Rattle.tool_input.specs.declared.rejection.Rejection.{Rejection}
-use Rattle.bspl_tool.specs.declared.request.Task.{Task}
-use Rattle.bspl_tool.specs.declared.status.Status.{Status}
-use Rattle.bspl_tool.specs.declared.status.Status.TheVariants.{Usage, Refused}
-use Rattle.bspl_tool.specs.Answer.{IsAnswer}
+use Rattle.tool_input.specs.declared.status.Status.{Status}
+use Rattle.tool_input.specs.declared.status.Status.TheVariants.{Usage, Refused}
+use Rattle.tool_input.specs.Input.{Declares}
 use Rattle.tool_input.specs.NeededPart.{HasPart}
-use Rattle.bspl_tool.specs.Refusals.{IsRead, Refuses}
 use Rattle.tool_input.specs.Rejection.{rejection_line}
+use Rattle.bspl_tool.specs.declared.task.Task.{Task}
+use Rattle.bspl_tool.specs.Refusals.{IsRead, Refuses}
 use Rattle.bspl_tool.specs.Request.{HasCommandLine}
-use Rattle.bspl_tool.specs.Task.{Judged, part_of}
+use Rattle.bspl_tool.specs.Task.{judged_text, rules_of}
 use Rattle.bspl_tool.specs.Texts.{usage_text}
 
 -- a right answer to the task on the protocol that it judges, with the part that it needs
 pub record AnswersInput (task : Task) (name input out : List ℕ) (status : Status) : Type 0 where
   pub part : List ℕ
-  pub has_part : HasPart (part_of task) input part
+  pub has_part : HasPart (rules_of task).part input part
   pub protocol : Expanded
-  pub judged : Judged task name input protocol
-  pub answer : IsAnswer task protocol part out status
+  pub judged : Declares name (judged_text task input) protocol
+  pub answer : (rules_of task).answers protocol part out status
 
 -- the arguments request a task, and the output is a right answer to it
 pub record IsDone (args : List (List ℕ)) (bytes out : List ℕ) (status : Status) : Type 0 where

@@ -1,5 +1,5 @@
 -- What `replay` answers on an admitted protocol and the text of a run.
-use Rattle.std.specs.Prelude.{◌≡◌, ◌⊎◌, ℕ, List, Option, None, Some}
+use Rattle.std.specs.Prelude.{◌≡◌, ◌⊎◌, ℕ, List, Option, None, Some, ⊤}
 use Rattle.bspl_types.specs.declared.event.Event.{Event}
 use Rattle.bspl_types.specs.declared.expanded.Expanded.{Expanded}
 use Rattle.enactment_model.specs.Legal.{IsLegal}
@@ -8,12 +8,14 @@ use Rattle.run_text.specs.declared.refusal.RunRefusal.{RunRefusal}
 use Rattle.run_text.specs.declared.refusal.RunRefusal.TheVariants as run
 use Rattle.run_text.specs.Refusal.{IsRefusedRun}
 use Rattle.run_text.specs.RunText.{IsRunText}
+use Rattle.tool_input.specs.declared.parts.Part.TheVariants as part
 use Rattle.tool_input.specs.declared.rejection.Code.TheVariants.{W}
 use Rattle.tool_input.specs.declared.rejection.Field.TheVariants as field
 use Rattle.tool_input.specs.declared.rejection.Rejection.{Rejection}
 use Rattle.tool_input.specs.Rejection.{with_one}
-use Rattle.bspl_tool.specs.declared.status.Status.{Status}
-use Rattle.bspl_tool.specs.declared.status.Status.TheVariants.{Done, Refuted}
+use Rattle.tool_input.specs.declared.status.Status.{Status}
+use Rattle.tool_input.specs.declared.status.Status.TheVariants.{Done, Refuted}
+use Rattle.bspl_tool.specs.Rules.{CommandRules}
 
 -- the status says whether the run is legal
 abbrev pub SaysLegal : Expanded → List Event → Status → Type 0
@@ -37,3 +39,12 @@ pub record IsReplayRefused (x : Expanded) (part : List ℕ) (rejection : Rejecti
   pub refusal : RunRefusal
   pub refused : IsRefusedRun x part refusal
   pub rejection_is : run_rejection refusal ≡ Some rejection
+
+-- it needs a run, and gives one answer or one refusal of it
+abbrev pub replay_rules : CommandRules
+replay_rules = record {
+  part = Some part.Run;
+  answers = IsReplayAnswer;
+  refuses = IsReplayRefused;
+  is_determined = ⊤;
+}

@@ -1,28 +1,17 @@
 -- What the arguments request.
-use Rattle.std.specs.Prelude.{◌≡◌, ℕ, Bool, List, Option, None, Some}
-use Rattle.command_line.specs.declared.command.Command.{Command}
-use Rattle.command_line.specs.declared.command.Command.TheVariants as command
+use Rattle.std.specs.Prelude.{◌≡◌, ℕ, List, Option, None, Some}
 use Rattle.command_line.specs.declared.line.CommandLine.{CommandLine}
 use Rattle.command_line.specs.declared.line.Subject.{Subject}
 use Rattle.command_line.specs.declared.line.Subject.TheVariants.{Protocol, Size}
 use Rattle.command_line.specs.Line.{IsCommandLine}
 use Rattle.bspl_tool.specs.declared.request.Request.{Request}
 use Rattle.bspl_tool.specs.declared.request.Request.TheVariants as request
-use Rattle.bspl_tool.specs.declared.request.Task.{Task}
-use Rattle.bspl_tool.specs.declared.request.Task.TheVariants.{Check, Expand, Replay, Run, Verify}
+use Rattle.bspl_tool.specs.declared.task.Task.{Task}
+use Rattle.bspl_tool.specs.Task.{task_of}
 
 -- the arguments are some command line
 abbrev pub HasCommandLine : List (List ℕ) → Type 0
 HasCommandLine args = (line : CommandLine) × IsCommandLine args line
-
--- the task of a command with its options, if the command is supported
-abbrev pub task_of : Command → Bool → ℕ → ℕ → Option Task
-task_of command.Verify brief conflicts threads = Some (Verify brief conflicts)
-task_of command.Check brief conflicts threads = Some Check
-task_of command.Replay brief conflicts threads = Some Replay
-task_of command.Expand brief conflicts threads = Some Expand
-task_of command.Run brief conflicts threads = Some (Run brief conflicts threads)
-task_of command.Generate brief conflicts threads = None
 
 -- the task of a command line
 abbrev pub line_task : CommandLine → Option Task
@@ -39,6 +28,12 @@ pub record Requests (args : List (List ℕ)) (task : Task) (name : List ℕ) : T
   pub is_line : IsCommandLine args line
   pub is_task : line_task line ≡ Some task
   pub about : IsAbout line.subject name
+
+-- the arguments ask for the input: each task reads it
+pub record RequestsInput (args : List (List ℕ)) : Type 0 where
+  pub task : Task
+  pub name : List ℕ
+  pub requested : Requests args task name
 
 -- the arguments are a command line of a command that is not supported
 pub record RequestsUnsupported (args : List (List ℕ)) : Type 0 where

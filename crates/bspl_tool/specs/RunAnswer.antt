@@ -13,18 +13,22 @@ use Rattle.verdict.specs.declared.outcome.Safety.{Safety}
 use Rattle.verdict.specs.declared.outcome.Safety.TheVariants.{Safe, Undecided, Unsafe}
 use Rattle.verdict.specs.declared.outcome.Verdicts.{Verdicts}
 use Rattle.world_run.specs.Finished.{IsFinished}
+use Rattle.world_run.specs.Settling.{HaveRunWhole}
+use Rattle.tool_input.specs.declared.parts.Part.TheVariants as part
 use Rattle.tool_input.specs.declared.rejection.Code.TheVariants.{S}
 use Rattle.tool_input.specs.declared.rejection.Field.TheVariants as field
 use Rattle.tool_input.specs.declared.rejection.Rejection.{Rejection}
-use Rattle.bspl_tool.specs.declared.status.Status.{Status}
-use Rattle.tool_input.specs.Rejection.{not_built, with_one}
-use Rattle.bspl_tool.specs.VerifyAnswer.{IsVerdictAnswer}
+use Rattle.tool_input.specs.declared.status.Status.{Status}
+use Rattle.tool_input.specs.Rejection.{unsupported_request, with_one}
+use Rattle.bspl_tool.specs.Rules.{CommandRules}
+use Rattle.bspl_tool.specs.VerifyAnswer.{IsVerdictAnswer, verdict_status}
 
--- the text of a world whose histories are local and explained, and whose merged run is legal,
--- played by the job's agents and settled
+-- the text of a world whose histories are local and explained, and whose merged run is legal; the
+-- job's agents played it from new desks to its end, in the order that the plan's seed gives
 pub record IsPlayedText (job : Job) (text : List ℕ) : Type 0 where
   pub desks : List DeskState
   pub finished : IsFinished job desks
+  pub course : HaveRunWhole job desks
   pub text_is : IsWorldText job.protocol job.script finished.run text
 
 -- the agents of a protocol that is found safe play, and their world is reported; else nothing is
@@ -39,7 +43,8 @@ pub record IsJobAnswer (brief : Bool) (budget : ℕ) (job : Job) (out : List ℕ
     (status : Status) : Type 0 where
   pub verdicts : Verdicts
   pub verdict_text : List ℕ
-  pub verified : IsVerdictAnswer brief budget job.protocol verdicts verdict_text status
+  pub verified : IsVerdictAnswer brief budget job.protocol verdicts verdict_text
+  pub ends : status ≡ verdict_status verdicts.safety verdicts.liveness
   pub agents_text : List ℕ
   pub played : AgentsText job verdicts.safety agents_text
   pub text : out ≡ verdict_text ++ agents_text
@@ -71,4 +76,13 @@ pub record IsScriptRefused (x : Expanded) (part : List ℕ) (rejection : Rejecti
 pub data IsRunRefused (threads : ℕ) (x : Expanded) (part : List ℕ) : Rejection → Type 0 where
   bad_script : (r : Rejection) → IsScriptRefused x part r → IsRunRefused threads x part r
   not_supported : (script : Script) (plan : Plan) → IsScriptText x part script plan → 0 < threads
-      → IsRunRefused threads x part not_built
+      → IsRunRefused threads x part unsupported_request
+
+-- it needs agents; its evidence may be another
+abbrev pub run_rules : Bool → ℕ → ℕ → CommandRules
+run_rules brief budget threads = record {
+  part = Some part.Agents;
+  answers = IsRunAnswer brief budget threads;
+  refuses = IsRunRefused threads;
+  is_determined = ⊥;
+}

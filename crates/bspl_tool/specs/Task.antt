@@ -1,55 +1,35 @@
--- What each command takes, and which protocol it judges.
-use Rattle.std.specs.Prelude.{ℕ, ◌≤◌, Bool, true, List, Option, None, Some}
-use Rattle.bspl_types.specs.declared.expanded.Expanded.{Expanded}
-use Rattle.tool_input.specs.declared.parts.Part.{Part}
-use Rattle.tool_input.specs.declared.parts.Part.TheVariants as part
-use Rattle.bspl_tool.specs.declared.request.Task.{Task}
-use Rattle.bspl_tool.specs.declared.request.Task.TheVariants.{Check, Expand, Replay, Run, Verify}
-use Rattle.tool_input.specs.Input.{Declares}
+-- The commands: one row of rules for each, and the row that a command line asks for.
+use Rattle.std.specs.Prelude.{ℕ, Bool, List, Option, None, Some}
+use Rattle.command_line.specs.declared.command.Command.{Command}
+use Rattle.command_line.specs.declared.command.Command.TheVariants as command
 use Rattle.tool_input.specs.Parts.{protocol_text}
+use Rattle.bspl_tool.specs.declared.task.Task.{Task}
+use Rattle.bspl_tool.specs.declared.task.Task.TheVariants.{Check, Expand, Replay, Run, Verify}
+use Rattle.bspl_tool.specs.CheckAnswer.{check_rules}
+use Rattle.bspl_tool.specs.ExpandAnswer.{expand_rules}
+use Rattle.bspl_tool.specs.ReplayAnswer.{replay_rules}
+use Rattle.bspl_tool.specs.Rules.{CommandRules}
+use Rattle.bspl_tool.specs.RunAnswer.{run_rules}
+use Rattle.bspl_tool.specs.VerifyAnswer.{verify_rules}
 
--- the part of the input that the command needs beside the protocol text
-abbrev pub part_of : Task → Option Part
-part_of Expand = None
-part_of (Verify brief conflicts) = None
-part_of Check = Some part.Log
-part_of Replay = Some part.Run
-part_of (Run brief conflicts threads) = Some part.Agents
+-- the rules of each task
+abbrev pub rules_of : Task → CommandRules
+rules_of Expand = expand_rules
+rules_of (Verify brief conflicts) = verify_rules brief conflicts
+rules_of Check = check_rules
+rules_of Replay = replay_rules
+rules_of (Run brief conflicts threads) = run_rules brief conflicts threads
 
--- the command reads the input
-abbrev pub reads_input : Task → Bool
-reads_input Expand = true
-reads_input (Verify brief conflicts) = true
-reads_input Check = true
-reads_input Replay = true
-reads_input (Run brief conflicts threads) = true
+-- the task of a command with its options, if the command is supported; whether threads play is a
+-- matter of the task, since a command line has a number of them for each command
+abbrev pub task_of : Command → Bool → ℕ → ℕ → Option Task
+task_of command.Verify brief conflicts threads = Some (Verify brief conflicts)
+task_of command.Check brief conflicts threads = Some Check
+task_of command.Replay brief conflicts threads = Some Replay
+task_of command.Expand brief conflicts threads = Some Expand
+task_of command.Run brief conflicts threads = Some (Run brief conflicts threads)
+task_of command.Generate brief conflicts threads = None
 
--- the protocol that the command judges: that of the name, as the input's protocol text declares it
-abbrev pub Judged : Task → List ℕ → List ℕ → Expanded → Type 0
-Judged Expand name bytes x = Declares name (protocol_text bytes) x
-Judged (Verify brief conflicts) name bytes x = Declares name (protocol_text bytes) x
-Judged Check name bytes x = Declares name (protocol_text bytes) x
-Judged Replay name bytes x = Declares name (protocol_text bytes) x
-Judged (Run brief conflicts threads) name bytes x = Declares name (protocol_text bytes) x
-
--- a number of conflicts that a command line may allow
-pub record IsBudget (conflicts : ℕ) : Type 0 where
-  pub least : 1 ≤ conflicts
-  pub most : conflicts ≤ 20000
-
--- the command's number of conflicts is such a number, if it has one
-abbrev pub HasBudget : Task → Type 0
-HasBudget Expand = Unit {0}
-HasBudget (Verify brief conflicts) = IsBudget conflicts
-HasBudget Check = Unit {0}
-HasBudget Replay = Unit {0}
-HasBudget (Run brief conflicts threads) = IsBudget conflicts
-
--- the command has one right output at most: all but `verify` and `run`, whose evidence may be
--- another
-abbrev pub IsDetermined : Task → Type 0
-IsDetermined Expand = Unit {0}
-IsDetermined (Verify brief conflicts) = ⊥
-IsDetermined Check = Unit {0}
-IsDetermined Replay = Unit {0}
-IsDetermined (Run brief conflicts threads) = ⊥
+-- the text that declares the protocol which the task judges: the protocol text of the input
+abbrev pub judged_text : Task → List ℕ → List ℕ
+judged_text task input = protocol_text input

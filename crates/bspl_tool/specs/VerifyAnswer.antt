@@ -1,5 +1,5 @@
 -- What `verify` answers on an admitted protocol.
-use Rattle.std.specs.Prelude.{◌≡◌, ℕ, Bool, List}
+use Rattle.std.specs.Prelude.{◌≡◌, ℕ, Bool, List, None}
 use Rattle.bspl_types.specs.declared.expanded.Expanded.{Expanded}
 use Rattle.enactment_model.specs.Producers.{HasOneProducer}
 use Rattle.report.specs.VerdictText.{verdict_text}
@@ -10,8 +10,9 @@ use Rattle.verdict.specs.declared.outcome.Safety.TheVariants as safety
 use Rattle.verdict.specs.declared.outcome.Verdicts.{Verdicts}
 use Rattle.verdict.specs.Right.{IsSafeByEmptyLog}
 use Rattle.verdict.specs.Verdicts.{AreRight}
-use Rattle.bspl_tool.specs.declared.status.Status.{Status}
-use Rattle.bspl_tool.specs.declared.status.Status.TheVariants.{Done, Refuted, Undecided}
+use Rattle.tool_input.specs.declared.status.Status.{Status}
+use Rattle.tool_input.specs.declared.status.Status.TheVariants.{Done, Refuted, Undecided}
+use Rattle.bspl_tool.specs.Rules.{CommandRules, NeverRefuses}
 
 -- the status of both verdicts: one that refutes counts first, then one that is undecided
 abbrev pub verdict_status : Safety → Liveness → Status
@@ -21,17 +22,26 @@ verdict_status (safety.Undecided log) l = Undecided
 verdict_status s (liveness.Undecided log) = Undecided
 verdict_status (safety.Safe log) (liveness.Live log') = Done
 
--- the verdicts are right, and this is their text and their status; without rival producers the
--- protocol is safe by an empty log
+-- the verdicts are right, and this is their text; without rival producers the protocol is safe by
+-- an empty log
 pub record IsVerdictAnswer (brief : Bool) (budget : ℕ) (x : Expanded) (v : Verdicts)
-    (out : List ℕ) (status : Status) : Type 0 where
+    (out : List ℕ) : Type 0 where
   pub right : AreRight x budget v
   pub single : HasOneProducer x → IsSafeByEmptyLog v.safety
   pub text : out ≡ verdict_text x v brief
-  pub ends : status ≡ verdict_status v.safety v.liveness
 
 -- the text and the status of some right verdicts
 pub record IsVerifyAnswer (brief : Bool) (budget : ℕ) (x : Expanded) (out : List ℕ)
     (status : Status) : Type 0 where
   pub verdicts : Verdicts
-  pub answer : IsVerdictAnswer brief budget x verdicts out status
+  pub answer : IsVerdictAnswer brief budget x verdicts out
+  pub ends : status ≡ verdict_status verdicts.safety verdicts.liveness
+
+-- it needs no part, and answers each admitted protocol; its evidence may be another
+abbrev pub verify_rules : Bool → ℕ → CommandRules
+verify_rules brief budget = record {
+  part = None;
+  answers = λ x part. IsVerifyAnswer brief budget x;
+  refuses = NeverRefuses;
+  is_determined = ⊥;
+}

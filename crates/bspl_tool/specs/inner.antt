@@ -1,4 +1,4 @@
 -- What private functions alone cite.
-pub mod Reply
+pub mod Answer
 pub mod Error
 pub mod Job

@@ -1,27 +1,16 @@
 ghost use Rattle.std.specs.Prelude.{◌≡◌};
-ghost use Rattle.tool_input.specs.Rejection.{input_rejection, text_rejection};
-ghost use Rattle.bspl_tool.specs.inner.Error.{error_for, read_error};
+ghost use Rattle.bspl_tool.specs.inner.Error.{error_for};
 
-use bspl_io::ReadRefusal;
 use bspl_types::{NoMemory, Refusal};
-use tool_input::{INPUT_LIMIT, InputRefusal, Rejection, input_rejection, text_rejection};
-
-/// Why nothing is to be written.
-#[derive(Clone, Copy, Debug, PartialEq, Eq)]
-pub enum Aborted {
-    /// Reading failed.
-    ReadFault,
-    /// Memory ran out.
-    NoMemory,
-}
+use tool_input::{InputRefusal, Rejection, input_rejection, text_rejection};
 
 /// Why there is no answer.
 #[derive(Drop)]
 pub enum AnswerError {
     /// The arguments or the input are refused.
     Rejected(Rejection),
-    /// Nothing is to be written.
-    Aborted(Aborted),
+    /// Memory ran out.
+    NoMemory,
 }
 
 /// The error for a rejection. Without one memory ran out.
@@ -30,29 +19,18 @@ pub fn error_for(rejection: Option<Rejection>) -> AnswerError
 {
     match rejection {
         Some(rejection) => AnswerError::Rejected(rejection),
-        None => AnswerError::Aborted(Aborted::NoMemory),
-    }
-}
-
-impl From<NoMemory> for Aborted {
-    ghost use Rattle.std.specs.Prelude.{◌≡◌};
-    ghost use Rattle.bspl_tool.specs.declared.answer_error.Aborted.TheVariants.{NoMemory};
-
-    ghost from_gives = { λ _ aborted. aborted ≡ NoMemory };
-
-    fn from(_error: NoMemory) -> Aborted {
-        Aborted::NoMemory
+        None => AnswerError::NoMemory,
     }
 }
 
 impl From<NoMemory> for AnswerError {
-    ghost use Rattle.std.specs.Prelude.{◌≡◌, None};
-    ghost use Rattle.bspl_tool.specs.inner.Error.{error_for};
+    ghost use Rattle.std.specs.Prelude.{◌≡◌};
+    ghost use Rattle.bspl_tool.specs.declared.answer_error.AnswerError.TheVariants.{NoMemory};
 
-    ghost from_gives = { λ _ error. error ≡ error_for None };
+    ghost from_gives = { λ _ error. error ≡ NoMemory };
 
     fn from(_error: NoMemory) -> AnswerError {
-        error_for(None)
+        AnswerError::NoMemory
     }
 }
 
@@ -77,20 +55,5 @@ impl From<Refusal> for AnswerError {
 
     fn from(refusal: Refusal) -> AnswerError {
         error_for(text_rejection(refusal))
-    }
-}
-
-impl From<ReadRefusal> for AnswerError {
-    ghost use Rattle.std.specs.Prelude.{◌≡◌};
-    ghost use Rattle.bspl_tool.specs.inner.Error.{read_error};
-
-    ghost from_gives = { λ refusal error. error ≡ read_error refusal };
-
-    fn from(refusal: ReadRefusal) -> AnswerError {
-        match refusal {
-            ReadRefusal::TooLong => AnswerError::from(InputRefusal::TooLong { limit: INPUT_LIMIT }),
-            ReadRefusal::ReadFault => AnswerError::Aborted(Aborted::ReadFault),
-            ReadRefusal::NoMemory => AnswerError::Aborted(Aborted::NoMemory),
-        }
     }
 }

@@ -1,22 +1,23 @@
 ghost use Rattle.std.specs.Prelude.{map, string_bytes};
-ghost use Rattle.bspl_tool.specs.Call.{AreCounted, IsCall};
+ghost use Rattle.program_frame.specs.Call.{AreCounted};
+ghost use Rattle.bspl_tool.specs.Call.{IsToolCall};
 ghost use Rattle.bspl_tool.specs.Headline.{TrueWhereSaid};
 
-use super::answer::reply_to;
-use super::answer_error::Aborted;
-use super::status::Status;
-use bspl_io::{Sink, Source, WriteRefusal, write_all};
+use super::laws::calls_are_true;
+use super::request::Request;
+use bspl_io::{Sink, Source};
+use program_frame::{Ending, serve};
 use std::alloc::Global;
+use tool_input::Status;
 
-/// Reads what the arguments request, and writes the answer. The whole text is made before its
-/// first byte is written.
+/// Reads what the arguments request, and writes the answer.
 pub fn bspl<R: Source, W: Sink>(
     alloc: Global,
     args: &[String],
     input: &mut R,
     output: &mut W,
-) -> Status
-    ensures call { IsCall (map string_bytes args.now) (record {
+) -> Ending<Status>
+    ensures call { IsToolCall (map string_bytes args.now) (record {
       remaining = R.remaining input.old;
       remaining_after = R.remaining input.new;
       contents = W.contents output.old;
@@ -38,14 +39,7 @@ pub fn bspl<R: Source, W: Sink>(
       contents_after = W.contents output.new;
     }) }
 {
-    let reply = match reply_to(alloc, args, input) {
-        Ok(reply) => reply,
-        Err(Aborted::ReadFault) => return Status::ReadFault,
-        Err(Aborted::NoMemory) => return Status::NoMemory,
-    };
-    match write_all(output, reply.text.as_slice()) {
-        Ok(()) => reply.status,
-        Err(WriteRefusal::WriteFault) => Status::WriteFault,
-        Err(WriteRefusal::NoMemory) => Status::NoMemory,
-    }
+    // law: what a call writes claims only what is true
+    calls_are_true();
+    serve::<Request<'_>, R, W>(alloc, args, input, output)
 }

@@ -2,27 +2,22 @@ ghost use Rattle.std.specs.Prelude.{◌≡◌, ◌≢◌, ◌≤◌, IfErr, IfOk
 ghost use Rattle.bspl_types.specs.Limits.{input_limit};
 ghost use Rattle.bspl_tool.specs.CheckAnswer.{Fails, IsAccepted, IsCheckAnswer, IsCheckRefused};
 ghost use Rattle.bspl_tool.specs.CheckAnswer.{log_rejection};
-ghost use Rattle.bspl_tool.specs.declared.status.Status.TheVariants as statuses;
-ghost use Rattle.bspl_tool.specs.Claims.{claim_line};
-ghost use Rattle.tool_input.specs.Lines.{line};
-ghost use Rattle.bspl_tool.specs.Texts.{reject_text};
 ghost use Rattle.bspl_tool.specs.inner.Error.{RejectsFor};
 
-use super::answer_error::{Aborted, AnswerError, error_for};
+use super::answer_error::{AnswerError, error_for};
 use super::claim::Claim;
-use super::reply::Reply;
-use super::status::Status;
 use super::texts::{claim_text, reject_text};
 use bspl_types::Admitted;
 use clause_encoding::{liveness_clauses_are_few, safety_clauses_are_few};
 use log_checker::Reject;
+use program_frame::Reply;
 use protocol_check::{check_liveness, check_safety};
 use refutation_log::{Kind, Log, LogRefusal, read_log, steps_are_fewer_than_bytes};
 use std::alloc::Global;
-use tool_input::{Code, Field, Rejection};
+use tool_input::{Code, Field, Rejection, Status};
 
 /// Answers `check` on the text of a log.
-pub fn check(alloc: Global, protocol: &Admitted, part: &[u8]) -> Result<Reply, AnswerError>
+pub fn check(alloc: Global, protocol: &Admitted, part: &[u8]) -> Result<Reply<Status>, AnswerError>
     requires { length part.now ≤ input_limit }
     ensures ok { IfOk result (λ reply.
         IsCheckAnswer protocol.now part.now reply.text reply.status) }
@@ -32,37 +27,16 @@ pub fn check(alloc: Global, protocol: &Admitted, part: &[u8]) -> Result<Reply, A
     steps_are_fewer_than_bytes();
     let (kind, log) = read_log(alloc, part)?;
     match claim_of(alloc, protocol, kind, &log) {
-        Ok(claim) => accepted_answer(alloc, claim),
-        Err(Reject::NoMemory) => Err(AnswerError::Aborted(Aborted::NoMemory)),
-        Err(reject) => rejected_answer(alloc, reject),
+        Ok(claim) => Ok(Reply {
+            status: Status::Done,
+            text: claim_text(alloc, claim)?,
+        }),
+        Err(Reject::NoMemory) => Err(AnswerError::NoMemory),
+        Err(reject) => Ok(Reply {
+            status: Status::Refuted,
+            text: reject_text(alloc, reject)?,
+        }),
     }
-}
-
-/// The answer to a log that proves the claim. It is never refused.
-fn accepted_answer(alloc: Global, claim: Claim) -> Result<Reply, AnswerError>
-    ensures ok { IfOk result (λ reply.
-        (reply.text ≡ line (claim_line claim)) × (reply.status ≡ statuses.Done)) }
-    ensures refused { IfErr result (RejectsFor (λ _. ⊥)) }
-{
-    let text = claim_text(alloc, claim)?;
-    Ok(Reply {
-        status: Status::Done,
-        text,
-    })
-}
-
-/// The answer to a log with this first failure. It is never refused.
-fn rejected_answer(alloc: Global, reject: Reject) -> Result<Reply, AnswerError>
-    requires { reject ≢ Reject.NoMemory }
-    ensures ok { IfOk result (λ reply.
-        (reply.text ≡ line (reject_text reject)) × (reply.status ≡ statuses.Refuted)) }
-    ensures refused { IfErr result (RejectsFor (λ _. ⊥)) }
-{
-    let text = reject_text(alloc, reject)?;
-    Ok(Reply {
-        status: Status::Refuted,
-        text,
-    })
 }
 
 /// What the log proves, checked against the protocol's formula of its kind, or its first failure.

@@ -1,7 +1,7 @@
 ghost use Rattle.std.specs.Prelude.{◌≡◌};
 ghost use Rattle.bspl_tool.specs.Claims.{claim_line};
 
-/// A line that claims something of the protocol that was judged.
+/// One of the four lines that claim a property of the protocol that was judged.
 #[derive(Clone, Copy, Debug, PartialEq, Eq)]
 pub enum Claim {
     /// A verdict: the protocol is safe.

@@ -1,14 +1,14 @@
 ghost use Rattle.std.specs.Prelude.{IfOk};
 ghost use Rattle.bspl_tool.specs.ExpandAnswer.{IsExpandAnswer};
 
-use super::reply::Reply;
-use super::status::Status;
 use bspl_types::{Admitted, NoMemory};
+use program_frame::Reply;
 use protocol_expand::print_expanded;
 use std::alloc::Global;
+use tool_input::Status;
 
 /// Answers `expand`.
-pub fn expand(alloc: Global, protocol: &Admitted) -> Result<Reply, NoMemory>
+pub fn expand(alloc: Global, protocol: &Admitted) -> Result<Reply<Status>, NoMemory>
     ensures { IfOk result (λ reply. IsExpandAnswer protocol.now reply.text reply.status) }
 {
     Ok(Reply {

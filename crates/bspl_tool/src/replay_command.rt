@@ -3,16 +3,15 @@ ghost use Rattle.bspl_tool.specs.ReplayAnswer.{IsReplayAnswer, IsReplayRefused, 
 ghost use Rattle.bspl_tool.specs.inner.Error.{RejectsFor};
 
 use super::answer_error::{AnswerError, error_for};
-use super::reply::Reply;
-use super::status::Status;
 use bspl_types::Admitted;
+use program_frame::Reply;
 use report::replay_text;
 use run_text::{RunRefusal, read_run};
 use std::alloc::Global;
-use tool_input::{Code, Field, Rejection};
+use tool_input::{Code, Field, Rejection, Status};
 
 /// Answers `replay` on the text of a run.
-pub fn replay(alloc: Global, protocol: &Admitted, part: &[u8]) -> Result<Reply, AnswerError>
+pub fn replay(alloc: Global, protocol: &Admitted, part: &[u8]) -> Result<Reply<Status>, AnswerError>
     ensures ok { IfOk result (λ reply.
         IsReplayAnswer protocol.now part.now reply.text reply.status) }
     ensures refused { IfErr result (RejectsFor (IsReplayRefused protocol.now part.now)) }

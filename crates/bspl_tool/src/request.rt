@@ -1,35 +1,16 @@
-ghost use Rattle.std.specs.Prelude.{◌≡◌, List, ℕ, IfOk, map, string_bytes};
+ghost use Rattle.std.specs.Prelude.{List, ℕ};
 ghost use Rattle.command_line.specs.Line.{IsCommandLine};
 ghost use Rattle.bspl_tool.specs.Request.{IsRequest};
-ghost use Rattle.bspl_tool.specs.Task.{part_of};
 
+use super::answer::{answer_input, finish};
+use super::answer_error::AnswerError;
+use super::task::{Task, task_of};
+use super::texts::usage;
 use bspl_types::NoMemory;
-use command_line::{Command, CommandLine, Subject, command_line};
+use command_line::{CommandLine, Subject, command_line, one_line};
+use program_frame::{Program, Reply};
 use std::alloc::Global;
-use tool_input::Part;
-
-/// What is done with the protocol that the arguments name.
-#[derive(Clone, Copy, Debug, PartialEq, Eq)]
-pub enum Task {
-    /// Its expansion is printed.
-    Expand,
-    /// It is verified, with at most these conflicts for each verdict. A brief verdict has no log.
-    Verify {
-        brief: bool,
-        conflicts: u32,
-    },
-    /// A log is checked against its safety or its liveness formula.
-    Check,
-    /// A run of it is replayed.
-    Replay,
-    /// It is verified likewise, and if it is safe, agents play it by their scripts. The number of
-    /// threads is that for each role; with 0 all roles share one thread.
-    Run {
-        brief: bool,
-        conflicts: u32,
-        threads: u32,
-    },
-}
+use tool_input::{INPUT_LIMIT, InputRefusal, Status, input_rejection, refused};
 
 /// What the arguments request.
 #[derive(Clone, Copy, Debug, PartialEq, Eq)]
@@ -42,27 +23,63 @@ pub enum Request<'a> {
     Do { task: Task, name: &'a [u8] },
 }
 
-impl Task {
-    /// The part of the input that the command needs beside the protocol text.
-    pub fn part(self) -> Option<Part>
-        ensures { result ≡ part_of self }
-    {
-        match self {
-            Task::Expand | Task::Verify { .. } => None,
-            Task::Check => Some(Part::Log),
-            Task::Replay => Some(Part::Run),
-            Task::Run { .. } => Some(Part::Agents),
+impl<'a> Program<'a> for Request<'a> {
+    type Status = Status;
+
+    ghost use Rattle.bspl_types.specs.Limits.{input_limit};
+    ghost use Rattle.bspl_tool.specs.Output.{Output};
+    ghost use Rattle.bspl_tool.specs.Request.{IsRequest, RequestsInput};
+
+    ghost requests = { λ args request. IsRequest args request };
+
+    ghost asks = { RequestsInput };
+
+    ghost answers = { Output };
+
+    ghost limit = { input_limit };
+
+    fn request(alloc: Global, args: &'a [String]) -> Result<Request<'a>, NoMemory> {
+        match command_line(alloc, args) {
+            Ok(Some(line)) => Ok(request_of(line)),
+            Ok(None) => Ok(Request::Usage),
+            Err(_) => Err(NoMemory),
         }
     }
-}
 
-/// Reads what the arguments request.
-pub fn read_request<'a>(alloc: Global, args: &'a [String]) -> Result<Request<'a>, NoMemory>
-    ensures { IfOk result (IsRequest (map string_bytes args.now)) }
-{
-    match command_line(alloc, args)? {
-        Some(line) => Ok(request_of(line)),
-        None => Ok(Request::Usage),
+    fn input_limit(&self) -> u64 {
+        INPUT_LIMIT
+    }
+
+    fn unread(&self, alloc: Global) -> Result<Option<Reply<Status>>, NoMemory> {
+        // law: arguments are one command line at most
+        one_line();
+        match self {
+            Request::Usage => Ok(Some(usage(alloc)?)),
+            Request::Unsupported => {
+                let rejection = input_rejection(InputRefusal::Unsupported);
+                Ok(Some(refused(alloc, &rejection)?))
+            }
+            Request::Do { .. } => Ok(None),
+        }
+    }
+
+    fn read(&self, alloc: Global, input: &[u8]) -> Result<Reply<Status>, NoMemory> {
+        // law: arguments are one command line at most
+        one_line();
+        let Request::Do { task, name } = self else {
+            // never: only a task asks for the input
+            return usage(alloc);
+        };
+        match answer_input(alloc, *task, name, input) {
+            Ok(answer) => finish(alloc, answer),
+            Err(AnswerError::Rejected(rejection)) => refused(alloc, &rejection),
+            Err(AnswerError::NoMemory) => Err(NoMemory),
+        }
+    }
+
+    fn too_long(&self, alloc: Global) -> Result<Reply<Status>, NoMemory> {
+        let rejection = input_rejection(InputRefusal::TooLong { limit: INPUT_LIMIT });
+        refused(alloc, &rejection)
     }
 }
 
@@ -73,20 +90,8 @@ fn request_of(line: CommandLine<'_>) -> Request<'_>
     let Subject::Protocol(name) = line.subject else {
         return Request::Unsupported;
     };
-    let task = match line.command {
-        Command::Expand => Task::Expand,
-        Command::Verify => Task::Verify {
-            brief: line.brief,
-            conflicts: line.conflicts,
-        },
-        Command::Check => Task::Check,
-        Command::Replay => Task::Replay,
-        Command::Run => Task::Run {
-            brief: line.brief,
-            conflicts: line.conflicts,
-            threads: line.threads,
-        },
-        Command::Generate => return Request::Unsupported,
-    };
-    Request::Do { task, name }
+    match task_of(line.command, line.brief, line.conflicts, line.threads) {
+        Some(task) => Request::Do { task, name },
+        None => Request::Unsupported,
+    }
 }

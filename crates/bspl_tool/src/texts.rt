@@ -8,14 +8,19 @@ ghost use Rattle.bspl_tool.specs.Texts.{reject_text, usage_text};
 use super::claim::Claim;
 use bspl_types::{Bytes, NoMemory};
 use log_checker::Reject;
+use program_frame::Reply;
 use std::alloc::Global;
+use tool_input::Status;
 
-/// What a command line looks like.
-pub fn usage_text(alloc: Global) -> Result<Bytes, NoMemory>
-    ensures { IfOk result (λ text. text ≡ usage_text) }
+/// The reply to arguments that are no command line: what one looks like.
+pub fn usage(alloc: Global) -> Result<Reply<Status>, NoMemory>
+    ensures { IfOk result (λ reply. (reply.text ≡ usage_text) × (reply.status ≡ Status.Usage)) }
 {
     let line = b"usage: bspl COMMAND NAME [--brief] [--conflicts N] [--threads N]\n";
-    Bytes::from_slice(alloc, line)
+    Ok(Reply {
+        status: Status::Usage,
+        text: Bytes::from_slice(alloc, line)?,
+    })
 }
 
 /// The line of a claim.

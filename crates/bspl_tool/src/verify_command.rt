@@ -1,29 +1,28 @@
 ghost use Rattle.std.specs.Prelude.{◌≡◌, IfOk};
-ghost use Rattle.bspl_tool.specs.Task.{IsBudget};
 ghost use Rattle.bspl_tool.specs.VerifyAnswer.{IsVerdictAnswer, IsVerifyAnswer, verdict_status};
 
-use super::reply::Reply;
-use super::status::Status;
 use bspl_types::{Admitted, NoMemory};
+use command_line::Budget;
+use program_frame::Reply;
 use report::{right_runs_fit, verdict_text};
 use std::alloc::Global;
+use tool_input::Status;
 use verdict::{Liveness, Safety, Verdicts};
 
 /// Verdicts, and what is written of them.
 #[derive(Drop)]
 pub(crate) struct VerdictReply {
     pub verdicts: Verdicts,
-    pub reply: Reply,
+    pub reply: Reply<Status>,
 }
 
 /// Answers `verify`.
 pub fn verify(
     alloc: Global,
     brief: bool,
-    conflicts: u32,
+    conflicts: Budget,
     protocol: &Admitted,
-) -> Result<Reply, NoMemory>
-    requires { IsBudget conflicts }
+) -> Result<Reply<Status>, NoMemory>
     ensures { IfOk result (λ reply.
         IsVerifyAnswer brief conflicts protocol.now reply.text reply.status) }
 {
@@ -36,16 +35,17 @@ pub fn verify(
 pub(crate) fn reply_with_verdicts(
     alloc: Global,
     brief: bool,
-    conflicts: u32,
+    conflicts: Budget,
     protocol: &Admitted,
 ) -> Result<VerdictReply, NoMemory>
-    requires { IsBudget conflicts }
-    ensures { IfOk result (λ r. IsVerdictAnswer brief conflicts protocol.now
-        r.verdicts r.reply.text r.reply.status) }
+    ensures answer { IfOk result (λ r.
+        IsVerdictAnswer brief conflicts protocol.now r.verdicts r.reply.text) }
+    ensures ends { IfOk result (λ r.
+        r.reply.status ≡ verdict_status r.verdicts.safety r.verdicts.liveness) }
 {
     // law: the runs of right verdicts fit the protocol
     right_runs_fit();
-    let verdicts = verdict::verify(alloc, protocol, conflicts)?;
+    let verdicts = verdict::verify(alloc, protocol, conflicts.conflicts())?;
     let text = verdict_text(alloc, protocol, &verdicts, brief)?;
     let status = verdict_status(&verdicts);
     let reply = Reply { status, text };

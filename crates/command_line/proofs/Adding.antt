@@ -1,12 +1,12 @@
 -- One use more: what makes it pass, and the row that it adds.
-use Rattle.std.proofs.Common.{◌≡◌, ◌≤◌, ◌+◌, ◌++◌, ◌&&◌, ℕ, zero, suc, Bool, true, false, cond, List, [], ◌∷◌, length, Option, Some, None, refl, sym, ap, subst, ◌∙◌, arith, codes}
+use Rattle.std.proofs.Common.{◌≡◌, ◌≤◌, ◌+◌, ◌++◌, ◌&&◌, ℕ, zero, suc, Bool, true, false, cond, List, [], ◌∷◌, length, Some, None, refl, sym, ap, subst, ◌∙◌, arith, codes}
 use Rattle.clap.specs.Walk.{Row, Rule, Text, has_row, used}
-use Rattle.clap.specs.Kinds.{Kinds, or_else}
+use Rattle.clap.specs.Kinds.{or_else}
 use Rattle.clap.specs.Faults.{use_fault}
 use Rattle.clap.specs.declared.error.kind.ErrorKind.{ErrorKind}
-use Rattle.command_line.specs.Argument.{Argument, Brief, Conflicts, Threads, Positional}
-use Rattle.command_line.specs.ParsedArgs.{ParsedArgs, HasNoRepeats, add}
-use Rattle.command_line.proofs.Rows.{Rows, row, found, flag_row, value_row, rest_of, no_row, none_found, new_row, found_new, found_other}
+use Rattle.command_line.specs.Argument.{Brief, Conflicts, Threads, Positional}
+use Rattle.command_line.specs.ParsedArgs.{ParsedArgs, add}
+use Rattle.command_line.proofs.Rows.{Rows, row, found, flag_row, value_row, rest_of, none_found, new_row, found_new, found_other}
 use Rattle.command_line.proofs.Rules.{with_one, brief_rule, conflicts_rule, threads_rule, command_rule, name_rule}
 
 -- a use passes where there is no row of the argument yet

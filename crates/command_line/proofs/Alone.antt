@@ -1,5 +1,5 @@
 -- Which part an argument alone is, as a function: an argument is one part at most.
-use Rattle.std.proofs.Common.{◌≡◌, ℕ, Bool, true, false, cond, eqb, List, [], ◌∷◌, ◌++◌, Option, Some, None, inl, inr, refl, sym, ◌∙◌, codes}
+use Rattle.std.proofs.Common.{◌≡◌, ℕ, false, cond, eqb, List, [], ◌∷◌, Option, Some, None, inl, inr, refl, codes}
 use Rattle.std.specs.Str.{bytes_eq}
 use Rattle.std.proofs.lemmas.Bool.{cases_Bool}
 use Rattle.command_line.specs.Argument.{Argument, Brief, Conflicts, Threads, Positional, is_dashed, IsAlone, brief, conflicts_joined, threads_joined, positional}

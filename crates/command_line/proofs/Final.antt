@@ -1,11 +1,10 @@
 -- What the getters read of the rows at the end.
-use Rattle.std.proofs.Common.{◌≡◌, ◌≤◌, ◌++◌, ◌||◌, ℕ, zero, suc, Bool, true, false, cond, List, [], ◌∷◌, length, Option, Some, None, inl, inr, refl, sym, ap, subst, ◌∙◌, arith, codes}
-use Rattle.std.specs.List.{fold, list_all}
-use Rattle.std.specs.Option.{option_to_list}
+use Rattle.std.proofs.Common.{◌≡◌, ◌++◌, ℕ, zero, suc, Bool, true, false, cond, List, [], ◌∷◌, Option, Some, None, inl, inr, refl, sym, ap, subst, ◌∙◌, arith, codes}
+use Rattle.std.specs.List.{list_all}
 use Rattle.std.specs.Prelude.{option_and_then, slice_get}
 use Rattle.std.specs.Str.{bytes_eq}
 use Rattle.std.proofs.lemmas.Bool.{cases_Bool}
-use Rattle.clap.specs.Walk.{Held, Row, Text, Walk, first_of, one_of, row_text, has_row, with_default, with_values, finished, settled, nothing_held, walk, walk_from}
+use Rattle.clap.specs.Walk.{Held, Row, Text, first_of, one_of, row_text, has_row, with_default, with_values, finished, settled, nothing_held, walk}
 use Rattle.clap.specs.Words.{matches_of}
 use Rattle.clap.specs.Faults.{fault_of}
 use Rattle.clap.specs.declared.builder.value_parser.Reading.TheVariants.{AsWritten}
@@ -15,7 +14,7 @@ use Rattle.command_line.specs.Known.{is_known}
 use Rattle.command_line.specs.ParsedArgs.{ParsedArgs, HasNoRepeats, ParsesTo, nothing_parsed}
 use Rattle.command_line.proofs.Rows.{Rows, row, found, flag_row, value_row, rest_of, no_row, found_other, found_new}
 use Rattle.command_line.proofs.Rules.{rules, brief_rule, conflicts_rule, threads_rule, command_rule, name_rule, fault_is}
-use Rattle.command_line.proofs.Taking.{Taken, Ends, Holds, place, taking}
+use Rattle.command_line.proofs.Taking.{taking}
 use Rattle.command_line.proofs.Passing.{words_pass}
 
 -- the first text

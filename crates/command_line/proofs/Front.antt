@@ -1,9 +1,9 @@
 -- With which part arguments begin, as a function: with one at most.
-use Rattle.std.proofs.Common.{◌≡◌, ◌≢◌, ◌≤◌, ℕ, Bool, true, false, cond, List, [], ◌∷◌, length, ◌+◌, Option, Some, None, refl, sym, ap, subst, ◌∙◌, arith, codes}
+use Rattle.std.proofs.Common.{◌≡◌, ℕ, false, cond, List, [], ◌∷◌, Option, Some, None, refl, sym, ap, ◌∙◌, codes}
 use Rattle.std.specs.Option.{option_map, unwrap_or}
 use Rattle.std.specs.Str.{bytes_eq}
 use Rattle.std.proofs.lemmas.Option.{none-some}
-use Rattle.command_line.specs.Argument.{Argument, Conflicts, Threads, begins_with_dash, IsAlone, BeginsWith, alone, conflicts_next, threads_next}
+use Rattle.command_line.specs.Argument.{Argument, Conflicts, Threads, begins_with_dash, BeginsWith, alone, conflicts_next, threads_next}
 use Rattle.command_line.proofs.Alone.{alone_of, alone_found, alone_wants_none}
 
 -- the option with the next argument as its value

@@ -1,6 +1,5 @@
 -- The arguments that a command line may have, one by one, and that it has no others.
-use Rattle.std.proofs.Common.{◌≡◌, ◌≢◌, ◌+◌, ◌++◌, ◌&&◌, ◌||◌, ℕ, Bool, true, false, not, eqb, List, [], ◌∷◌, take, drop, length, map, inl, inr, refl, sym, ap, subst, ◌∙◌, arith, codes, nat_eq}
-use Rattle.std.specs.Prelude.{IsTrue}
+use Rattle.std.proofs.Common.{◌≡◌, ◌++◌, ℕ, Bool, true, false, not, eqb, List, [], ◌∷◌, drop, map, inl, inr, refl, sym, subst, codes, nat_eq}
 use Rattle.std.specs.Char.{is_ascii_digit}
 use Rattle.std.specs.List.{fold, list_all, list_any, starts_with, slice_split, onto_first}
 use Rattle.std.specs.Str.{bytes_eq}
@@ -15,11 +14,12 @@ use Rattle.command_line.specs.declared.line.CommandLine.{CommandLine}
 use Rattle.command_line.specs.declared.line.Subject.{Subject}
 use Rattle.command_line.specs.declared.line.Subject.TheVariants.{Protocol, Size}
 use Rattle.command_line.specs.Command.{command_word, takes_size}
+use Rattle.list_base.specs.Numeral.{numeral}
+use Rattle.list_base.proofs.Numerals.{tests_digits}
 use Rattle.command_line.specs.Known.{options, is_known}
-use Rattle.command_line.specs.Line.{IsSubject, IsLineOf, IsCommandLine}
-use Rattle.command_line.specs.Number.{is_number}
-use Rattle.command_line.specs.Argument.{Argument, Brief, Conflicts, Threads, Positional, begins_with_dash, is_dashed, IsAlone, brief, conflicts_joined, threads_joined, positional, BeginsWith, alone, conflicts_next, threads_next, ReadsAs, nothing, the_end, next}
-use Rattle.command_line.specs.ParsedArgs.{ParsedArgs, add, parsed, nothing_parsed}
+use Rattle.command_line.specs.Line.{IsSubject, IsCommandLine}
+use Rattle.command_line.specs.Argument.{Argument, Brief, Conflicts, Threads, Positional, begins_with_dash, IsAlone, brief, conflicts_joined, threads_joined, positional, BeginsWith, alone, conflicts_next, threads_next, ReadsAs, nothing, the_end, next}
+use Rattle.command_line.specs.ParsedArgs.{ParsedArgs, add, nothing_parsed}
 
 -- the arguments that are known
 pub data IsKnown : List ℕ → Type 0 where
@@ -141,12 +141,15 @@ command_plain Expand = refl
 command_plain Run = refl
 command_plain Generate = refl
 
-number_plain : (word : List ℕ) → is_number word ≡ true → begins_with_dash word ≡ false
-number_plain [] is = refl
-number_plain (d ∷ ds) is = elim (cases_Bool (eqb d 45)) [
-  | inl dash ↦ absurd (let bad : false ≡ true = rw (eqb-true d 45 dash) at is in cc)
+digits_plain : (word : List ℕ) → list_all is_ascii_digit word ≡ true → begins_with_dash word ≡ false
+digits_plain [] are = refl
+digits_plain (d ∷ ds) are = elim (cases_Bool (eqb d 45)) [
+  | inl dash ↦ absurd (let bad : false ≡ true = rw (eqb-true d 45 dash) at (and_parts (is_ascii_digit d) (list_all is_ascii_digit ds) are).0 in cc)
   | inr other ↦ other
 ]
+
+number_plain : (word : List ℕ) (n : ℕ) → word ≡ numeral n → begins_with_dash word ≡ false
+number_plain word n is = digits_plain word (tests_digits word (n, is))
 
 grouped_first : (b : ℕ) (pieces : List (List ℕ)) → is_grouped (onto_first b pieces) ≡ true → begins_name b ≡ true
 grouped_first b [] is = (and_parts (begins_name b) (is_name_rest []) (and_parts (is_plain_name (b ∷ [])) true is).0).0
@@ -167,7 +170,7 @@ name_plain (b ∷ bs) is = elim (cases_Bool (eqb b 45)) [
 ]
 
 subject_plain : (generates : Bool) (word : List ℕ) (subject : Subject) → IsSubject generates word subject → begins_with_dash word ≡ false
-subject_plain true word (Size n) is = number_plain word is.written
+subject_plain true word (Size n) is = number_plain word n is.written
 subject_plain true word (Protocol name) is = absurd is
 subject_plain false word (Size n) is = absurd is
 subject_plain false word (Protocol name) is = name_plain word is.1

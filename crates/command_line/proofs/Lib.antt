@@ -1,11 +1,11 @@
 pub mod Adding
 pub mod Alone
-pub mod Digits
 pub mod Final
 pub mod Front
 pub mod Getters
 pub mod Known
 pub mod LineLemmas
+pub mod Numbers
 pub mod Passing
 pub mod Rows
 pub mod Rules

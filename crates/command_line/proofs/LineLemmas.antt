@@ -1,7 +1,7 @@
 -- What is said is one command line at most, and says nothing too often.
-use Rattle.std.proofs.Common.{◌≡◌, ◌≤◌, ◌+◌, ℕ, zero, suc, Bool, true, false, cond, List, [], ◌∷◌, length, Option, Some, None, MatchOption, refl, sym, ap, subst, ◌∙◌, arith, codes}
-use Rattle.std.specs.Option.{unwrap_or}
+use Rattle.std.proofs.Common.{◌≡◌, ◌≤◌, ℕ, zero, suc, Bool, true, false, cond, List, [], ◌∷◌, length, Option, Some, None, MatchOption, refl, sym, ap, subst, ◌∙◌, arith, codes}
 use Rattle.std.specs.Str.{bytes_eq}
+use Rattle.list_base.proofs.Numerals.{same_from_numeral}
 use Rattle.command_line.specs.declared.command.Command.{Command}
 use Rattle.command_line.specs.declared.command.Command.TheVariants.{Verify, Check, Replay, Expand, Run, Generate}
 use Rattle.command_line.specs.declared.line.CommandLine.{CommandLine}
@@ -63,11 +63,11 @@ same_flag belongs (suc (suc n)) x y one other = absurd one
 
 same_choice : (belongs : Bool) (least most default : ℕ) (values : List (List ℕ)) (m n : ℕ) → IsChosen belongs least most default values m → IsChosen belongs least most default values n → m ≡ n
 same_choice belongs least most default [] m n one other = one ∙ sym other
-same_choice belongs least most default (value ∷ []) m n one other = sym one.0.value ∙ other.0.value
+same_choice belongs least most default (value ∷ []) m n one other = same_from_numeral m n (sym one.0.written ∙ other.0.written)
 same_choice belongs least most default (value ∷ more ∷ values) m n one other = absurd one
 
 same_subject : (generates : Bool) (word : List ℕ) (x y : Subject) → IsSubject generates word x → IsSubject generates word y → IsSameSubject x y
-same_subject true word (Size m) (Size n) one other = sym one.value ∙ other.value
+same_subject true word (Size m) (Size n) one other = same_from_numeral m n (sym one.written ∙ other.written)
 same_subject true word (Size m) (Protocol y) one other = absurd other
 same_subject true word (Protocol x) y one other = absurd one
 same_subject false word (Size m) y one other = absurd one

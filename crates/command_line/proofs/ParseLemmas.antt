@@ -1,5 +1,5 @@
 -- What arguments say, step by step from the left.
-use Rattle.std.proofs.Common.{◌≡◌, ◌↔◌, ◌≢◌, ◌≤◌, ◌<◌, ◌+◌, ℕ, List, [], ◌∷◌, ◌++◌, length, map, refl, sym, ap, subst, ◌∙◌, arith, codes, length-append}
+use Rattle.std.proofs.Common.{◌≡◌, ◌↔◌, ℕ, List, [], ◌∷◌, map, refl, sym, ap, subst, ◌∙◌, arith, codes, length-append}
 use Rattle.std.specs.List.{fold}
 use Rattle.command_line.specs.Argument.{Argument, Brief, Conflicts, Threads, Positional, BeginsWith, ReadsAs, nothing, the_end, next}
 use Rattle.command_line.specs.ParsedArgs.{ParsedArgs, add, HasNoRepeats, ParsesTo}

@@ -1,14 +1,14 @@
 -- Words that are read, and say nothing too often, do not fail.
-use Rattle.std.proofs.Common.{◌≡◌, ◌≢◌, ◌≤◌, ◌+◌, ◌++◌, ◌||◌, map, ℕ, zero, suc, Bool, true, false, cond, List, [], ◌∷◌, length, Option, Some, None, refl, sym, ap, subst, ◌∙◌, arith, codes, length-append}
+use Rattle.std.proofs.Common.{◌≡◌, ◌≤◌, ◌++◌, ◌||◌, map, ℕ, Bool, true, false, cond, List, [], ◌∷◌, length, Some, None, refl, sym, ap, subst, ◌∙◌, arith, codes, length-append}
 use Rattle.std.specs.List.{fold, list_all}
-use Rattle.clap.specs.Walk.{Row, Text, Walk, Waiting, idle, option, has_row, with_default, walked, finished, settled}
-use Rattle.clap.specs.Kinds.{Kinds, or_else}
-use Rattle.clap.specs.Faults.{turn_fault, defaults_fault, check_fault, walk_fault}
+use Rattle.clap.specs.Walk.{Row, Text, Walk, idle, has_row, with_default, walked}
+use Rattle.clap.specs.Kinds.{Kinds}
+use Rattle.clap.specs.Faults.{turn_fault, defaults_fault, walk_fault}
 use Rattle.command_line.specs.Argument.{Argument, Brief, Conflicts, Threads, Positional, begins_with_dash, is_dashed, IsAlone, BeginsWith, alone, conflicts_next, threads_next, brief, conflicts_joined, threads_joined, positional, ReadsAs, nothing, the_end, next}
 use Rattle.command_line.specs.Known.{is_known}
 use Rattle.command_line.proofs.Known.{IsKnown, plain, the_dashes, the_flag, conflicts_apart, threads_apart, conflicts_with, threads_with, known_head, known_tail}
 use Rattle.command_line.specs.ParsedArgs.{ParsedArgs, HasNoRepeats, add}
-use Rattle.command_line.proofs.Rows.{Rows, found, flag_row, value_row, rest_of, no_row}
+use Rattle.command_line.proofs.Rows.{Rows, flag_row, value_row, rest_of, no_row}
 use Rattle.command_line.proofs.Rules.{rules, shape, brief_rule, conflicts_rule, threads_rule, command_rule, name_rule, tail_fault, whole_fault, no_fault, whole_next}
 use Rattle.command_line.proofs.Steps
 use Rattle.command_line.proofs.Steps.{Pending, held, walking, trailing, pending_fault, settled_by, plain_word_is}

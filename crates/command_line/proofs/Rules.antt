@@ -1,14 +1,14 @@
 -- The command that `clap` builds, and how a walk over arguments begins and ends.
-use Rattle.std.proofs.Common.{◌≡◌, ◌≤◌, ◌+◌, ◌++◌, ◌&&◌, ℕ, Bool, true, false, List, [], ◌∷◌, Option, Some, None, refl, sym, ap, subst, ◌∙◌, codes}
+use Rattle.std.proofs.Common.{◌≡◌, true, false, List, [], ◌∷◌, Option, Some, None, refl, ap, ◌∙◌, codes}
 use Rattle.std.specs.List.{fold}
 use Rattle.std.specs.Option.{option_map_or}
 use Rattle.std.specs.Prelude.{option_and_then, is_some}
-use Rattle.clap.specs.Walk.{Held, Row, Rule, Text, Walk, Waiting, idle, option, action_of, settled, nothing_held, finished, walk, walk_from, walked}
+use Rattle.clap.specs.Walk.{Held, Rule, Text, Walk, settled, nothing_held, finished, walk, walk_from, walked}
 use Rattle.clap.specs.Simple.{App, Shape, built, new_shape, entered, is_simple}
 use Rattle.clap.specs.Words.{new_rule}
 use Rattle.clap.specs.Kinds.{Kinds, or_else}
-use Rattle.clap.specs.Faults.{fault_of, entered_fault, level_fault, settle_fault, defaults_fault, check_fault, walk_fault, turn_fault, is_simple_and_free}
-use Rattle.clap.specs.declared.builder.action.ArgAction.TheVariants.{Set, SetTrue}
+use Rattle.clap.specs.Faults.{fault_of, entered_fault, settle_fault, defaults_fault, check_fault, walk_fault, turn_fault, is_simple_and_free}
+use Rattle.clap.specs.declared.builder.action.ArgAction.TheVariants.{Set}
 use Rattle.clap.specs.declared.builder.value_parser.ValueParser.TheVariants as vp
 use Rattle.command_line.specs.Clap.{cli_app, brief_arg, conflicts_arg, threads_arg}
 

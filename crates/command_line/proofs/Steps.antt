@@ -1,12 +1,12 @@
 -- What one argument does to a walk.
-use Rattle.std.proofs.Common.{◌≡◌, ◌≢◌, ◌≤◌, ◌+◌, ◌++◌, ◌&&◌, ℕ, Bool, true, false, cond, eqb, List, [], ◌∷◌, length, Option, Some, None, refl, sym, ap, subst, ◌∙◌, codes}
+use Rattle.std.proofs.Common.{◌≡◌, ◌≢◌, ◌++◌, ◌&&◌, ℕ, Bool, true, false, List, [], ◌∷◌, Option, Some, None, refl, ap, ◌∙◌, codes}
 use Rattle.std.specs.Str.{bytes_eq}
 use Rattle.clap.specs.Lexer.{long_of, short_of}
-use Rattle.clap.specs.Walk.{Held, Row, Rule, Text, Walk, Waiting, idle, option, positional, Step, value, settled_rows, walked, word_met, plain_word, after_step, used}
+use Rattle.clap.specs.Walk.{Held, Row, Text, Walk, Waiting, idle, option, positional, value, settled_rows, walked, word_met, plain_word, after_step, used}
 use Rattle.clap.specs.Kinds.{Kinds, or_else}
-use Rattle.clap.specs.Faults.{settle_fault, use_fault, react_fault, turn_fault, word_fault, step_fault, stray_fault}
+use Rattle.clap.specs.Faults.{settle_fault, use_fault, turn_fault, word_fault, step_fault, stray_fault}
 use Rattle.command_line.specs.Argument.{begins_with_dash}
-use Rattle.command_line.proofs.Rules.{rules, shape, brief_rule, conflicts_rule, threads_rule, command_rule, name_rule}
+use Rattle.command_line.proofs.Rules.{rules, shape, brief_rule, conflicts_rule, threads_rule}
 
 -- what is held between two arguments
 abbrev pub Pending : Type 0

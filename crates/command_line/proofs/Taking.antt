@@ -1,15 +1,14 @@
 -- Where no argument fails, the arguments are read, and the rows hold what they say.
-use Rattle.std.proofs.Common.{◌≡◌, ◌≢◌, ◌≤◌, ◌+◌, ◌++◌, ℕ, zero, suc, Bool, true, false, List, [], ◌∷◌, length, Option, Some, None, refl, sym, ap, subst, ◌∙◌, arith, codes}
+use Rattle.std.proofs.Common.{◌≡◌, ◌++◌, ℕ, true, false, List, [], ◌∷◌, Some, None, refl, sym, ap, subst, ◌∙◌, codes}
 use Rattle.std.specs.List.{fold, list_all}
-use Rattle.clap.specs.Walk.{Held, Row, Rule, Text, Walk, Waiting, idle, option, settled, walked}
-use Rattle.clap.specs.Kinds.{Kinds, or_else}
+use Rattle.clap.specs.Walk.{Held, Row, Text, Walk, Waiting, idle, option, settled, walked}
 use Rattle.clap.specs.Faults.{settle_fault, turn_fault, use_fault}
-use Rattle.command_line.specs.Argument.{Argument, Brief, Conflicts, Threads, Positional, begins_with_dash, is_dashed, BeginsWith, alone, conflicts_next, threads_next, brief, conflicts_joined, threads_joined, positional}
+use Rattle.command_line.specs.Argument.{Argument, Brief, Conflicts, Threads, Positional, begins_with_dash, BeginsWith, alone, conflicts_next, threads_next, brief, conflicts_joined, threads_joined, positional}
 use Rattle.command_line.specs.Known.{is_known}
 use Rattle.command_line.proofs.Known.{IsKnown, plain, the_dashes, the_flag, conflicts_apart, threads_apart, conflicts_with, threads_with, known_head, known_tail}
 use Rattle.command_line.specs.ParsedArgs.{ParsedArgs, add, ParsesTo}
 use Rattle.command_line.proofs.Rows.{Rows}
-use Rattle.command_line.proofs.Rules.{rules, shape, with_one, brief_rule, conflicts_rule, threads_rule, command_rule, name_rule, tail_fault, whole_fault, fault_parts, whole_next}
+use Rattle.command_line.proofs.Rules.{rules, shape, conflicts_rule, threads_rule, command_rule, name_rule, tail_fault, whole_fault, fault_parts, whole_next}
 use Rattle.command_line.proofs.Steps
 use Rattle.command_line.proofs.Steps.{Pending, held, walking, trailing, pending_fault, settled_by, plain_word_is}
 use Rattle.command_line.proofs.Adding.{free_from, brief_from, no_briefs, no_conflicts, no_threads, with_brief, with_conflicts, with_threads, with_command, with_name}

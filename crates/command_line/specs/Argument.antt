@@ -1,5 +1,5 @@
 -- Which parts the arguments of a command line are, read from the left.
-use Rattle.std.specs.Prelude.{◌≡◌, ℕ, Bool, true, false, ◌==◌, List, [], ◌∷◌, ◌++◌, map, codes}
+use Rattle.std.specs.Prelude.{◌≡◌, ℕ, Bool, false, ◌==◌, List, [], ◌∷◌, ◌++◌, map, codes}
 
 -- what one argument is, or an option with its value
 pub data Argument : Type 0 where

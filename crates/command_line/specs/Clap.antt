@@ -1,5 +1,5 @@
 -- The options and the positional arguments, as `clap` takes them.
-use Rattle.std.specs.Prelude.{true, Some, List, [], ◌∷◌, codes}
+use Rattle.std.specs.Prelude.{true, Some, codes}
 use Rattle.clap.specs.Words.{App, Rule, new_rule, new_app, with_rule}
 use Rattle.clap.specs.Simple.{on_top}
 use Rattle.clap.specs.declared.builder.action.ArgAction.TheVariants.{SetTrue}

@@ -4,5 +4,6 @@ pub mod RawArgs
 pub mod Known
 pub mod Line
 pub mod Number
+pub mod Budget
 pub mod Argument
 pub mod ParsedArgs

@@ -1,6 +1,7 @@
 //! Which arguments are a command line, and what they request.
 #![tactic(auto)]
 
+mod budget;
 mod clap_args;
 mod clap_matches;
 mod command;
@@ -10,6 +11,7 @@ mod number;
 mod raw_args;
 mod validation;
 
+pub use budget::Budget;
 pub use command::Command;
 pub use laws::one_line;
 pub use line::{CommandLine, Subject, command_line};

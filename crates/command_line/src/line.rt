@@ -2,6 +2,7 @@ ghost use Rattle.std.specs.Prelude.{IfOk, map, string_bytes, MatchOption};
 ghost use Rattle.command_line.specs.declared.line.CommandLine.{CommandLine as Line};
 ghost use Rattle.command_line.specs.Line.{IsCommandLine};
 
+use super::budget::Budget;
 use super::clap_matches::{are_known, raw_args_of};
 use super::command::Command;
 use super::validation::line_of;
@@ -23,7 +24,7 @@ pub struct CommandLine<'a> {
     pub command: Command,
     pub subject: Subject<'a>,
     pub brief: bool,
-    pub conflicts: u32,
+    pub conflicts: Budget,
     pub threads: u32,
 }
 

@@ -1,10 +1,11 @@
-ghost use Rattle.std.specs.Prelude.{◌≡◌, ℕ, MatchOption};
+ghost use Rattle.std.specs.Prelude.{ℕ, MatchOption};
 ghost use Rattle.std.specs.Option.{option_copied, option_to_list};
 ghost use Rattle.command_line.specs.declared.line.CommandLine.{CommandLine as Line};
 ghost use Rattle.command_line.specs.declared.line.Subject.{Subject as Aim};
 ghost use Rattle.command_line.specs.RawArgs.{parsed_of};
 ghost use Rattle.command_line.specs.Line.{IsChosen, IsLineOf, IsSubject};
 
+use super::budget::Budget;
 use super::command::command_of;
 use super::line::{CommandLine, Subject};
 use super::number::number_in;
@@ -86,7 +87,7 @@ pub fn line_of(given: RawArgs<'_>) -> Option<CommandLine<'_>>
         command,
         subject,
         brief: given.brief,
-        conflicts,
+        conflicts: Budget::of(conflicts),
         threads,
     })
 }

@@ -7,15 +7,15 @@ use Rattle.std.proofs.lemmas.List.Elements.{All-from_recursion, All-get_or}
 use Rattle.bspl_types.specs.declared.expanded.Expanded.{Expanded}
 use Rattle.bspl_types.specs.declared.protocol.Message.{Message}
 use Rattle.bspl_types.specs.declared.protocol.ParamInfo.{ParamInfo}
-use Rattle.bspl_types.specs.Expansion.{no_message}
+use Rattle.bspl_types.specs.Expansion.{no_message, message_name, no_param, param_name}
 use Rattle.clause_encoding.specs.Rest.{unbound_variables, want_variables}
 use Rattle.clause_encoding.specs.Rivals.{selectors}
 use Rattle.clause_encoding.specs.Variables.{kinds_after, sent}
-use Rattle.refutation_log.specs.LogText.{numeral}
-use Rattle.formula_text.specs.declared.property.Property.{Property}
-use Rattle.formula_text.specs.declared.property.Property.TheVariants.{Liveness, Safety}
-use Rattle.formula_text.specs.Legend.{Meaning, act_word, kind_words, lack, legend, message_name, message_of_kind, no_param, occurrence, occurrences, order, orders, orders_of, own_meanings, param_name, selection, unbound}
-use Rattle.formula_text.specs.Property.{variables_of}
+use Rattle.list_base.specs.Numeral.{numeral}
+use Rattle.bspl_types.specs.declared.property.Property.{Property}
+use Rattle.bspl_types.specs.declared.property.Property.TheVariants.{Liveness, Safety}
+use Rattle.formula_text.specs.Legend.{Meaning, act_word, kind_words, lack, legend, message_of_kind, occurrence, occurrences, order, orders, orders_of, own_meanings, selection, unbound}
+use Rattle.clause_encoding.specs.Formula.{variables_of}
 use Rattle.formula_text.proofs.Names.{empty_lacks, name_lacks}
 use Rattle.formula_text.proofs.Numbers.{numeral_printed}
 use Rattle.formula_text.proofs.Words.{LacksLf, printed_lacks}

@@ -15,10 +15,10 @@ use Rattle.clause_encoding.specs.Formula.{liveness_variables, safety_variables}
 use Rattle.clause_encoding.specs.Rest.{public_values, unbound_variables, want_variables, wants_of}
 use Rattle.clause_encoding.specs.Rivals.{rivals_of}
 use Rattle.clause_encoding.specs.Variables.{kind_count, order_variable, positive, variable_count}
-use Rattle.formula_text.specs.declared.property.Property.{Property}
-use Rattle.formula_text.specs.declared.property.Property.TheVariants.{Liveness, Safety}
+use Rattle.bspl_types.specs.declared.property.Property.{Property}
+use Rattle.bspl_types.specs.declared.property.Property.TheVariants.{Liveness, Safety}
 use Rattle.formula_text.specs.Legend.{Meaning, lack, legend, occurrence, occurrences, order, orders, orders_of, own_meanings, selection, unbound}
-use Rattle.formula_text.specs.Property.{IsFormula}
+use Rattle.clause_encoding.specs.Formula.{IsFormula}
 
 -- the variables of meanings
 abbrev number : Meaning → ℕ

@@ -8,7 +8,7 @@ use Rattle.std.proofs.lemmas.List.Elements.{All-cons, All-from_recursion, All-he
 use Rattle.clause_core.specs.declared.literal.Lit.{Lit}
 use Rattle.dimacs.specs.Dimacs.{clause_words, is_comment, is_word, line_words}
 use Rattle.refutation_log.specs.LogText.{pivot_text}
-use Rattle.text_lines.specs.Decimal.{numeral}
+use Rattle.list_base.specs.Numeral.{numeral}
 use Rattle.formula_text.proofs.Words.{IsPrinted, words_joined}
 
 -- a word of digits and minus signs

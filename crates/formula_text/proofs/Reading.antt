@@ -8,8 +8,8 @@ use Rattle.bspl_types.specs.declared.expanded.Expanded.{Expanded}
 use Rattle.clause_core.specs.declared.formula.Formula.{Formula}
 use Rattle.clause_core.specs.declared.literal.Lit.{Lit}
 use Rattle.dimacs.specs.Dimacs.{IsDimacs, clause_limit, clause_words, from_first_words, has_words, header_words, line_words, text_lines, variable_limit}
-use Rattle.refutation_log.specs.LogText.{numeral}
-use Rattle.formula_text.specs.declared.property.Property.{Property}
+use Rattle.list_base.specs.Numeral.{numeral}
+use Rattle.bspl_types.specs.declared.property.Property.{Property}
 use Rattle.formula_text.specs.FormulaText.{clause_line, formula_lines, text_of}
 use Rattle.formula_text.specs.Legend.{Meaning, legend}
 use Rattle.formula_text.proofs.LegendWords.{legend_lacks, meaning_words}

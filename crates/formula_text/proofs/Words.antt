@@ -5,7 +5,7 @@ use Rattle.std.specs.List.{All, AllByRecursion, filter, flat_map, join_with_byte
 use Rattle.std.proofs.lemmas.Bool.{cond-true, ne_eqb, or_from}
 use Rattle.std.proofs.lemmas.List.Elements.{All-append, All-cons, All-nil, All-weaker}
 use Rattle.std.proofs.lemmas.List.Splits.{slice_split_at, slice_split_none}
-use Rattle.refutation_log.specs.LogText.{line_of}
+use Rattle.list_base.specs.Lines.{line_of}
 use Rattle.dimacs.specs.Dimacs.{is_word, parts_words, text_lines, words_of}
 
 -- the word is not empty, and has bytes past the space alone

@@ -6,7 +6,8 @@ use Rattle.std.proofs.lemmas.List.Concat.{flat_map-append}
 use Rattle.std.proofs.lemmas.List.FromFn.{map-range_with_len_more}
 use Rattle.clause_core.specs.declared.literal.Lit.{Lit}
 use Rattle.dimacs.specs.Dimacs.{clause_words}
-use Rattle.refutation_log.specs.LogText.{numeral, pivot_text}
+use Rattle.refutation_log.specs.LogText.{pivot_text}
+use Rattle.list_base.specs.Numeral.{numeral}
 use Rattle.formula_text.specs.FormulaText.{clause_line, meaning_line}
 use Rattle.formula_text.specs.Legend.{Meaning}
 use Rattle.formula_text.specs.inner.Lines.{spaced}

@@ -5,9 +5,10 @@ use Rattle.bspl_types.specs.declared.expanded.Expanded.{Expanded}
 use Rattle.clause_core.specs.declared.formula.Formula.{Formula}
 use Rattle.clause_core.specs.declared.literal.Lit.{Lit}
 use Rattle.dimacs.specs.Dimacs.{clause_words, header_words}
-use Rattle.refutation_log.specs.LogText.{line_of, numeral}
-use Rattle.formula_text.specs.declared.property.Property.{Property}
-use Rattle.formula_text.specs.Property.{IsFormula}
+use Rattle.list_base.specs.Lines.{line_of}
+use Rattle.list_base.specs.Numeral.{numeral}
+use Rattle.bspl_types.specs.declared.property.Property.{Property}
+use Rattle.clause_encoding.specs.Formula.{IsFormula}
 use Rattle.formula_text.specs.Legend.{Meaning, legend}
 
 -- `c`, the variable's number, and the words

@@ -1,13 +1,16 @@
--- The text is read as the formula, its legend names each variable once, and it is the only one.
+-- The text is read as the formula, its legend names each variable once, and it is the only one. So
+-- is the output.
 use Rattle.std.specs.Prelude.{◌≡◌, ℕ, List, map}
 use Rattle.std.specs.List.{range_with_len}
 use Rattle.bspl_types.specs.declared.expanded.Expanded.{Expanded}
 use Rattle.clause_core.specs.declared.formula.Formula.{Formula}
 use Rattle.dimacs.specs.Dimacs.{IsDimacs}
-use Rattle.formula_text.specs.declared.property.Property.{Property}
-use Rattle.formula_text.specs.Property.{IsFormula}
+use Rattle.bspl_types.specs.declared.property.Property.{Property}
+use Rattle.clause_encoding.specs.Formula.{IsFormula}
+use Rattle.tool_input.specs.declared.status.Status.{Status}
 use Rattle.formula_text.specs.FormulaText.{IsFormulaText, text_of}
 use Rattle.formula_text.specs.Legend.{legend}
+use Rattle.formula_text.specs.Output.{FormulaOutput}
 
 -- the text is in DIMACS form: a header and exactly the clauses of the formula
 abbrev pub ReadsBack : Type 0
@@ -26,3 +29,10 @@ abbrev pub OneText : Type 0
 OneText =
     (property : Property) (x : Expanded) (a b : List ℕ) → IsFormulaText property x a →
     IsFormulaText property x b → a ≡ b
+
+-- arguments and an input have one output and one status
+abbrev pub OneOutput : Type 0
+OneOutput =
+    (args : List (List ℕ)) (input out out' : List ℕ) (status status' : Status) →
+    FormulaOutput args input out status → FormulaOutput args input out' status' →
+    (out ≡ out') × (status ≡ status')

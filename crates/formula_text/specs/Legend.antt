@@ -1,33 +1,21 @@
 -- What the variables of a formula mean, each by the number that the formula's clauses give it.
-use Rattle.std.specs.Prelude.{ℕ, Bool, ◌-◌, ◌/◌, ◌==◌, if◌then◌else◌, List, [], ◌∷◌, ◌++◌, map, codes, slice_index_or, None, false}
+use Rattle.std.specs.Prelude.{ℕ, Bool, ◌-◌, ◌/◌, ◌==◌, if◌then◌else◌, List, [], ◌∷◌, ◌++◌, map, codes}
 use Rattle.std.specs.List.{flat_map}
 use Rattle.bspl_types.specs.declared.expanded.Expanded.{Expanded}
-use Rattle.bspl_types.specs.declared.protocol.ParamInfo.{ParamInfo}
-use Rattle.bspl_types.specs.Expansion.{message_of}
+use Rattle.bspl_types.specs.Expansion.{message_name, param_name}
 use Rattle.clause_encoding.specs.declared.rivals.Rivals.{Rivals}
 use Rattle.clause_encoding.specs.declared.variables.Variables.{Variables}
 use Rattle.clause_encoding.specs.declared.wants.Want.{Want}
 use Rattle.clause_encoding.specs.Rest.{unbound_variables, want_variables}
 use Rattle.clause_encoding.specs.Rivals.{selectors}
 use Rattle.clause_encoding.specs.Variables.{kinds_after, occurs, sent, stands_before}
-use Rattle.formula_text.specs.declared.property.Property.{Property}
-use Rattle.formula_text.specs.declared.property.Property.TheVariants.{Liveness, Safety}
-use Rattle.formula_text.specs.Property.{variables_of}
+use Rattle.bspl_types.specs.declared.property.Property.{Property}
+use Rattle.bspl_types.specs.declared.property.Property.TheVariants.{Liveness, Safety}
+use Rattle.clause_encoding.specs.Formula.{variables_of}
 
 -- the number of a variable, and the words that say what it means
 abbrev pub Meaning : Type 0
 Meaning = ℕ × List (List ℕ)
-
--- the parameter of an index past the last one: it has no name
-abbrev pub no_param : ParamInfo
-no_param = record { name = []; adornment = None; key = false }
-
--- the names of a message and of a parameter
-abbrev pub message_name : Expanded → ℕ → List ℕ
-message_name x m = (message_of x m).name
-
-abbrev pub param_name : Expanded → ℕ → List ℕ
-param_name x p = (slice_index_or x.params p no_param).name
 
 -- the message of an event kind: kinds are numbered from 1, two of each message
 abbrev pub message_of_kind : ℕ → ℕ

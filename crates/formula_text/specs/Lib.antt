@@ -1,5 +1,8 @@
--- The properties that have a formula, what their variables mean, the text, and the laws; what
--- private functions cite is last.
+-- What one call promises, then what the arguments request, the output, what the variables of a
+-- formula mean, its text, and the laws; what private functions cite is last.
+pub mod Call
+pub mod Request
+pub mod Output
 pub mod Property
 pub mod Legend
 pub mod FormulaText

@@ -1,2 +1,4 @@
 -- What private functions alone cite.
 pub mod Lines
+pub mod Request
+pub mod Reply

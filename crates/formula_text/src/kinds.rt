@@ -1,5 +1,6 @@
 ghost use Rattle.std.specs.Prelude.{◌≡◌, ◌<◌, ◌∷◌, []};
-ghost use Rattle.formula_text.specs.Legend.{kind_words, message_name, param_name, act_word};
+ghost use Rattle.formula_text.specs.Legend.{kind_words, act_word};
+ghost use Rattle.bspl_types.specs.Expansion.{message_name, param_name};
 
 use bspl_types::Expanded;
 

@@ -1,16 +1,20 @@
-ghost use Rattle.formula_text.specs.Laws.{NamesEachVariable, OneText, ReadsBack};
+ghost use Rattle.formula_text.specs.Laws.{NamesEachVariable, OneOutput, OneText, ReadsBack};
 
-use clause_core::equal_members;
-use clause_encoding::{liveness_clauses_are_few, safety_clauses_are_few};
+use clause_encoding::{
+    clauses_are_as_many, clauses_are_determined, clauses_are_few, variables_are_small,
+};
+use tool_input::texts_are_judged_once;
 
 /// A law: the text is in DIMACS form, with exactly the clauses of the formula.
 pub fn reads_back()
     ensures { ReadsBack }
 {
-    // law: a safety formula has few clauses
-    safety_clauses_are_few();
-    // law: so has a liveness formula
-    liveness_clauses_are_few();
+    // law: there is a clause for each that is written
+    clauses_are_as_many();
+    // law: a formula of a protocol has few clauses
+    clauses_are_few();
+    // law: it has few variables
+    variables_are_small();
 }
 
 /// A law: the legend has a line for each variable, in the order of their numbers.
@@ -22,6 +26,16 @@ pub fn names_each_variable()
 pub fn one_text()
     ensures { OneText }
 {
-    // law: clauses with the same literals are equal
-    equal_members();
+    // law: what is written has one list of clauses
+    clauses_are_determined();
+}
+
+/// A law: arguments and an input have one output and one status.
+pub fn one_output()
+    ensures { OneOutput }
+{
+    // law: a text declares one protocol for a name, or is refused for one reason
+    texts_are_judged_once();
+    // law: a protocol has one text of its formula
+    one_text();
 }

@@ -5,13 +5,11 @@ ghost use Rattle.formula_text.specs.FormulaText.{meaning_line};
 ghost use Rattle.formula_text.specs.Legend.{legend, occurrences, order, orders, orders_of};
 ghost use Rattle.formula_text.specs.Legend.{own_meanings, selection};
 
-use super::formula::variables_of;
 use super::kinds::{message_name, param_name, words_of_kind};
 use super::meaning::push_meaning;
-use super::property::Property;
 use super::rest::push_rest;
-use bspl_types::{Admitted, Expanded};
-use clause_encoding::{Rivals, Variables, rivals_of};
+use bspl_types::{Admitted, Expanded, Property};
+use clause_encoding::{Rivals, Variables, rivals_of, variables_of};
 use list_base::{Bytes, NoMemory};
 use std::alloc::Global;
 

@@ -4,7 +4,8 @@ ghost use Rattle.formula_text.specs.FormulaText.{clause_line, formula_lines, hea
 
 use clause_core::{Formula, Lit};
 use list_base::{Bytes, NoMemory};
-use refutation_log::{push_number, push_pivot};
+use refutation_log::push_pivot;
+use text_lines::push_decimal;
 
 /// Appends the header and the clauses of a formula.
 pub(crate) fn push_formula(text: &mut Bytes, formula: &Formula) -> Result<(), NoMemory>
@@ -24,9 +25,9 @@ fn push_header(text: &mut Bytes, formula: &Formula) -> Result<(), NoMemory>
     ensures { OnOk result (text.new ≡ text.old ++ header_line formula.now) }
 {
     text.append(b"p cnf ")?;
-    push_number(text, formula.vars)?;
+    push_decimal(text, u64::from(formula.vars))?;
     text.push(b' ')?;
-    push_number(text, formula.clauses.len() as u32)?;
+    push_decimal(text, formula.clauses.len() as u64)?;
     text.push(b'\n')
 }
 

@@ -3,7 +3,7 @@ ghost use Rattle.formula_text.specs.FormulaText.{meaning_line};
 ghost use Rattle.formula_text.specs.inner.Lines.{spaced};
 
 use list_base::{Bytes, NoMemory};
-use refutation_log::push_number;
+use text_lines::push_decimal;
 
 /// Appends the line of a variable and the words that say what it means.
 pub(crate) fn push_meaning(text: &mut Bytes, variable: u32, words: &[&[u8]]) -> Result<(), NoMemory>
@@ -11,7 +11,7 @@ pub(crate) fn push_meaning(text: &mut Bytes, variable: u32, words: &[&[u8]]) -> 
         (text.new ≡ text.old ++ meaning_line (variable, map (λ word. word.now) words.now)) }
 {
     text.append(b"c ")?;
-    push_number(text, variable)?;
+    push_decimal(text, u64::from(variable))?;
     push_spaced(text, words)?;
     text.push(b'\n')
 }

@@ -1,6 +1,6 @@
 ghost use Rattle.std.specs.Prelude.{◌≡◌, ◌++◌, ◌+◌, ◌≤◌, length, map, OnOk};
 ghost use Rattle.std.specs.List.{enumerate_from, flat_map};
-ghost use Rattle.formula_text.specs.declared.property.Property.TheVariants.{Liveness};
+ghost use Rattle.bspl_types.specs.declared.property.Property.TheVariants.{Liveness};
 ghost use Rattle.formula_text.specs.FormulaText.{meaning_line};
 ghost use Rattle.formula_text.specs.Legend.{lack, own_meanings, unbound};
 

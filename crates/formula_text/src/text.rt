@@ -1,11 +1,10 @@
 ghost use Rattle.std.specs.Prelude.{IfOk};
 ghost use Rattle.formula_text.specs.FormulaText.{IsFormulaText};
 
-use super::formula::formula_of;
 use super::legend::push_legend;
 use super::lines::push_formula;
-use super::property::Property;
-use bspl_types::Admitted;
+use bspl_types::{Admitted, Property};
+use clause_encoding::formula_of;
 use list_base::{Bytes, NoMemory};
 use std::alloc::Global;
 

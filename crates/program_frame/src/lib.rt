@@ -1,7 +1,6 @@
 //! The frame of a program: it reads, answers and writes.
 #![tactic(auto)]
 
-mod aborted;
 mod call;
 mod ending;
 mod program;

@@ -1,4 +1,4 @@
-ghost use Rattle.std.specs.Prelude.{List, ℕ, ◌≤◌, ◌<◌, length, map, string_bytes, IfOk, MatchOption};
+ghost use Rattle.std.specs.Prelude.{◌≡◌, List, ℕ, ◌≤◌, ◌<◌, length, map, string_bytes, IfOk, MatchOption};
 ghost use Rattle.program_frame.specs.Program.{IsRequested};
 
 use super::ending::ExitStatus;
@@ -23,14 +23,15 @@ pub trait Program<'a>: Drop {
     ghost answers: { List (List ℕ) → List ℕ → List ℕ → Self.Status → Type 0 };
 
     // The most bytes of an input that are read.
-    ghost LIMIT: { ℕ };
-
-    /// The most bytes of an input that are read.
-    const LIMIT: u64;
+    ghost limit: { ℕ };
 
     /// Reads what the arguments request.
     fn request(alloc: Global, args: &'a [String]) -> Result<Self, NoMemory>
         ensures { IfOk result (requests (map string_bytes args.now)) };
+
+    /// The most bytes of an input that are read.
+    fn input_limit(&self) -> u64
+        ensures { result ≡ limit };
 
     /// The reply that needs no input, if the arguments ask for none.
     fn unread(&self, alloc: Global) -> Result<Option<Reply<Self::Status>>, NoMemory>
@@ -42,7 +43,7 @@ pub trait Program<'a>: Drop {
     /// The reply to the whole input.
     fn read(&self, alloc: Global, input: &[u8]) -> Result<Reply<Self::Status>, NoMemory>
         requires known { IsRequested requests self.now }
-        requires short { length input.now ≤ LIMIT }
+        requires short { length input.now ≤ limit }
         ensures { (args : List (List ℕ)) → requests args self.now → asks args →
             IfOk result (λ reply. answers args input.now reply.text reply.status) };
 
@@ -50,6 +51,6 @@ pub trait Program<'a>: Drop {
     fn too_long(&self, alloc: Global) -> Result<Reply<Self::Status>, NoMemory>
         requires known { IsRequested requests self.now }
         ensures { (args : List (List ℕ)) → requests args self.now → asks args →
-            IfOk result (λ reply. (bytes : List ℕ) → LIMIT < length bytes
+            IfOk result (λ reply. (bytes : List ℕ) → limit < length bytes
             → answers args bytes reply.text reply.status) };
 }

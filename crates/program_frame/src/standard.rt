@@ -18,7 +18,7 @@ pub fn answer<'a, P: Program<'a>, R: Read, W: Write>(
     input: R,
     output: W,
 ) -> (Ending<P::Status>, StdSource<R>, StdSink<W>)
-    ensures call { IfOk args.now (λ args. IsCall (P.asks (map string_bytes args.items)) P.LIMIT
+    ensures call { IfOk args.now (λ args. IsCall (P.asks (map string_bytes args.items)) P.limit
         (P.answers (map string_bytes args.items)) (record {
           remaining = R.remaining input;
           remaining_after = ⟦<StdSource<R> as Source>⟧.remaining result.1;

@@ -2,7 +2,7 @@
 use Rattle.std.proofs.Common.{◌≡◌, ℕ, List, [], ◌∷◌, eqb, Option, Some, None, ◌∙◌, ap}
 use Rattle.std.specs.List.{join_with_byte, slice_split}
 use Rattle.std.proofs.lemmas.List.Splits.{join_with_byte-slice_split}
-use Rattle.text_lines.specs.Lines.{parts_in}
+use Rattle.list_base.specs.Lines.{parts_in}
 use Rattle.tool_input.specs.declared.parts.Part.{Part}
 use Rattle.tool_input.specs.Parts.{all_parts, first_part, first_part_in, part_begun}
 

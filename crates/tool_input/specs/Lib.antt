@@ -7,3 +7,4 @@ pub mod Input
 pub mod TextRefusal
 pub mod Rejection
 pub mod Laws
+pub mod Status

@@ -84,18 +84,18 @@ text_rejection (RepeatedParam message param) =
     Some (with_two (E 14) (field.Name message) (field.Name param))
 text_rejection NoMemory = None
 
--- the part that an input lacks, an input over its limit, and a form that is not supported
+-- the part that an input lacks, an input over its limit, and a request that is not supported
 abbrev pub lacks_part : Part → Rejection
 lacks_part part = with_one (P 1) (field.Part part)
 
 abbrev pub over_limit : ℕ → Rejection
 over_limit limit = with_one (P 2) (field.Number limit)
 
-abbrev pub not_built : Rejection
-not_built = bare (N 1)
+abbrev pub unsupported_request : Rejection
+unsupported_request = bare (N 1)
 
 -- a refusal of the input, by its code
 abbrev pub input_rejection : InputRefusal → Rejection
 input_rejection (input.NoPart part) = lacks_part part
 input_rejection (input.TooLong limit) = over_limit limit
-input_rejection input.NotBuilt = not_built
+input_rejection input.Unsupported = unsupported_request

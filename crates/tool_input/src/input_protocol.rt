@@ -12,17 +12,24 @@ use bspl_types::{Admitted, Refusal, What};
 use protocol_expand::expand;
 use std::alloc::Global;
 
-/// The protocol of the name that the input's protocol text declares, or why it declares none. The
-/// first refusal counts: for the length of the text, as it is read, as the protocol is expanded,
-/// as its expansion is admitted.
+/// The protocol of the name that the input's protocol text declares, or why it declares none.
 pub fn protocol_of(alloc: Global, name: &[u8], input: &[u8]) -> Result<Admitted, Refusal>
     ensures ok { IfOk result (Declares name.now (protocol_text input.now)) }
     ensures refused { IfErr result (λ r.
         r ≢ NoMemory → RefusesText name.now (protocol_text input.now) r) }
 {
+    declared_protocol(alloc, name, protocol_text(input))
+}
+
+/// The protocol of the name that the text declares, or why it declares none. The first refusal
+/// counts: for the length of the text, as it is read, as the protocol is expanded, as its expansion
+/// is admitted.
+pub fn declared_protocol(alloc: Global, name: &[u8], text: &[u8]) -> Result<Admitted, Refusal>
+    ensures ok { IfOk result (Declares name.now text.now) }
+    ensures refused { IfErr result (λ r. r ≢ NoMemory → RefusesText name.now text.now r) }
+{
     // law: each text that is parsed is printed back
     reads_back();
-    let text = protocol_text(input);
     if text.len() > TEXT_LIMIT {
         return Err(Refusal::Limit {
             what: What::Text,

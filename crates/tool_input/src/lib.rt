@@ -9,12 +9,14 @@ mod parts;
 mod refusal;
 mod rejection;
 mod rejection_text;
+mod status;
 
 pub use input_part::needed_part;
-pub use input_protocol::protocol_of;
+pub use input_protocol::{declared_protocol, protocol_of};
 pub use laws::texts_are_judged_once;
 pub use limits::{INPUT_LIMIT, TEXT_LIMIT};
 pub use parts::{Part, first_part, protocol_text};
 pub use refusal::InputRefusal;
 pub use rejection::{Code, Field, Rejection, input_rejection, text_rejection};
-pub use rejection_text::rejection_line;
+pub use rejection_text::{refused, rejection_line};
+pub use status::Status;

@@ -13,7 +13,7 @@ pub enum InputRefusal {
     TooLong { limit: u64 },
     /// What is requested is not supported.
     #[error("this is not supported")]
-    NotBuilt,
+    Unsupported,
 }
 
 impl Debug for InputRefusal {

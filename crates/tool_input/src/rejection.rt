@@ -101,7 +101,7 @@ pub fn input_rejection(refusal: InputRefusal) -> Rejection
     match refusal {
         InputRefusal::NoPart { part } => Rejection::with_one(Code::P(1), Field::Part(part)),
         InputRefusal::TooLong { limit } => Rejection::with_one(Code::P(2), Field::Number(limit)),
-        InputRefusal::NotBuilt => Rejection::bare(Code::N(1)),
+        InputRefusal::Unsupported => Rejection::bare(Code::N(1)),
     }
 }
 

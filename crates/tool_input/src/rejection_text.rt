@@ -1,9 +1,22 @@
 ghost use Rattle.std.specs.Prelude.{◌≡◌, ◌++◌, IfOk, OnOk};
-ghost use Rattle.tool_input.specs.Rejection.{after_space, code_text, field_text, rejection_line, what_word};
+ghost use Rattle.tool_input.specs.Rejection.{after_space, code_text, rejection_line, what_word};
 
 use super::rejection::{Code, Field, Rejection};
+use super::status::Status;
 use bspl_types::{Bytes, NoMemory, What};
+use program_frame::Reply;
 use std::alloc::Global;
+
+/// The reply to what is refused.
+pub fn refused(alloc: Global, rejection: &Rejection) -> Result<Reply<Status>, NoMemory>
+    ensures { IfOk result (λ reply.
+        (reply.text ≡ rejection_line rejection.now) × (reply.status ≡ Status.Refused)) }
+{
+    Ok(Reply {
+        status: Status::Refused,
+        text: rejection_line(alloc, rejection)?,
+    })
+}
 
 /// The line in which a rejection is written.
 pub fn rejection_line(alloc: Global, rejection: &Rejection) -> Result<Bytes, NoMemory>

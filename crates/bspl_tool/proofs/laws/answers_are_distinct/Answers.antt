@@ -1,5 +1,5 @@
 -- What the crates below answer once, the tool does.
-use Rattle.bspl_tool.proofs.Distinct.{OneEach, refusal_law, rejection_law, usage_law}
+use Rattle.bspl_tool.proofs.Distinct.{OneEach, answer_law, refusal_law, rejection_law, usage_law}
 use Rattle.bspl_tool.proofs.laws.answers_are_distinct.Goals as goal
 
 pub returns : goal.returns
@@ -12,6 +12,7 @@ returns c =
         exclusive = c.texts_are_judged_once.ensures.exclusive;
       };
       evidence = record {
+        printing = c.prints_once.ensures;
         check = record {
           logs = c.reads_once.ensures.logs;
           refusals = c.reads_once.ensures.refusals;
@@ -32,4 +33,4 @@ returns c =
           exclusive = c.reads_once-3.ensures.exclusive;
         };
       };
-    } in record { usage = usage_law; rejection = rejection_law each; refused = refusal_law each }
+    } in record { usage = usage_law; rejection = rejection_law each; refused = refusal_law each; answer = answer_law each }

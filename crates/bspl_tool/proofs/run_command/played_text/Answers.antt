@@ -1,4 +1,4 @@
--- The world of a run has come to its end.
+-- The world of a run has come to its end, in the order of the plan's seed.
 use Rattle.std.proofs.lemmas.Result.{IfOk-weaker}
 use Rattle.bspl_types.specs.declared.event.Event.{Event}
 use Rattle.std.proofs.Common.{List}
@@ -15,4 +15,4 @@ returns c =
     let script = c.script.result.now in
     let desks = c.in_ok-world.world.desks in
     IfOk-weaker c.world_text.result (λ text. (run : List Event) → AreLocal x (histories_of desks) → HasHistories x desks run → IsWorldText x script run text) (IsPlayedText c.args.job.now)
-    (λ text. finished_text c.args.job.now x script desks text c.admitted.ensures c.script.ensures.same c.in_ok-world.ensures.finished) c.world_text.ensures
+    (λ text. finished_text c.args.job.now x script desks text c.admitted.ensures c.script.ensures.same c.in_ok-world.ensures.finished c.in_ok-world.ensures.course) c.world_text.ensures

@@ -1,23 +1,23 @@
--- The answer is that to the job.
-use Rattle.std.proofs.lemmas.Result.{IfErr-weaker, IfOk-weaker}
-use Rattle.bspl_tool.specs.declared.reply.Reply.{Reply}
-use Rattle.bspl_tool.specs.RunAnswer.{IsJobAnswer, IsRunAnswer, IsRunRefused}
-use Rattle.bspl_tool.specs.inner.Error.{RejectsFor}
-use Rattle.bspl_tool.proofs.NeverRefused.{never_refused}
-use Rattle.bspl_tool.proofs.RunAnswers.{given_answer}
+-- The answer is that to the job: the verdicts, and then what its agents play if the protocol is found safe.
+use Rattle.std.proofs.Common.{◌≡◌, subst}
+use Rattle.verdict.specs.declared.outcome.Safety.TheVariants.{Safe}
+use Rattle.bspl_tool.specs.VerifyAnswer.{IsVerdictAnswer}
+use Rattle.bspl_tool.proofs.RunAnswers.{playing_answer, verdicts_answer}
 use Rattle.bspl_tool.proofs.run_command.run.Goals as goal
 
-pub returns-clause-ok : goal.returns-clause-ok
-returns-clause-ok c =
-    let brief = c.args.brief in
-    let budget = c.args.conflicts in
-    let x = c.args.protocol in
-    let part = c.args.part.now in
-    let job = c.in_ok-job.job in
-    IfOk-weaker c.job_answer.result (λ (reply : Reply). IsJobAnswer brief budget job reply.text reply.status) (λ (reply : Reply). IsRunAnswer brief budget c.args.threads x part reply.text reply.status)
-    (λ reply. given_answer brief budget c.args.threads x part job reply c.in_ok-job.ensures.no_threads c.in_ok-job.ensures.ok) c.job_answer.ensures.ok
+pub returns-in-Safe-clause-ok : goal.returns-in-Safe-clause-ok
+returns-in-Safe-clause-ok c =
+    let given = c.in_ok-verdicts.field-0 in
+    let verified = subst (λ y. IsVerdictAnswer c.args.brief c.args.conflicts y given.verdicts given.reply.text) c.admitted.ensures c.in_ok-verdicts.ensures.answer in
+    let is : given.verdicts.safety ≡ Safe c.in-Safe.field-0 = (let found = c.in-Safe.is in let same = c.in_ok-verdicts.verdicts-is in cc) in
+    playing_answer c.args.brief c.args.conflicts c.args.threads c.args.protocol c.args.part.now c.in_ok-job.job given.verdicts c.in-Safe.field-0 given.reply c.in_ok-job.ensures.no_threads c.in_ok-job.ensures.ok verified c.in_ok-verdicts.ensures.ends is
 
-pub returns-clause-refused : goal.returns-clause-refused
-returns-clause-refused c =
-    IfErr-weaker c.job_answer.result (RejectsFor (λ _. ⊥)) (RejectsFor (IsRunRefused c.args.threads c.args.protocol c.args.part.now))
-    (never_refused (IsRunRefused c.args.threads c.args.protocol c.args.part.now)) c.job_answer.ensures.refused
+pub returns-in_default : goal.returns-in_default
+returns-in_default c =
+    let given = c.in_ok-verdicts.field-0 in
+    let verified = subst (λ y. IsVerdictAnswer c.args.brief c.args.conflicts y given.verdicts given.reply.text) c.admitted.ensures c.in_ok-verdicts.ensures.answer in
+    record {
+      ok = verdicts_answer c.args.brief c.args.conflicts c.args.threads c.args.protocol c.args.part.now c.in_ok-job.job given.verdicts given.reply c.in_ok-job.ensures.no_threads c.in_ok-job.ensures.ok verified c.in_ok-verdicts.ensures.ends c.in_default.not-Safe;
+      safe = tt;
+      refused = tt;
+    }

@@ -1,12 +1,11 @@
 -- Where `clap` fails nothing is read, and else its matches hold what is parsed.
-use Rattle.std.proofs.Common.{◌≡◌, true, List, [], ℕ, map, string_bytes, IfOk, MatchOption, sym, ap, subst, ◌∙◌, codes}
+use Rattle.std.proofs.Common.{◌≡◌, true, [], map, string_bytes, sym, ap, subst, ◌∙◌}
 use Rattle.std.specs.List.{list_all}
 use Rattle.std.proofs.lemmas.List.Folds.{list_all-map}
 use Rattle.clap.specs.Words.{found_of, is_simple, is_simple_and_free, fault_of, matches_of, app_of}
 use Rattle.command_line.specs.Clap.{cli_app}
-use Rattle.command_line.specs.RawArgs.{parsed_of}
 use Rattle.command_line.specs.Known.{is_known}
-use Rattle.command_line.specs.ParsedArgs.{HasNoRepeats, ParsesTo, nothing_parsed}
+use Rattle.command_line.specs.ParsedArgs.{ParsesTo, nothing_parsed}
 use Rattle.command_line.proofs.Final.{read_words, read_passes}
 use Rattle.command_line.proofs.Getters.{memory_only, given_is}
 use Rattle.command_line.proofs.Rules.{app_is_simple, app_is_free}

@@ -1,10 +1,8 @@
 -- What the arguments say is judged.
-use Rattle.std.proofs.Common.{◌≡◌, true, false, List, ℕ, map, string_bytes, MatchOption, sym, ◌∙◌}
-use Rattle.std.specs.List.{list_all}
+use Rattle.std.proofs.Common.{◌≡◌, true, false, map, string_bytes, sym, ◌∙◌}
 use Rattle.std.proofs.lemmas.List.Folds.{list_all-map}
 use Rattle.command_line.specs.RawArgs.{parsed_of}
 use Rattle.command_line.specs.Known.{is_known}
-use Rattle.command_line.specs.Line.{IsCommandLine}
 use Rattle.command_line.proofs.Known.{line_known}
 use Rattle.command_line.proofs.LineLemmas.{line_of_words, none_from_words}
 use Rattle.command_line.proofs.line.command_line.Goals as goal

@@ -1,0 +1,33 @@
+use program_frame::ExitStatus;
+
+/// How an answer ends.
+#[derive(Clone, Copy, Debug, PartialEq, Eq)]
+pub enum Status {
+    /// The protocol is safe and live; the log is accepted; the run is legal, in conflict or not;
+    /// the expansion or the formula is printed.
+    Done,
+    /// The protocol is not safe or not live; the log is rejected; the run is not legal.
+    Refuted,
+    /// A verdict is undecided, and none refutes.
+    Undecided,
+    /// The arguments are invalid; a usage line is printed.
+    Usage,
+    /// The input is refused, or the command is not supported; the refusal is printed.
+    Refused,
+}
+
+impl ExitStatus for Status {
+    ghost use Rattle.tool_input.specs.Status.{exit_status};
+
+    ghost exit = { exit_status };
+
+    fn number(self) -> u8 {
+        match self {
+            Status::Done => 0,
+            Status::Refuted => 1,
+            Status::Undecided => 2,
+            Status::Usage => 3,
+            Status::Refused => 4,
+        }
+    }
+}
