@@ -1,5 +1,4 @@
-use bspl_parser::{Declaration, Document, Word, parse, print};
-use list_base::Bytes;
+use bspl_parser::{Declaration, Document, Word, parse};
 use std::alloc::Global;
 use std::test::Fail;
 
@@ -62,75 +61,95 @@ fn words_have_their_offsets(rt: HostRuntime) -> Result<(), Fail> {
     Ok(())
 }
 
-/// Texts, each with its number of roles, public and private parameters and items, summed over its
+/// A text, and its number of roles, public and private parameters and items, summed over its
 /// protocols.
-const COUNTS: &[([usize; 4], &[u8])] = &[
-    ([2, 1, 0, 1], PING),
-    ([3, 4, 2, 6], PURCHASE),
-    ([2, 2, 1, 3], RACE),
-    ([1, 1, 0, 0], b"P{role A parameter out x key}"),
-    (
-        [1, 1, 0, 0],
-        b"\t P {\r\n roles A // one role\n parameters out x\n}\r\n// the end",
-    ),
-    (
-        [1, 1, 0, 0],
-        b"//\n// a\n\nP//b\n{role//c\nA parameter out x}//",
-    ),
-    (
-        [1, 1, 0, 0],
-        b"P{role A // \0 \xFF ; \xE2\n parameter out x}",
-    ),
-    (
-        [2, 1, 0, 1],
-        b"P{roles A-1,B parameters out ID key A-1->B:m[out ID]}",
-    ),
-    (
-        [2, 1, 0, 1],
-        b"P{roles A,B parameters out x key A \xE2\x86\xA6 B: m[out x] }",
-    ),
-    (
-        [2, 1, 0, 1],
-        b"P{roles A,B parameters out x A\xE2\x86\xA6B:m[out x]}",
-    ),
-    (
-        [2, 1, 0, 0],
-        b"P{roles rolesA,in#1.key parameters out inner}",
-    ),
-    (
-        [2, 1, 0, 0],
-        b"P{roles a#1.roles,a#1.b#20.c-1 parameters out _}",
-    ),
-    (
-        [2, 3, 0, 1],
-        b"P{roles role1,private-a parameters in inner,nil nilly,opt o A->_:key-1[any anyway]}",
-    ),
-    ([2, 2, 0, 0], b"P{roles A,A parameters out x,out x}"),
-    (
-        [2, 3, 2, 0],
-        b"P{roles A,B parameters in x,nil y,out z private u,v}",
-    ),
-    (
-        [1, 1, 0, 2],
-        b"P{role A parameter out x Q(A)R(A,A,nil y,opt z key)}",
-    ),
-    (
-        [2, 1, 0, 1],
-        b"P { roles A, B parameters out x key A -> B: m[in x key, opt y] }",
-    ),
-    (
-        [2, 2, 0, 0],
-        b"P{role A parameter out x}P{role A parameter out x}",
-    ),
-    (
-        [2, 6, 0, 1],
-        b"P{roles A parameters any x,opt y,nil z,in a#1.b key Q(A,in x,out y key)}
+struct Row {
+    text: &'static [u8],
+    counts: [usize; 4],
+}
+
+const ROWS: &[Row] = &[
+    Row {
+        text: PING,
+        counts: [2, 1, 0, 1],
+    },
+    Row {
+        text: PURCHASE,
+        counts: [3, 4, 2, 6],
+    },
+    Row {
+        text: RACE,
+        counts: [2, 2, 1, 3],
+    },
+    Row {
+        text: b"P{role A parameter out x key}",
+        counts: [1, 1, 0, 0],
+    },
+    Row {
+        text: b"\t P {\r\n roles A // one role\n parameters out x\n}\r\n// the end",
+        counts: [1, 1, 0, 0],
+    },
+    Row {
+        text: b"//\n// a\n\nP//b\n{role//c\nA parameter out x}//",
+        counts: [1, 1, 0, 0],
+    },
+    Row {
+        text: b"P{role A // \0 \xFF ; \xE2\n parameter out x}",
+        counts: [1, 1, 0, 0],
+    },
+    Row {
+        text: b"P{roles A-1,B parameters out ID key A-1->B:m[out ID]}",
+        counts: [2, 1, 0, 1],
+    },
+    Row {
+        text: b"P{roles A,B parameters out x key A \xE2\x86\xA6 B: m[out x] }",
+        counts: [2, 1, 0, 1],
+    },
+    Row {
+        text: b"P{roles A,B parameters out x A\xE2\x86\xA6B:m[out x]}",
+        counts: [2, 1, 0, 1],
+    },
+    Row {
+        text: b"P{roles rolesA,in#1.key parameters out inner}",
+        counts: [2, 1, 0, 0],
+    },
+    Row {
+        text: b"P{roles a#1.roles,a#1.b#20.c-1 parameters out _}",
+        counts: [2, 1, 0, 0],
+    },
+    Row {
+        text: b"P{roles role1,private-a parameters in inner,nil nilly,opt o A->_:key-1[any anyway]}",
+        counts: [2, 3, 0, 1],
+    },
+    Row {
+        text: b"P{roles A,A parameters out x,out x}",
+        counts: [2, 2, 0, 0],
+    },
+    Row {
+        text: b"P{roles A,B parameters in x,nil y,out z private u,v}",
+        counts: [2, 3, 2, 0],
+    },
+    Row {
+        text: b"P{role A parameter out x Q(A)R(A,A,nil y,opt z key)}",
+        counts: [1, 1, 0, 2],
+    },
+    Row {
+        text: b"P { roles A, B parameters out x key A -> B: m[in x key, opt y] }",
+        counts: [2, 1, 0, 1],
+    },
+    Row {
+        text: b"P{role A parameter out x}P{role A parameter out x}",
+        counts: [2, 2, 0, 0],
+    },
+    Row {
+        text: b"P{roles A parameters any x,opt y,nil z,in a#1.b key Q(A,in x,out y key)}
 Q{roles R parameters in x,out y}",
-    ),
-    (
-        [1, 1, 0, 1],
-        b"P { roles rolesA parameters out inner rolesA->rolesA:_m1[in inner] }",
-    ),
+        counts: [2, 6, 0, 1],
+    },
+    Row {
+        text: b"P { roles rolesA parameters out inner rolesA->rolesA:_m1[in inner] }",
+        counts: [1, 1, 0, 1],
+    },
 ];
 
 /// The numbers of the document, summed over its protocols.
@@ -153,74 +172,7 @@ fn counts_in(alloc: Global, text: &[u8]) -> Option<[usize; 4]> {
 
 #[test]
 fn each_text_is_read(rt: HostRuntime) {
-    for (counts, text) in COUNTS {
-        assert!(rt; counts_in(rt.alloc(), text) == Some(*counts));
-    }
-}
-
-/// A text that is its own layout.
-const TOP: &[u8] = b"Top {
-  roles A, B
-  parameters out ID key, out x, out y
-  private P#2.t, P#3.t
-  A -> B: start[out ID]
-  A -> B: P#2.m[in ID, out x, out P#2.t]
-  B -> A: P#3.m[in ID, out y, out P#3.t]
-}
-";
-
-/// A text that has each line of the grammar.
-const ALL: &[u8] =
-    b"Q{roles R,S-1 parameters any x key,opt y,nil z,in w private p,q Sub(R,in x,nil z,any y key)
-Sub#2.a(R)R->S-1:m[opt p key,nil q]}S{role A parameter out x key A\xE2\x86\xA6A:n[out x]}";
-
-const ALL_LAID_OUT: &[u8] = b"Q {
-  roles R, S-1
-  parameters any x key, opt y, nil z, in w
-  private p, q
-  Sub(R, in x, nil z, any y key)
-  Sub#2.a(R)
-  R -> S-1: m[opt p key, nil q]
-}
-
-S {
-  roles A
-  parameters out x key
-  A -> A: n[out x]
-}
-";
-
-/// A text that has blanks and comments.
-const LOOSE: &[u8] =
-    b"// first\r\n\t P {\r\n role A // role\n,B parameters out x, // y\nin z\n\n}\r\n// the end";
-
-const LOOSE_LAID_OUT: &[u8] = b"P {
-  roles A, B
-  parameters out x, in z
-}
-";
-
-/// Texts and their layouts.
-const LAYOUTS: &[(&[u8], &[u8])] = &[(TOP, TOP), (ALL, ALL_LAID_OUT), (LOOSE, LOOSE_LAID_OUT)];
-
-/// The layout of the document that the text spells.
-fn layout_of(alloc: Global, text: &[u8]) -> Option<Bytes> {
-    let document = parse(alloc, text).ok()?;
-    print(alloc, &document).ok()
-}
-
-/// Whether the text has the layout, and the layout itself too.
-fn has_layout(alloc: Global, text: &[u8], wanted: &[u8]) -> bool {
-    let Some(layout) = layout_of(alloc, text) else {
-        return false;
-    };
-    let again = layout_of(alloc, layout.as_slice());
-    layout.as_slice() == wanted && again.is_some_and(|l| l.as_slice() == wanted)
-}
-
-#[test]
-fn each_document_has_its_layout(rt: HostRuntime) {
-    for (text, wanted) in LAYOUTS {
-        assert!(rt; has_layout(rt.alloc(), text, wanted));
+    for row in ROWS {
+        assert!(rt; counts_in(rt.alloc(), row.text) == Some(row.counts));
     }
 }

@@ -1,6 +1,6 @@
 use bspl_types::{Key, Text32, Value, Values};
+use key_table::KeyTable;
 use std::alloc::Global;
-use std::collections::HashMap;
 use std::test::Fail;
 
 /// Lists of numbers that are keys, no two of them equal.
@@ -72,42 +72,44 @@ fn texts_are_held_in_place(rt: HostRuntime) {
     assert!(rt; !Value::Number(7).same(&Value::Text(Text32::of(b"7"))));
 }
 
-/// The lists' indices under their keys.
-fn numbered(alloc: Global) -> Result<HashMap<Key, usize>, Fail> {
-    let mut numbers = HashMap::new(alloc);
-    for (number, list) in LISTS.iter().enumerate() {
-        numbers.insert(key(list).ok_or("no key")?, number)?;
+/// The keys of the lists, in a table.
+fn tabled(alloc: Global) -> Result<KeyTable, Fail> {
+    let mut table = KeyTable::new(alloc);
+    for list in LISTS {
+        let key = key(list).ok_or("no key")?;
+        if !table.has(&key) {
+            table.add(&key)?;
+        }
     }
-    Ok(numbers)
+    Ok(table)
 }
 
-/// The index that is found under the key of these numbers.
-fn found(numbers: &HashMap<Key, usize>, list: &[u64]) -> Option<usize> {
+/// The index that is found of the key of these numbers.
+fn found(table: &KeyTable, list: &[u64]) -> Option<usize> {
     let key = key(list)?;
-    numbers.get(&key).copied()
+    table.index_of(&key)
 }
 
 /// Whether each list has its index, and the absent one has none.
-fn are_found(numbers: &HashMap<Key, usize>) -> bool {
+fn are_found(table: &KeyTable) -> bool {
     let mut lists = LISTS.iter().enumerate();
-    lists.all(|(number, list)| found(numbers, list) == Some(number))
-        && found(numbers, ABSENT).is_none()
+    lists.all(|(number, list)| found(table, list) == Some(number)) && found(table, ABSENT).is_none()
 }
 
-/// Whether the key of a text, once it is added, is apart from that of the number.
-fn is_text_apart(numbers: &mut HashMap<Key, usize>) -> Result<bool, Fail> {
+/// Whether the key of a text, once it is added, is another than that of the number.
+fn is_text_apart(table: &mut KeyTable) -> Result<bool, Fail> {
     let text = Key::of(&[Value::Text(Text32::of(b"1"))]);
-    if numbers.get(&text).is_some() {
+    if table.has(&text) {
         return Ok(false);
     }
-    numbers.insert(text, 99)?;
-    Ok(numbers.get(&text) == Some(&99) && found(numbers, &[1]) == Some(1))
+    table.add(&text)?;
+    Ok(table.index_of(&text) == Some(LISTS.len()) && table.at(LISTS.len()) == text)
 }
 
 #[test]
-fn keys_are_found_by_their_hash(rt: HostRuntime) -> Result<(), Fail> {
-    let mut numbers = numbered(rt.alloc())?;
-    assert!(rt; are_found(&numbers));
-    assert!(rt; is_text_apart(&mut numbers)?);
+fn keys_are_found_in_a_table(rt: HostRuntime) -> Result<(), Fail> {
+    let mut table = tabled(rt.alloc())?;
+    assert!(rt; are_found(&table) && table.len() == LISTS.len());
+    assert!(rt; is_text_apart(&mut table)?);
     Ok(())
 }

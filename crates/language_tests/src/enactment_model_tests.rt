@@ -1,4 +1,4 @@
-use super::expanded_tests::{AB, Declared, Schema, assemble};
+use super::protocols::{Declared, ID, OUT_ID, PING, PING_ALONE, Parts, Schema, assemble};
 use bspl_types::{Adornment, Carried, NoMemory};
 use enactment_model::single_producer;
 use std::alloc::Global;
@@ -6,21 +6,23 @@ use std::test::Fail;
 
 /// The parameters: the key, the item and the price.
 const PARAMS: &[Declared] = &[
-    (b"ID", Some(Adornment::Out), true),
-    (b"item", Some(Adornment::Out), false),
-    (b"price", Some(Adornment::Out), false),
+    ID,
+    Declared {
+        name: b"item",
+        key: false,
+        ..ID
+    },
+    Declared {
+        name: b"price",
+        key: false,
+        ..ID
+    },
 ];
 
 /// The key, adorned `in`.
 const IN_ID: Carried = Carried {
     param: 0,
     adornment: Adornment::In,
-};
-
-/// The key, adorned `out`.
-const OUT_ID: Carried = Carried {
-    param: 0,
-    adornment: Adornment::Out,
 };
 
 /// The item, adorned `in`.
@@ -48,39 +50,106 @@ const OUT_PRICE: Carried = Carried {
 };
 
 /// Messages, and whether each parameter has one producer at most.
-const ROWS: &[(&[Schema], bool)] = &[
-    (&[], true),
-    (
-        &[
-            (b"ask", 0, 1, &[OUT_ID, OUT_ITEM]),
-            (b"quote", 0, 1, &[IN_ID, IN_ITEM, OUT_PRICE]),
-            (b"drop", 0, 1, &[IN_ID, NIL_ITEM]),
+struct Row {
+    messages: &'static [Schema],
+    single: bool,
+}
+
+const ROWS: &[Row] = &[
+    Row {
+        messages: &[],
+        single: true,
+    },
+    Row {
+        messages: &[
+            Schema {
+                name: b"ask",
+                carried: &[OUT_ID, OUT_ITEM],
+                ..PING
+            },
+            Schema {
+                name: b"quote",
+                carried: &[IN_ID, IN_ITEM, OUT_PRICE],
+                ..PING
+            },
+            Schema {
+                name: b"drop",
+                carried: &[IN_ID, NIL_ITEM],
+                ..PING
+            },
         ],
-        true,
-    ),
-    (&[(b"m", 0, 1, &[OUT_ID]), (b"n", 0, 1, &[OUT_ID])], false),
-    (
-        &[
-            (b"ask", 0, 1, &[OUT_ID, OUT_PRICE]),
-            (b"tell", 0, 1, &[IN_ID, OUT_ITEM]),
-            (b"quote", 0, 1, &[IN_ID, IN_ITEM, OUT_PRICE]),
+        single: true,
+    },
+    Row {
+        messages: &[
+            Schema {
+                name: b"m",
+                carried: &[OUT_ID],
+                ..PING
+            },
+            Schema {
+                name: b"n",
+                carried: &[OUT_ID],
+                ..PING
+            },
         ],
-        false,
-    ),
-    (
-        &[
-            (b"ask", 0, 1, &[OUT_ID]),
-            (b"tell", 0, 1, &[IN_ID, OUT_ITEM, OUT_PRICE]),
-            (b"quote", 0, 1, &[IN_ID, IN_ITEM, OUT_PRICE]),
+        single: false,
+    },
+    Row {
+        messages: &[
+            Schema {
+                name: b"ask",
+                carried: &[OUT_ID, OUT_PRICE],
+                ..PING
+            },
+            Schema {
+                name: b"tell",
+                carried: &[IN_ID, OUT_ITEM],
+                ..PING
+            },
+            Schema {
+                name: b"quote",
+                carried: &[IN_ID, IN_ITEM, OUT_PRICE],
+                ..PING
+            },
         ],
-        false,
-    ),
+        single: false,
+    },
+    Row {
+        messages: &[
+            Schema {
+                name: b"ask",
+                carried: &[OUT_ID],
+                ..PING
+            },
+            Schema {
+                name: b"tell",
+                carried: &[IN_ID, OUT_ITEM, OUT_PRICE],
+                ..PING
+            },
+            Schema {
+                name: b"quote",
+                carried: &[IN_ID, IN_ITEM, OUT_PRICE],
+                ..PING
+            },
+        ],
+        single: false,
+    },
 ];
 
 /// Whether each parameter of the protocol of the messages has one producer at most; nothing if
 /// there is no such protocol.
-fn has_single_producers(alloc: Global, schemas: &[Schema]) -> Result<Option<bool>, NoMemory> {
-    match assemble(alloc, (AB, PARAMS, 3, schemas))? {
+fn has_single_producers(
+    alloc: Global,
+    messages: &'static [Schema],
+) -> Result<Option<bool>, NoMemory> {
+    let parts = Parts {
+        params: PARAMS,
+        public: 3,
+        messages,
+        ..PING_ALONE
+    };
+    match assemble(alloc, &parts)? {
         Some(x) => Ok(Some(single_producer(&x))),
         None => Ok(None),
     }
@@ -88,8 +157,8 @@ fn has_single_producers(alloc: Global, schemas: &[Schema]) -> Result<Option<bool
 
 #[test]
 fn two_producers_of_a_parameter_are_found(rt: HostRuntime) -> Result<(), Fail> {
-    for (schemas, want) in ROWS {
-        assert!(rt; has_single_producers(rt.alloc(), schemas) == Ok(Some(*want)));
+    for row in ROWS {
+        assert!(rt; has_single_producers(rt.alloc(), row.messages) == Ok(Some(row.single)));
     }
     Ok(())
 }

@@ -1,24 +1,8 @@
+use super::protocols::{Declared, ID, OUT_ID, PING, PING_ALONE, Parts, Schema, assemble};
 use adornment_check::admit;
-use bspl_types::{
-    Admitted, Adornment, Carried, Expanded, Message, Name, NoMemory, ParamInfo, Seq, TryClone,
-    index_of,
-};
+use bspl_types::{Admitted, Adornment, Carried, Expanded, NoMemory, TryClone, index_of};
 use std::alloc::Global;
 use std::test::Fail;
-
-/// A name, the adornment and whether it is a key.
-pub(crate) type Declared<'a> = (&'a [u8], Option<Adornment>, bool);
-
-/// A name, the sender, the receiver and what it carries.
-pub(crate) type Schema<'a> = (&'a [u8], u32, u32, &'a [Carried]);
-
-/// Roles, parameters, how many of these are public, and messages.
-pub(crate) type Parts<'a> = (&'a [&'a [u8]], &'a [Declared<'a>], u32, &'a [Schema<'a>]);
-
-const OUT_ID: Carried = Carried {
-    param: 0,
-    adornment: Adornment::Out,
-};
 
 const NIL_ID: Carried = Carried {
     param: 0,
@@ -30,129 +14,161 @@ const OUT_ITEM: Carried = Carried {
     adornment: Adornment::Out,
 };
 
-const ID: Declared = (b"ID", Some(Adornment::Out), true);
+const ITEM: Declared = Declared {
+    name: b"item",
+    adornment: Some(Adornment::In),
+    key: false,
+};
 
-const ITEM: Declared = (b"item", Some(Adornment::In), false);
-
-const HIDDEN: Declared = (b"hidden", None, false);
-
-pub(crate) const AB: &[&[u8]] = &[b"A", b"B"];
+const HIDDEN: Declared = Declared {
+    name: b"hidden",
+    adornment: None,
+    key: false,
+};
 
 const EIGHT: &[&[u8]] = &[b"A", b"B", b"C", b"D", b"E", b"F", b"G", b"H"];
 
 const NINE: &[&[u8]] = &[b"A", b"B", b"C", b"D", b"E", b"F", b"G", b"H", b"I"];
 
-/// Role A sends ping to role B; it produces the key ID.
-const SCHEMA: Schema = (b"ping", 0, 1, &[OUT_ID]);
-
-const PING: &[Schema] = &[SCHEMA];
-
-/// The protocol of ping alone.
-pub(crate) const PING_ALONE: Parts = (AB, &[ID], 1, PING);
-
 /// A protocol whose second parameter is its key.
-const KEY_IS_SECOND: Parts = (AB, &[ITEM, ID], 2, PING);
+const KEY_IS_SECOND: Parts = Parts {
+    params: &[ITEM, ID],
+    public: 2,
+    ..PING_ALONE
+};
 
 /// The indices of its keys.
 const KEYS: &[u32] = &[1];
 
-/// Parts, and whether the protocol is admitted, or nothing if they are not well formed.
-type Row = (Parts<'static>, Option<bool>);
-
-const ROWS: &[Row] = &[
-    (PING_ALONE, Some(true)),
-    ((EIGHT, &[ID], 1, PING), Some(true)),
-    ((AB, &[ID, ITEM], 2, PING), Some(true)),
-    ((AB, &[ID, HIDDEN], 1, PING), Some(true)),
-    ((AB, &[ID], 1, &[]), Some(true)),
-    ((AB, &[ITEM], 1, PING), Some(false)),
-    (KEY_IS_SECOND, Some(false)),
-    ((AB, &[ID], 1, &[(b"m", 1, 1, &[OUT_ID])]), Some(false)),
-    (
-        (AB, &[ID], 1, &[(b"m", 0, 1, &[OUT_ID, OUT_ID])]),
-        Some(false),
-    ),
-    ((AB, &[ID], 1, &[(b"m", 0, 1, &[NIL_ID])]), Some(false)),
-    (
-        (AB, &[ID, ITEM], 2, &[(b"m", 0, 1, &[OUT_ITEM])]),
-        Some(false),
-    ),
-    ((&[b"A", b"A"], &[ID], 1, PING), None),
-    ((&[b"A", b"role"], &[ID], 1, PING), None),
-    ((NINE, &[ID], 1, PING), None),
-    ((AB, &[(b"ID", Some(Adornment::Nil), true)], 1, PING), None),
-    ((AB, &[(b"ID", None, true)], 1, PING), None),
-    ((AB, &[ID, ITEM], 1, PING), None),
-    ((AB, &[ID, ID], 2, PING), None),
-    ((AB, &[ID], 0, PING), None),
-    ((AB, &[ID], 2, PING), None),
-    ((AB, &[ID], 1, &[(b"m", 0, 2, &[OUT_ID])]), None),
-    ((AB, &[ID], 1, &[(b"m", 0, 1, &[OUT_ITEM])]), None),
-    ((AB, &[ID], 1, &[(b"m", 0, 1, &[])]), None),
-    ((AB, &[ID], 1, &[SCHEMA, SCHEMA]), None),
+/// Protocols that are admitted.
+const ADMITTED: &[Parts] = &[
+    PING_ALONE,
+    Parts {
+        roles: EIGHT,
+        ..PING_ALONE
+    },
+    Parts {
+        params: &[ID, ITEM],
+        public: 2,
+        ..PING_ALONE
+    },
+    Parts {
+        params: &[ID, HIDDEN],
+        ..PING_ALONE
+    },
+    Parts {
+        messages: &[],
+        ..PING_ALONE
+    },
 ];
 
-/// The name with these bytes.
-fn name(alloc: Global, text: &[u8]) -> Result<Name, NoMemory> {
-    Seq::from_slice(alloc, text)
-}
+/// Protocols that are well formed and refused.
+const REFUSED: &[Parts] = &[
+    Parts {
+        params: &[ITEM],
+        ..PING_ALONE
+    },
+    KEY_IS_SECOND,
+    Parts {
+        messages: &[Schema { sender: 1, ..PING }],
+        ..PING_ALONE
+    },
+    Parts {
+        messages: &[Schema {
+            carried: &[OUT_ID, OUT_ID],
+            ..PING
+        }],
+        ..PING_ALONE
+    },
+    Parts {
+        messages: &[Schema {
+            carried: &[NIL_ID],
+            ..PING
+        }],
+        ..PING_ALONE
+    },
+    Parts {
+        params: &[ID, ITEM],
+        public: 2,
+        messages: &[Schema {
+            carried: &[OUT_ITEM],
+            ..PING
+        }],
+        ..PING_ALONE
+    },
+];
 
-/// The names, in order.
-fn names(alloc: Global, texts: &[&[u8]]) -> Result<Seq<Name>, NoMemory> {
-    let mut names = Seq::new(alloc);
-    for text in texts {
-        names.push(name(alloc, text)?)?;
-    }
-    Ok(names)
-}
-
-/// The parameter.
-fn param(alloc: Global, (text, adornment, key): &Declared) -> Result<ParamInfo, NoMemory> {
-    Ok(ParamInfo {
-        name: name(alloc, text)?,
-        adornment: *adornment,
-        key: *key,
-    })
-}
-
-/// The parameters, in order.
-fn params(alloc: Global, declared: &[Declared]) -> Result<Seq<ParamInfo>, NoMemory> {
-    let mut params = Seq::new(alloc);
-    for row in declared {
-        params.push(param(alloc, row)?)?;
-    }
-    Ok(params)
-}
-
-/// The message.
-fn message(alloc: Global, schema: &Schema) -> Result<Message, NoMemory> {
-    let name = name(alloc, schema.0)?;
-    let carried = Seq::from_slice(alloc, schema.3)?;
-    Ok(Message {
-        name,
-        sender: schema.1,
-        receiver: schema.2,
-        carried,
-    })
-}
-
-/// The messages, in order.
-fn messages(alloc: Global, schemas: &[Schema]) -> Result<Seq<Message>, NoMemory> {
-    let mut messages = Seq::new(alloc);
-    for schema in schemas {
-        messages.push(message(alloc, schema)?)?;
-    }
-    Ok(messages)
-}
-
-/// The protocol of the parts, if they are well formed.
-pub(crate) fn assemble(alloc: Global, parts: Parts) -> Result<Option<Expanded>, NoMemory> {
-    let roles = names(alloc, parts.0)?;
-    let params = params(alloc, parts.1)?;
-    let messages = messages(alloc, parts.3)?;
-    let protocol = name(alloc, b"Ping")?;
-    Expanded::assemble(alloc, protocol, roles, params, parts.2, messages)
-}
+/// Parts that are not well formed.
+const MALFORMED: &[Parts] = &[
+    Parts {
+        roles: &[b"A", b"A"],
+        ..PING_ALONE
+    },
+    Parts {
+        roles: &[b"A", b"role"],
+        ..PING_ALONE
+    },
+    Parts {
+        roles: NINE,
+        ..PING_ALONE
+    },
+    Parts {
+        params: &[Declared {
+            adornment: Some(Adornment::Nil),
+            ..ID
+        }],
+        ..PING_ALONE
+    },
+    Parts {
+        params: &[Declared {
+            adornment: None,
+            ..ID
+        }],
+        ..PING_ALONE
+    },
+    Parts {
+        params: &[ID, ITEM],
+        ..PING_ALONE
+    },
+    Parts {
+        params: &[ID, ID],
+        public: 2,
+        ..PING_ALONE
+    },
+    Parts {
+        public: 0,
+        ..PING_ALONE
+    },
+    Parts {
+        public: 2,
+        ..PING_ALONE
+    },
+    Parts {
+        messages: &[Schema {
+            receiver: 2,
+            ..PING
+        }],
+        ..PING_ALONE
+    },
+    Parts {
+        messages: &[Schema {
+            carried: &[OUT_ITEM],
+            ..PING
+        }],
+        ..PING_ALONE
+    },
+    Parts {
+        messages: &[Schema {
+            carried: &[],
+            ..PING
+        }],
+        ..PING_ALONE
+    },
+    Parts {
+        messages: &[PING, PING],
+        ..PING_ALONE
+    },
+];
 
 /// Whether the expansion is admitted, and a copy of what was admitted too; nothing if there is no
 /// room for the copy.
@@ -179,19 +195,24 @@ fn is_admitted_again(admitted: &Admitted) -> Option<bool> {
     }
 }
 
-/// Whether the row's protocol is refused or admitted as it should be.
-fn is_passed(alloc: Global, row: &Row) -> bool {
-    match assemble(alloc, row.0) {
-        Ok(Some(x)) => is_admitted(x) == row.1,
-        Ok(None) => row.1.is_none(),
-        Err(NoMemory) => false,
+/// Whether the protocol is admitted; nothing if its parts are not well formed.
+fn answer(alloc: Global, parts: &Parts) -> Result<Option<bool>, NoMemory> {
+    match assemble(alloc, parts)? {
+        Some(x) => Ok(is_admitted(x)),
+        None => Ok(None),
     }
 }
 
 #[test]
 fn protocols_are_refused_or_admitted(rt: HostRuntime) {
-    for row in ROWS {
-        assert!(rt; is_passed(rt.alloc(), row));
+    for parts in ADMITTED {
+        assert!(rt; answer(rt.alloc(), parts) == Ok(Some(true)));
+    }
+    for parts in REFUSED {
+        assert!(rt; answer(rt.alloc(), parts) == Ok(Some(false)));
+    }
+    for parts in MALFORMED {
+        assert!(rt; answer(rt.alloc(), parts) == Ok(None));
     }
 }
 
@@ -205,7 +226,7 @@ fn has_indices(x: &Expanded) -> bool {
 
 /// Whether the indices of a second key and of the names are found.
 fn is_second_found(alloc: Global) -> Result<bool, NoMemory> {
-    match assemble(alloc, KEY_IS_SECOND)? {
+    match assemble(alloc, &KEY_IS_SECOND)? {
         Some(x) => Ok(has_indices(&x)),
         None => Ok(false),
     }

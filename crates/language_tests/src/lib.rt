@@ -1,4 +1,4 @@
-//! Tests of the crates that read texts and protocols.
+//! Tests of the language's crates by their public calls.
 #![tactic(auto)]
 
 #[cfg(test)]
@@ -12,8 +12,22 @@ mod enactment_model_tests;
 #[cfg(test)]
 mod expanded_tests;
 #[cfg(test)]
+mod expansion_tests;
+#[cfg(test)]
+mod graphs;
+#[cfg(test)]
 mod instance_tests;
+#[cfg(test)]
+mod layout_tests;
+#[cfg(test)]
+mod limit_tests;
 #[cfg(test)]
 mod list_base_tests;
 #[cfg(test)]
+mod protocol_limits_tests;
+#[cfg(test)]
 mod protocol_names_tests;
+#[cfg(test)]
+mod protocols;
+#[cfg(test)]
+mod reference_graph_tests;

@@ -21,16 +21,45 @@ const NAMES: &[&[u8]] = &[
     b"insurer",
 ];
 
-/// Names, and their first indices in the table.
-const INDICES: &[(&[u8], Option<usize>)] = &[
-    (b"buyer", Some(0)),
-    (b"seller", Some(1)),
-    (b"bank", Some(3)),
-    (b"first office of customs", Some(5)),
-    (b"second office of customs", Some(6)),
-    (b"insurer", Some(7)),
-    (b"ban", None),
-    (b"Seller", None),
+/// A name, and its first index in the table, if it is there.
+struct Found {
+    name: &'static [u8],
+    index: Option<usize>,
+}
+
+const FOUND: &[Found] = &[
+    Found {
+        name: b"buyer",
+        index: Some(0),
+    },
+    Found {
+        name: b"seller",
+        index: Some(1),
+    },
+    Found {
+        name: b"bank",
+        index: Some(3),
+    },
+    Found {
+        name: b"first office of customs",
+        index: Some(5),
+    },
+    Found {
+        name: b"second office of customs",
+        index: Some(6),
+    },
+    Found {
+        name: b"insurer",
+        index: Some(7),
+    },
+    Found {
+        name: b"ban",
+        index: None,
+    },
+    Found {
+        name: b"Seller",
+        index: None,
+    },
 ];
 
 /// The fault of that text which comes first.
@@ -82,14 +111,14 @@ fn table(alloc: Global) -> Result<NameTable<'static>, NoMemory> {
 }
 
 /// Whether the name has its first index in the table, or none.
-fn is_found(table: &NameTable, (name, index): &(&[u8], Option<usize>)) -> bool {
-    table.index(name) == *index && table.has(name) == index.is_some()
+fn is_found(table: &NameTable, row: &Found) -> bool {
+    table.index(row.name) == row.index && table.has(row.name) == row.index.is_some()
 }
 
 /// Whether the table has each name, and each first index.
 fn are_found(alloc: Global) -> Result<bool, NoMemory> {
     let table = table(alloc)?;
-    Ok(table.len() == NAMES.len() && INDICES.iter().all(|row| is_found(&table, row)))
+    Ok(table.len() == NAMES.len() && FOUND.iter().all(|row| is_found(&table, row)))
 }
 
 #[test]

@@ -21,13 +21,29 @@ const LIVENESS_OF_PING: &[&[i32]] = &[
 /// The links of a step.
 const LINKS: &[(i32, u32)] = &[(1, 6), (-3, 7)];
 
-/// A clause that is removed, the first clause of a step after that, and the answer.
-type Row = (u32, u32, Result<(), Reject>);
+/// A log of a removal and a step, and the answer.
+struct Row {
+    removed: u32,
+    first: u32,
+    answer: Result<(), Reject>,
+}
 
 const ROWS: &[Row] = &[
-    (1, 5, Ok(())),
-    (1, 0, Err(Reject::NoClause { step: 1 })),
-    (0, 5, Err(Reject::NoDrop { after: 0, item: 1 })),
+    Row {
+        removed: 1,
+        first: 5,
+        answer: Ok(()),
+    },
+    Row {
+        removed: 1,
+        first: 0,
+        answer: Err(Reject::NoClause { step: 1 }),
+    },
+    Row {
+        removed: 0,
+        first: 5,
+        answer: Err(Reject::NoDrop { after: 0, item: 1 }),
+    },
 ];
 
 /// A step of the first clause and the links, each a pivot and a clause.
@@ -73,9 +89,9 @@ fn log_of(alloc: Global, removed: u32, first: u32) -> Result<Log, NoMemory> {
 }
 
 /// Whether the row's log is answered as it should be.
-fn is_answered(alloc: Global, f: &Formula, (removed, first, wanted): &Row) -> bool {
-    match log_of(alloc, *removed, *first) {
-        Ok(log) => answer(alloc, f, &log) == Some(*wanted),
+fn is_answered(alloc: Global, f: &Formula, row: &Row) -> bool {
+    match log_of(alloc, row.removed, row.first) {
+        Ok(log) => answer(alloc, f, &log) == Some(row.answer),
         Err(NoMemory) => false,
     }
 }

@@ -5,32 +5,103 @@ use std::alloc::Global;
 use std::test::Fail;
 
 /// Literals as they are given, as their clause has them, and one that it has not.
-type Ascending = (&'static [i32], &'static [i32], i32);
+struct Ascending {
+    given: &'static [i32],
+    lits: &'static [i32],
+    absent: i32,
+}
 
 const CLAUSES: &[Ascending] = &[
-    (&[3, -1, 2, -1, 1, 3], &[-1, 1, 2, 3], -2),
-    (&[-2], &[-2], 2),
-    (&[], &[], 1),
+    Ascending {
+        given: &[3, -1, 2, -1, 1, 3],
+        lits: &[-1, 1, 2, 3],
+        absent: -2,
+    },
+    Ascending {
+        given: &[-2],
+        lits: &[-2],
+        absent: 2,
+    },
+    Ascending {
+        given: &[],
+        lits: &[],
+        absent: 1,
+    },
 ];
 
 /// Two clauses, a literal of the first, and the resolvent on it, if there is one.
-type Resolution = (&'static [i32], i32, &'static [i32], Option<&'static [i32]>);
+struct Resolution {
+    first: &'static [i32],
+    pivot: i32,
+    second: &'static [i32],
+    resolvent: Option<&'static [i32]>,
+}
 
 const RESOLUTIONS: &[Resolution] = &[
-    (&[1, 2], 1, &[-1, 3], Some(&[2, 3])),
-    (&[1, 2], 3, &[-1, 3], None),
-    (&[1, 2], -1, &[-1, 3], None),
-    (&[1, 2], 2, &[-1, 3], None),
-    (&[1, 2], -2, &[-1, 3], None),
-    (&[-1], -1, &[1], Some(&[])),
-    (&[-2, 1, 4, 5], 1, &[-2, -1, 3, 5], Some(&[-2, 3, 4, 5])),
+    Resolution {
+        first: &[1, 2],
+        pivot: 1,
+        second: &[-1, 3],
+        resolvent: Some(&[2, 3]),
+    },
+    Resolution {
+        first: &[1, 2],
+        pivot: 3,
+        second: &[-1, 3],
+        resolvent: None,
+    },
+    Resolution {
+        first: &[1, 2],
+        pivot: -1,
+        second: &[-1, 3],
+        resolvent: None,
+    },
+    Resolution {
+        first: &[1, 2],
+        pivot: 2,
+        second: &[-1, 3],
+        resolvent: None,
+    },
+    Resolution {
+        first: &[1, 2],
+        pivot: -2,
+        second: &[-1, 3],
+        resolvent: None,
+    },
+    Resolution {
+        first: &[-1],
+        pivot: -1,
+        second: &[1],
+        resolvent: Some(&[]),
+    },
+    Resolution {
+        first: &[-2, 1, 4, 5],
+        pivot: 1,
+        second: &[-2, -1, 3, 5],
+        resolvent: Some(&[-2, 3, 4, 5]),
+    },
 ];
 
-/// Clauses, and whether the assignment of true to the first of three variables alone satisfies
-/// them.
-type Satisfied = (&'static [i32], bool);
+/// A clause, and whether the assignment of true to the first of three variables alone satisfies it.
+struct Satisfied {
+    lits: &'static [i32],
+    satisfied: bool,
+}
 
-const SATISFIED: &[Satisfied] = &[(&[1, 2], true), (&[-1, 3], false), (&[-3, 2], true)];
+const SATISFIED: &[Satisfied] = &[
+    Satisfied {
+        lits: &[1, 2],
+        satisfied: true,
+    },
+    Satisfied {
+        lits: &[-1, 3],
+        satisfied: false,
+    },
+    Satisfied {
+        lits: &[-3, 2],
+        satisfied: true,
+    },
+];
 
 /// Whether the clause has these literals, in this order.
 fn has_lits(c: &Clause, numbers: &[i32]) -> bool {
@@ -46,16 +117,16 @@ fn is_copied(c: &Clause, numbers: &[i32]) -> bool {
 }
 
 /// Whether the clause has the row's literals, in their order, and no other.
-fn is_as_given(c: &Clause, (numbers, wanted, absent): &Ascending) -> bool {
-    has_lits(c, wanted)
-        && is_copied(c, wanted)
-        && numbers.iter().all(|number| c.has(lit(*number)))
-        && !c.has(lit(*absent))
+fn is_as_given(c: &Clause, row: &Ascending) -> bool {
+    has_lits(c, row.lits)
+        && is_copied(c, row.lits)
+        && row.given.iter().all(|number| c.has(lit(*number)))
+        && !c.has(lit(row.absent))
 }
 
 /// Whether the row's literals make their clause.
 fn is_clause(alloc: Global, row: &Ascending) -> bool {
-    match clause(alloc, row.0) {
+    match clause(alloc, row.given) {
         Ok(c) => is_as_given(&c, row),
         Err(NoMemory) => false,
     }
@@ -70,8 +141,8 @@ fn clauses_ascend_without_doubles(rt: HostRuntime) -> Result<(), Fail> {
 }
 
 /// Whether the clauses have the row's resolvent, or none if none is wanted.
-fn is_resolvent(alloc: Global, c: &Clause, d: &Clause, (_, pivot, _, wanted): &Resolution) -> bool {
-    match (resolve(alloc, c, lit(*pivot), d), wanted) {
+fn is_resolvent(alloc: Global, c: &Clause, d: &Clause, row: &Resolution) -> bool {
+    match (resolve(alloc, c, lit(row.pivot), d), row.resolvent) {
         (Ok(given), Some(numbers)) => has_lits(&given, numbers),
         (Err(refusal), None) => refusal == ResolveRefusal::NoPivot,
         (_, _) => false,
@@ -80,8 +151,8 @@ fn is_resolvent(alloc: Global, c: &Clause, d: &Clause, (_, pivot, _, wanted): &R
 
 /// Whether the row's clauses are resolved as they should be.
 fn is_resolved(alloc: Global, row: &Resolution) -> Result<bool, NoMemory> {
-    let c = clause(alloc, row.0)?;
-    let d = clause(alloc, row.2)?;
+    let c = clause(alloc, row.first)?;
+    let d = clause(alloc, row.second)?;
     Ok(is_resolvent(alloc, &c, &d, row))
 }
 
@@ -99,9 +170,9 @@ fn are_values(values: &Assignment) -> bool {
 }
 
 /// Whether the values satisfy the row's clause exactly if they should.
-fn is_satisfied(alloc: Global, values: &Assignment, (numbers, satisfied): &Satisfied) -> bool {
-    match clause(alloc, numbers) {
-        Ok(c) => values.vars() == 3 && c.is_over(3) && values.satisfies(&c) == *satisfied,
+fn is_satisfied(alloc: Global, values: &Assignment, row: &Satisfied) -> bool {
+    match clause(alloc, row.lits) {
+        Ok(c) => values.vars() == 3 && c.is_over(3) && values.satisfies(&c) == row.satisfied,
         Err(NoMemory) => false,
     }
 }

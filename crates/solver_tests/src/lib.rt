@@ -1,4 +1,4 @@
-//! Tests of the solver's crates by their public calls.
+//! Tests of the crates on clauses, logs and the solver.
 #![tactic(auto)]
 
 #[cfg(test)]
@@ -8,8 +8,12 @@ mod clause_tests;
 #[cfg(test)]
 mod formulas;
 #[cfg(test)]
+mod liveness_tests;
+#[cfg(test)]
 mod log_tests;
 #[cfg(test)]
 mod solve_tests;
+#[cfg(test)]
+mod trail_rows;
 #[cfg(test)]
 mod trail_tests;

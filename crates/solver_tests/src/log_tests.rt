@@ -6,41 +6,101 @@ use refutation_log::{Chain, Kind, Link, Log, read_log, write_log};
 use std::alloc::Global;
 use std::test::Fail;
 
-/// The first clause of a step, and its links, each a pivot and a clause.
-type Step = (u32, &'static [(i32, u32)]);
+/// A step: its first clause, and its links, each a pivot and a clause.
+struct Step {
+    first: u32,
+    links: &'static [(i32, u32)],
+}
 
-/// How many steps stand before the removals, and the clauses that are removed there.
-type Removals = (u32, &'static [u32]);
+/// The clauses that are removed after so many steps.
+struct Removed {
+    after: u32,
+    clauses: &'static [u32],
+}
 
-/// The text of a log, its kind, its steps and its removals.
-type Row = (&'static [u8], Kind, &'static [Step], &'static [Removals]);
+/// The text of a log, and the log.
+struct Row {
+    text: &'static [u8],
+    kind: Kind,
+    steps: &'static [Step],
+    removals: &'static [Removed],
+}
 
 const ROWS: &[Row] = &[
-    (b"log 1 safety\nend\n", Kind::Safety, &[], &[]),
-    (
-        b"log 1 liveness\nstep 5 1 6 -3 7\nstep 1000000000\nend\n",
-        Kind::Liveness,
-        &[(5, &[(1, 6), (-3, 7)]), (1000000000, &[])],
-        &[],
-    ),
-    (
-        b"log 1 safety\nstep 5 1 6 -3 7\nend\n",
-        Kind::Safety,
-        &[(5, &[(1, 6), (-3, 7)])],
-        &[],
-    ),
-    (
-        b"log 2 safety\ndrop 1 2\ndrop 3\nstep 5 1 6\ndrop 8 1000000000\nend\n",
-        Kind::Safety,
-        &[(5, &[(1, 6)])],
-        &[(0, &[1, 2]), (0, &[3]), (1, &[8, 1000000000])],
-    ),
-    (
-        b"log 2 safety\ndrop 1 2\nstep 5\ndrop 3\ndrop 4 8\nend\n",
-        Kind::Safety,
-        &[(5, &[])],
-        &[(0, &[1, 2]), (1, &[3]), (1, &[4, 8])],
-    ),
+    Row {
+        text: b"log 1 safety\nend\n",
+        kind: Kind::Safety,
+        steps: &[],
+        removals: &[],
+    },
+    Row {
+        text: b"log 1 liveness\nstep 5 1 6 -3 7\nstep 1000000000\nend\n",
+        kind: Kind::Liveness,
+        steps: &[
+            Step {
+                first: 5,
+                links: &[(1, 6), (-3, 7)],
+            },
+            Step {
+                first: 1000000000,
+                links: &[],
+            },
+        ],
+        removals: &[],
+    },
+    Row {
+        text: b"log 1 safety\nstep 5 1 6 -3 7\nend\n",
+        kind: Kind::Safety,
+        steps: &[Step {
+            first: 5,
+            links: &[(1, 6), (-3, 7)],
+        }],
+        removals: &[],
+    },
+    Row {
+        text: b"log 2 safety\ndrop 1 2\ndrop 3\nstep 5 1 6\ndrop 8 1000000000\nend\n",
+        kind: Kind::Safety,
+        steps: &[Step {
+            first: 5,
+            links: &[(1, 6)],
+        }],
+        removals: &[
+            Removed {
+                after: 0,
+                clauses: &[1, 2],
+            },
+            Removed {
+                after: 0,
+                clauses: &[3],
+            },
+            Removed {
+                after: 1,
+                clauses: &[8, 1000000000],
+            },
+        ],
+    },
+    Row {
+        text: b"log 2 safety\ndrop 1 2\nstep 5\ndrop 3\ndrop 4 8\nend\n",
+        kind: Kind::Safety,
+        steps: &[Step {
+            first: 5,
+            links: &[],
+        }],
+        removals: &[
+            Removed {
+                after: 0,
+                clauses: &[1, 2],
+            },
+            Removed {
+                after: 1,
+                clauses: &[3],
+            },
+            Removed {
+                after: 1,
+                clauses: &[4, 8],
+            },
+        ],
+    },
 ];
 
 /// Whether the link has this pivot and this clause.
@@ -49,13 +109,13 @@ fn is_link(link: &Link, (pivot, clause): &(i32, u32)) -> bool {
 }
 
 /// Whether the chain begins with the clause and has these links, in this order.
-fn is_step(chain: &Chain, (first, links): &Step) -> bool {
+fn is_step(chain: &Chain, step: &Step) -> bool {
     let given = chain.links.as_slice();
-    chain.first == *first
-        && given.len() == links.len()
+    chain.first == step.first
+        && given.len() == step.links.len()
         && given
             .iter()
-            .zip(*links)
+            .zip(step.links)
             .all(|(link, wanted)| is_link(link, wanted))
 }
 
@@ -70,11 +130,11 @@ fn has_steps(log: &Log, steps: &[Step]) -> bool {
 }
 
 /// Whether the log has these removals, in this order.
-fn has_removals(log: &Log, removals: &[Removals]) -> bool {
+fn has_removals(log: &Log, removals: &[Removed]) -> bool {
     let given = log.removals.as_slice();
     given.len() == removals.len()
-        && given.iter().zip(removals).all(|(removal, (after, clauses))| {
-            removal.after == *after && removal.clauses.as_slice() == *clauses
+        && given.iter().zip(removals).all(|(removal, wanted)| {
+            removal.after == wanted.after && removal.clauses.as_slice() == wanted.clauses
         })
 }
 
@@ -89,13 +149,13 @@ fn is_written(alloc: Global, kind: Kind, log: &Log, text: &[u8]) -> bool
 }
 
 /// Whether the text is read as the row says, and written as it was.
-fn is_read(alloc: Global, (text, kind, steps, removals): &Row) -> bool {
-    match read_log(alloc, text) {
+fn is_read(alloc: Global, row: &Row) -> bool {
+    match read_log(alloc, row.text) {
         Ok((read, log)) => {
-            read == *kind
-                && has_steps(&log, steps)
-                && has_removals(&log, removals)
-                && is_written(alloc, read, &log, text)
+            read == row.kind
+                && has_steps(&log, row.steps)
+                && has_removals(&log, row.removals)
+                && is_written(alloc, read, &log, row.text)
         }
         Err(_) => false,
     }

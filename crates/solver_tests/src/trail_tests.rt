@@ -1,115 +1,72 @@
-ghost use Rattle.std.specs.Prelude.{◌≡◌, ◌<◌, length};
+ghost use Rattle.std.specs.Prelude.{◌≡◌, ◌<◌, ◌⊎◌, ℕ, None, length};
+ghost use Rattle.std.specs.Bool.{OnTrue};
+ghost use Rattle.sat_trail.specs.Entry.{values_of};
+ghost use Rattle.sat_trail.specs.State.{IsNumberUpTo};
+ghost use Rattle.sat_trail.specs.Trail.{HasTwoOpen, IsNoReason};
 
 use super::formulas::{clause, formula, lit};
-use clause_core::Formula;
+use super::trail_rows::ROWS;
+use clause_core::{Clause, Formula, Lit};
 use list_base::NoMemory;
 use sat_trail::Trail;
 use std::alloc::Global;
 use std::test::Fail;
 
-/// Set literals, each with its level and the number of the clause that forced it, or 0.
-type Entries = &'static [(i32, u32, u32)];
+/// A set literal and its level.
+#[derive(Clone, Copy)]
+pub enum Set {
+    Decided(i32, u32),
+    /// The last number is that of the clause that forced it.
+    Forced(i32, u32, u32),
+}
 
-/// A call on the trail and its number, what it gives, whether the trail is then ready, the live
-/// clauses, and the set literals. `p` propagates, `d` decides on a literal, `b` goes back to a
-/// level, `a` adds the clause of one literal, and `r` removes a clause.
-type Call = (char, i32, Option<u32>, bool, &'static [u32], Entries);
+/// A call on the trail.
+#[derive(Clone, Copy)]
+pub enum Call {
+    /// It gives the number of a clause that is false.
+    Propagate(Option<u32>),
+    Decide(i32),
+    BackTo(u32),
+    /// The clause of the literals gets the number.
+    Add(&'static [i32], u32),
+    Remove(u32),
+}
 
-/// A formula of two variables that has no solution.
-const FOUR: &[&[i32]] = &[&[1, 2], &[-1, 2], &[1, -2], &[-1, -2]];
+/// A call, and how it leaves the trail: whether that is ready, the numbers of its live clauses, and
+/// what is set.
+pub struct Step {
+    pub call: Call,
+    pub ready: bool,
+    pub live: &'static [u32],
+    pub set: &'static [Set],
+}
 
-/// A number of variables, clauses over them, and calls.
-type Row = (u32, &'static [&'static [i32]], &'static [Call]);
+/// A formula, and calls on its trail.
+pub struct Row {
+    pub vars: u32,
+    pub clauses: &'static [&'static [i32]],
+    pub steps: &'static [Step],
+}
 
-const ROWS: &[Row] = &[
-    // a decision falsifies a clause
-    (
-        2,
-        FOUR,
-        &[
-            ('p', 0, None, true, &[1, 2, 3, 4], &[]),
-            ('d', 1, None, false, &[1, 2, 3, 4], &[(1, 1, 0)]),
-            (
-                'p',
-                0,
-                Some(2),
-                false,
-                &[1, 2, 3, 4],
-                &[(1, 1, 0), (-2, 1, 4)],
-            ),
-        ],
-    ),
-    // an added clause forces at level 0
-    (
-        2,
-        FOUR,
-        &[
-            ('p', 0, None, true, &[1, 2, 3, 4], &[]),
-            ('d', 2, None, false, &[1, 2, 3, 4], &[(2, 1, 0)]),
-            ('b', 0, None, false, &[1, 2, 3, 4], &[]),
-            ('a', -1, Some(5), false, &[1, 2, 3, 4, 5], &[]),
-            (
-                'p',
-                0,
-                Some(1),
-                false,
-                &[1, 2, 3, 4, 5],
-                &[(-1, 0, 5), (-2, 0, 3)],
-            ),
-        ],
-    ),
-    // units force one after the other
-    (
-        3,
-        &[&[-3], &[1, 3], &[-1, 2]],
-        &[(
-            'p',
-            0,
-            None,
-            true,
-            &[1, 2, 3],
-            &[(-3, 0, 1), (1, 0, 2), (2, 0, 3)],
-        )],
-    ),
-    // an empty clause is false
-    (
-        3,
-        &[&[1, 2], &[]],
-        &[
-            ('p', 0, Some(2), false, &[1, 2], &[]),
-            ('p', 0, Some(2), false, &[1, 2], &[]),
-        ],
-    ),
-    // a removed clause forces nothing
-    (
-        3,
-        &[&[-1, 2], &[-1, 3]],
-        &[
-            ('r', 1, None, false, &[2], &[]),
-            ('p', 0, None, true, &[2], &[]),
-            ('d', 1, None, false, &[2], &[(1, 1, 0)]),
-            ('p', 0, None, true, &[2], &[(1, 1, 0), (3, 1, 2)]),
-        ],
-    ),
-];
+/// Whether the literal's variable exists and has no value.
+fn is_unset(trail: &Trail, lit: Lit) -> bool
+    ensures exists { OnTrue result (IsNumberUpTo trail.now.vars lit.var) }
+    ensures no_value { OnTrue result (values_of trail.now.entries lit.var ≡ None) }
+{
+    0 < lit.var && lit.var <= trail.vars() && trail.value(lit.var).is_none()
+}
 
 /// Decides on the literal; whether the trail allows it.
-fn decides(trail: &mut Trail, vars: u32, number: i32) -> bool
-    requires { trail.old.vars ≡ vars }
-    ensures { trail.new.vars ≡ vars }
-{
-    let lit = lit(number);
-    if !trail.ready() || lit.var == 0 || lit.var > vars || trail.value(lit.var).is_some() {
+fn decides(trail: &mut Trail, lit: Lit) -> bool {
+    if !trail.ready() || !is_unset(trail, lit) {
         return false;
     }
     trail.decide(lit);
     true
 }
 
-/// Goes back to the level; whether the trail allows it.
-fn goes_back(trail: &mut Trail, level: u32) -> bool
-    ensures { trail.new.vars ≡ trail.old.vars }
-{
+/// Backtracks to the level; whether the trail allows it.
+fn goes_back(trail: &mut Trail, level: u32) -> bool {
     if level > trail.level() {
         return false;
     }
@@ -117,53 +74,79 @@ fn goes_back(trail: &mut Trail, level: u32) -> bool
     true
 }
 
-/// Removes the clause of the number; whether the trail allows it.
-fn removes(trail: &mut Trail, number: u32) -> bool
-    ensures { trail.new.vars ≡ trail.old.vars }
+/// Whether no literal is set, or one alone, which was decided.
+fn has_no_reasons(trail: &Trail) -> bool
+    ensures { (number : ℕ) → OnTrue result (IsNoReason trail.now number) }
 {
-    if trail.len() > 0 || !trail.has_clause(number) {
+    match trail.len() {
+        0 => true,
+        1 => trail.reason(trail.at(0).var).is_none(),
+        _ => false,
+    }
+}
+
+/// Removes the clause of the number; whether the trail allows it.
+fn removes(trail: &mut Trail, number: u32) -> bool {
+    if !has_no_reasons(trail) || !trail.has_clause(number) {
         return false;
     }
     trail.remove(number);
     true
 }
 
-/// The number under which the clause of one literal is added; nothing if the trail does not allow
-/// it or memory runs out.
-fn add(alloc: Global, trail: &mut Trail, vars: u32, number: i32) -> Option<u32>
-    requires { trail.old.vars ≡ vars }
-    ensures { trail.new.vars ≡ vars }
+/// Whether these are two literals of the clause, and have no values.
+fn are_open(trail: &Trail, c: &Clause, one: Lit, other: Lit) -> bool
+    ensures { OnTrue result (HasTwoOpen trail.now.entries trail.now.level c.now) }
 {
-    let learned = clause(alloc, &[number]).ok()?;
-    if !learned.is_over(vars) || trail.level() > 0 || trail.last_number() >= 10 {
+    one != other && c.has(one) && c.has(other) && is_unset(trail, one) && is_unset(trail, other)
+}
+
+/// Whether the trail may have the clause of these literals added.
+fn may_add(trail: &Trail, c: &Clause, numbers: &[i32]) -> bool
+    ensures { OnTrue result
+        ((trail.now.level ≡ 0) ⊎ HasTwoOpen trail.now.entries trail.now.level c.now) }
+{
+    if trail.level() == 0 {
+        return true;
+    }
+    match numbers {
+        [one, other] => are_open(trail, c, lit(*one), lit(*other)),
+        _ => false,
+    }
+}
+
+/// The number under which the clause is added; nothing if the trail does not allow it or memory
+/// runs out.
+fn add(alloc: Global, trail: &mut Trail, numbers: &[i32]) -> Option<u32> {
+    let added = clause(alloc, numbers).ok()?;
+    if !added.is_over(trail.vars()) || trail.last_number() >= 10 {
         return None;
     }
-    trail.add(learned).ok()
+    if !may_add(trail, &added, numbers) {
+        return None;
+    }
+    trail.add(added).ok()
 }
 
-/// Whether the clause of one literal is added under the number.
-fn adds(alloc: Global, trail: &mut Trail, vars: u32, number: i32, given: u32) -> bool
-    requires { trail.old.vars ≡ vars }
-    ensures { trail.new.vars ≡ vars }
-{
-    add(alloc, trail, vars, number) == Some(given)
-        && trail.has_clause(given)
-        && trail.clause(given).lits() == [lit(number)].as_slice()
+/// Whether the clause of the number has these literals.
+fn has_lits(trail: &Trail, number: u32, numbers: &[i32]) -> bool {
+    if !trail.has_clause(number) {
+        return false;
+    }
+    let lits = trail.clause(number).lits();
+    lits.len() == numbers.len() && lits.iter().zip(numbers).all(|(l, n)| *l == lit(*n))
 }
 
-/// Makes the call; whether the trail allows it, and gives what it should.
-fn makes(alloc: Global, trail: &mut Trail, vars: u32, call: &Call) -> bool
-    requires { trail.old.vars ≡ vars }
-    ensures { trail.new.vars ≡ vars }
-{
-    let number = call.1;
-    match (call.0, call.2) {
-        ('p', given) => trail.propagate() == given,
-        ('d', None) => decides(trail, vars, number),
-        ('b', None) => goes_back(trail, number.unsigned_abs()),
-        ('a', Some(given)) => adds(alloc, trail, vars, number, given),
-        ('r', None) => removes(trail, number.unsigned_abs()),
-        (_, _) => false,
+/// Makes the call; whether the trail allows it, and gives the number that it should.
+fn makes(alloc: Global, trail: &mut Trail, call: Call) -> bool {
+    match call {
+        Call::Propagate(given) => trail.propagate() == given,
+        Call::Decide(number) => decides(trail, lit(number)),
+        Call::BackTo(level) => goes_back(trail, level),
+        Call::Add(numbers, given) => {
+            add(alloc, trail, numbers) == Some(given) && has_lits(trail, given, numbers)
+        }
+        Call::Remove(number) => removes(trail, number),
     }
 }
 
@@ -173,22 +156,24 @@ fn has_clauses(trail: &Trail, live: &[u32]) -> bool {
 }
 
 /// Whether the literal at the position is the wanted one, with its level and its reason.
-fn is_entry(trail: &Trail, position: u32, wanted: (i32, u32, u32)) -> bool
+fn is_entry(trail: &Trail, position: u32, wanted: Set) -> bool
     requires { position < length trail.now.entries }
 {
     let set = trail.at(position);
-    set == lit(wanted.0)
-        && trail.level_of(set.var) == Some(wanted.1)
-        && trail.reason(set.var).unwrap_or(0) == wanted.2
+    let (number, level, reason) = match wanted {
+        Set::Decided(number, level) => (number, level, None),
+        Set::Forced(number, level, clause) => (number, level, Some(clause)),
+    };
+    set == lit(number) && trail.level_of(set.var) == Some(level) && trail.reason(set.var) == reason
 }
 
 /// Whether exactly these literals are set, in this order.
-fn has_entries(trail: &Trail, wanted: &[(i32, u32, u32)]) -> bool {
+fn has_entries(trail: &Trail, wanted: &[Set]) -> bool {
     if trail.len() as usize != wanted.len() {
         return false;
     }
-    for (position, entry) in wanted.iter().enumerate() {
-        if !is_entry(trail, position as u32, *entry) {
+    for (position, set) in wanted.iter().enumerate() {
+        if !is_entry(trail, position as u32, *set) {
             return false;
         }
     }
@@ -196,16 +181,14 @@ fn has_entries(trail: &Trail, wanted: &[(i32, u32, u32)]) -> bool {
 }
 
 /// Whether the trail is after the call as it should be.
-fn is_as_wanted(trail: &Trail, (_, _, _, ready, live, entries): &Call) -> bool {
-    trail.ready() == *ready && has_clauses(trail, live) && has_entries(trail, entries)
+fn is_as_wanted(trail: &Trail, step: &Step) -> bool {
+    trail.ready() == step.ready && has_clauses(trail, step.live) && has_entries(trail, step.set)
 }
 
 /// Whether each of the calls gives what it should, and leaves the trail as it should be.
-fn are_made(alloc: Global, trail: &mut Trail, vars: u32, calls: &[Call]) -> bool
-    requires { trail.old.vars ≡ vars }
-{
-    for call in calls {
-        if !makes(alloc, trail, vars, call) || !is_as_wanted(trail, call) {
+fn are_made(alloc: Global, trail: &mut Trail, steps: &[Step]) -> bool {
+    for step in steps {
+        if !makes(alloc, trail, step.call) || !is_as_wanted(trail, step) {
             return false;
         }
     }
@@ -213,20 +196,20 @@ fn are_made(alloc: Global, trail: &mut Trail, vars: u32, calls: &[Call]) -> bool
 }
 
 /// Whether the formula is small, and each of the calls leaves its trail as it should be.
-fn are_made_on(alloc: Global, f: &Formula, calls: &[Call]) -> bool {
+fn are_made_on(alloc: Global, f: &Formula, steps: &[Step]) -> bool {
     if f.clauses.len() >= 10 {
         return false;
     }
     match Trail::new(alloc, f) {
-        Ok(mut trail) => are_made(alloc, &mut trail, f.vars, calls),
+        Ok(mut trail) => are_made(alloc, &mut trail, steps),
         Err(NoMemory) => false,
     }
 }
 
-/// Whether the row is a formula, and each of its calls leaves the trail as it should be.
-fn is_passed(alloc: Global, (vars, clauses, calls): &Row) -> bool {
-    match formula(alloc, *vars, clauses) {
-        Ok(Some(f)) => are_made_on(alloc, &f, calls),
+/// Whether the row has a formula, and each of its calls leaves the trail as it should be.
+fn is_passed(alloc: Global, row: &Row) -> bool {
+    match formula(alloc, row.vars, row.clauses) {
+        Ok(Some(f)) => are_made_on(alloc, &f, row.steps),
         Ok(None) | Err(NoMemory) => false,
     }
 }

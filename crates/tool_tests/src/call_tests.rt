@@ -1,68 +1,105 @@
 use super::args::args_of;
 use bspl_io::{MemSink, MemSource};
-use bspl_tool::{Status, bspl};
+use bspl_tool::bspl;
 use bspl_types::{Bytes, NoMemory, NumberList};
+use program_frame::Ending;
 use std::alloc::Global;
 use std::test::Fail;
+use tool_input::Status;
 
 const PING: &[u8] = b"Ping { roles A, B parameters out ID key A -> B: ping[out ID] }";
 
-/// The arguments, the numbers of the calls of the source and of the sink that fail, the status, and
-/// what is written. The source's pieces have sixteen bytes, and the sink's eight.
-type Row = (
-    &'static str,
-    &'static [u32],
-    &'static [u32],
-    Status,
-    &'static [u8],
-);
+/// A call, and how it ends. The source's pieces have sixteen bytes, and the sink's eight.
+#[derive(Clone, Copy)]
+struct Row {
+    args: &'static str,
+    input: &'static [u8],
+    /// The numbers of the source's calls that fail.
+    read_faults: &'static [u32],
+    /// The numbers of the sink's calls that fail.
+    write_faults: &'static [u32],
+    ending: Ending<Status>,
+    output: &'static [u8],
+}
+
+/// A refusal without faults.
+const REFUSED: Row = Row {
+    args: "generate 2",
+    input: PING,
+    read_faults: &[],
+    write_faults: &[],
+    ending: Ending::Answered(Status::Refused),
+    output: b"refused N1\n",
+};
 
 const ROWS: &[Row] = &[
-    ("verify Ping", &[2], &[], Status::ReadFault, b""),
-    ("generate 2", &[1], &[], Status::Refused, b"refused N1\n"),
-    (
-        "verify Ping",
-        &[],
-        &[3],
-        Status::WriteFault,
-        b"protocol Ping\nsa",
-    ),
+    Row {
+        args: "verify Ping",
+        read_faults: &[2],
+        ending: Ending::ReadFault,
+        output: b"",
+        ..REFUSED
+    },
+    Row {
+        read_faults: &[1],
+        ..REFUSED
+    },
+    Row {
+        args: "verify Ping",
+        write_faults: &[3],
+        ending: Ending::WriteFault,
+        output: b"protocol Ping\nsa",
+        ..REFUSED
+    },
+    // A run that is out of form is refused, but only after the protocol's text.
+    Row {
+        args: "replay Ping",
+        input: b"Ping { roles A, B parameters out ID key A -> B: ping[out ID] }\n%% run\nsent\n",
+        output: b"refused W1 1\n",
+        ..REFUSED
+    },
+    Row {
+        args: "replay Ping",
+        input: b"Ping $\n%% run\nsent\n",
+        output: b"refused E1 5\n",
+        ..REFUSED
+    },
 ];
 
-/// The source of the text, at whose calls of these numbers there is a fault.
-fn source(alloc: Global, faults: &[u32]) -> Result<MemSource, NoMemory> {
-    let faults = NumberList::from_slice(alloc, faults)?;
-    Ok(MemSource::new(Bytes::from_slice(alloc, PING)?, 16, faults))
+/// The source of the row's input, with its faults.
+fn source(alloc: Global, row: &Row) -> Result<MemSource, NoMemory> {
+    let faults = NumberList::from_slice(alloc, row.read_faults)?;
+    Ok(MemSource::new(Bytes::from_slice(alloc, row.input)?, 16, faults))
 }
 
-/// The sink, at whose calls of these numbers there is a fault.
-fn sink(alloc: Global, faults: &[u32]) -> Result<MemSink, NoMemory> {
-    Ok(MemSink::new(alloc, 8, NumberList::from_slice(alloc, faults)?))
+/// The sink with the row's faults.
+fn sink(alloc: Global, row: &Row) -> Result<MemSink, NoMemory> {
+    Ok(MemSink::new(alloc, 8, NumberList::from_slice(alloc, row.write_faults)?))
 }
 
-/// Whether a call with the arguments and the source has the status of the row, and writes its text.
-fn is_status(
+/// Whether a call with the arguments and the source ends as the row says, and writes its output.
+fn is_ending(
     alloc: Global,
     args: &[String],
     source: &mut MemSource,
-    row: Row,
+    row: &Row,
 ) -> Result<bool, NoMemory> {
-    let mut sink = sink(alloc, row.2)?;
-    let status = bspl(alloc, args, source, &mut sink);
-    Ok(status == row.3 && sink.written() == row.4)
+    let mut sink = sink(alloc, row)?;
+    let ending = bspl(alloc, args, source, &mut sink);
+    Ok(ending == row.ending && sink.written() == row.output)
 }
 
-/// Whether a call has the status of the row, and writes its text.
-fn is_answered(alloc: Global, row: Row) -> Result<bool, NoMemory> {
-    let args = args_of(alloc, row.0)?;
-    let mut source = source(alloc, row.1)?;
-    is_status(alloc, args.as_slice(), &mut source, row)
+/// Whether a call ends as the row says, and writes its output.
+fn is_answered(alloc: Global, row: &Row) -> Result<bool, NoMemory> {
+    let args = args_of(alloc, row.args)?;
+    let mut source = source(alloc, row)?;
+    is_ending(alloc, args.as_slice(), &mut source, row)
 }
 
 #[test]
-fn stops_at_faults(rt: HostRuntime) -> Result<(), Fail> {
+fn ends_at_faults_and_at_the_first_refusal(rt: HostRuntime) -> Result<(), Fail> {
     for row in ROWS {
-        assert!(rt; is_answered(rt.alloc(), *row)?);
+        assert!(rt; is_answered(rt.alloc(), row)?);
     }
     Ok(())
 }

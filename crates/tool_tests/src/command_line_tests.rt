@@ -10,120 +10,201 @@ const P: Subject<'static> = Protocol(b"P");
 
 const LONG: Subject<'static> = Protocol(b"P#12.Q#3.R_");
 
-/// The arguments, with one blank between two of them, and what they ask for: the command, its
-/// subject, whether it is brief, the conflicts and the threads.
-type Row = (&'static str, Command, Subject<'static>, bool, u32, u32);
-
-const ROWS: &[Row] = &[
-    ("verify P", Verify, P, false, 10_000, 1),
-    ("check P", Check, P, false, 10_000, 1),
-    ("replay P", Replay, P, false, 10_000, 1),
-    ("expand P", Expand, P, false, 10_000, 1),
-    ("run P", Run, P, false, 10_000, 1),
-    ("generate 7", Generate, Size(7), false, 10_000, 1),
-    ("generate 1", Generate, Size(1), false, 10_000, 1),
-    ("generate 16", Generate, Size(16), false, 10_000, 1),
-    ("verify Role", Verify, Protocol(b"Role"), false, 10_000, 1),
-    ("verify _", Verify, Protocol(b"_"), false, 10_000, 1),
-    ("verify a-1", Verify, Protocol(b"a-1"), false, 10_000, 1),
-    ("verify P#1.Q", Verify, Protocol(b"P#1.Q"), false, 10_000, 1),
-    ("check P#12.Q#3.R_", Check, LONG, false, 10_000, 1),
-    (
-        "verify verify",
-        Verify,
-        Protocol(b"verify"),
-        false,
-        10_000,
-        1,
-    ),
-    ("-- verify P", Verify, P, false, 10_000, 1),
-    ("verify -- P", Verify, P, false, 10_000, 1),
-    ("verify P --", Verify, P, false, 10_000, 1),
-    ("-- run P", Run, P, false, 10_000, 1),
-    ("generate -- 16", Generate, Size(16), false, 10_000, 1),
-    ("--brief verify P", Verify, P, true, 10_000, 1),
-    ("verify --brief P", Verify, P, true, 10_000, 1),
-    ("verify P --brief", Verify, P, true, 10_000, 1),
-    ("verify P --brief --", Verify, P, true, 10_000, 1),
-    ("--brief -- verify P", Verify, P, true, 10_000, 1),
-    ("run --brief P", Run, P, true, 10_000, 1),
-    ("run P --brief", Run, P, true, 10_000, 1),
-    ("verify P --conflicts 1", Verify, P, false, 1, 1),
-    ("verify P --conflicts=1", Verify, P, false, 1, 1),
-    ("verify --conflicts 20000 P", Verify, P, false, 20_000, 1),
-    ("--conflicts=20000 verify P", Verify, P, false, 20_000, 1),
-    ("--conflicts 9999 -- verify P", Verify, P, false, 9_999, 1),
-    ("run P --conflicts=42", Run, P, false, 42, 1),
-    ("run --conflicts 42 P", Run, P, false, 42, 1),
-    ("generate 3 --conflicts 42", Generate, Size(3), false, 42, 1),
-    ("generate --conflicts=42 3", Generate, Size(3), false, 42, 1),
-    ("run P --threads 0", Run, P, false, 10_000, 0),
-    ("run P --threads=0", Run, P, false, 10_000, 0),
-    ("run --threads 8 P", Run, P, false, 10_000, 8),
-    ("--threads=8 run P", Run, P, false, 10_000, 8),
-    (
-        "generate 3 --threads 2",
-        Generate,
-        Size(3),
-        false,
-        10_000,
-        2,
-    ),
-    (
-        "--threads=2 generate -- 3",
-        Generate,
-        Size(3),
-        false,
-        10_000,
-        2,
-    ),
-    (
-        "run P --brief --conflicts 5 --threads 3",
-        Run,
-        P,
-        true,
-        5,
-        3,
-    ),
-    (
-        "--threads=3 run --conflicts=5 P --brief",
-        Run,
-        P,
-        true,
-        5,
-        3,
-    ),
-    (
-        "--brief --threads 3 --conflicts=5 -- run P",
-        Run,
-        P,
-        true,
-        5,
-        3,
-    ),
-];
-
-/// What the row asks for.
-fn wanted(row: &Row) -> CommandLine<'static> {
-    CommandLine {
-        command: row.1,
-        subject: row.2,
-        brief: row.3,
-        conflicts: row.4,
-        threads: row.5,
-    }
+/// A command line, and arguments that ask for it, with one blank between two of them.
+#[derive(Clone, Copy)]
+struct Row {
+    command: Command,
+    subject: Subject<'static>,
+    brief: bool,
+    conflicts: u32,
+    threads: u32,
+    given: &'static [&'static str],
 }
 
-/// Whether the arguments of the row are its command line.
-fn is_line(alloc: Global, row: &Row) -> Result<bool, NoMemory> {
-    let args = args_of(alloc, row.0)?;
-    Ok(command_line(alloc, args.as_slice())? == Some(wanted(row)))
+/// No option.
+const PLAIN: Row = Row {
+    command: Verify,
+    subject: P,
+    brief: false,
+    conflicts: 10_000,
+    threads: 1,
+    given: &["verify P", "-- verify P", "verify -- P", "verify P --"],
+};
+
+const ROWS: &[Row] = &[
+    PLAIN,
+    Row {
+        command: Check,
+        given: &["check P"],
+        ..PLAIN
+    },
+    Row {
+        command: Replay,
+        given: &["replay P"],
+        ..PLAIN
+    },
+    Row {
+        command: Expand,
+        given: &["expand P"],
+        ..PLAIN
+    },
+    Row {
+        command: Run,
+        given: &["run P", "-- run P"],
+        ..PLAIN
+    },
+    Row {
+        command: Generate,
+        subject: Size(7),
+        given: &["generate 7"],
+        ..PLAIN
+    },
+    Row {
+        command: Generate,
+        subject: Size(1),
+        given: &["generate 1"],
+        ..PLAIN
+    },
+    Row {
+        command: Generate,
+        subject: Size(16),
+        given: &["generate 16", "generate -- 16"],
+        ..PLAIN
+    },
+    Row {
+        subject: Protocol(b"Role"),
+        given: &["verify Role"],
+        ..PLAIN
+    },
+    Row {
+        subject: Protocol(b"_"),
+        given: &["verify _"],
+        ..PLAIN
+    },
+    Row {
+        subject: Protocol(b"a-1"),
+        given: &["verify a-1"],
+        ..PLAIN
+    },
+    Row {
+        subject: Protocol(b"P#1.Q"),
+        given: &["verify P#1.Q"],
+        ..PLAIN
+    },
+    Row {
+        command: Check,
+        subject: LONG,
+        given: &["check P#12.Q#3.R_"],
+        ..PLAIN
+    },
+    Row {
+        subject: Protocol(b"verify"),
+        given: &["verify verify"],
+        ..PLAIN
+    },
+    Row {
+        brief: true,
+        given: &[
+            "--brief verify P",
+            "verify --brief P",
+            "verify P --brief",
+            "verify P --brief --",
+            "--brief -- verify P",
+        ],
+        ..PLAIN
+    },
+    Row {
+        command: Run,
+        brief: true,
+        given: &["run --brief P", "run P --brief"],
+        ..PLAIN
+    },
+    Row {
+        conflicts: 1,
+        given: &["verify P --conflicts 1", "verify P --conflicts=1"],
+        ..PLAIN
+    },
+    Row {
+        conflicts: 20_000,
+        given: &["verify --conflicts 20000 P", "--conflicts=20000 verify P"],
+        ..PLAIN
+    },
+    Row {
+        conflicts: 9_999,
+        given: &["--conflicts 9999 -- verify P"],
+        ..PLAIN
+    },
+    Row {
+        command: Run,
+        conflicts: 42,
+        given: &["run P --conflicts=42", "run --conflicts 42 P"],
+        ..PLAIN
+    },
+    Row {
+        command: Generate,
+        subject: Size(3),
+        conflicts: 42,
+        given: &["generate 3 --conflicts 42", "generate --conflicts=42 3"],
+        ..PLAIN
+    },
+    Row {
+        command: Run,
+        threads: 0,
+        given: &["run P --threads 0", "run P --threads=0"],
+        ..PLAIN
+    },
+    Row {
+        command: Run,
+        threads: 8,
+        given: &["run --threads 8 P", "--threads=8 run P"],
+        ..PLAIN
+    },
+    Row {
+        command: Generate,
+        subject: Size(3),
+        threads: 2,
+        given: &["generate 3 --threads 2", "--threads=2 generate -- 3"],
+        ..PLAIN
+    },
+    Row {
+        command: Run,
+        brief: true,
+        conflicts: 5,
+        threads: 3,
+        given: &[
+            "run P --brief --conflicts 5 --threads 3",
+            "--threads=3 run --conflicts=5 P --brief",
+            "--brief --threads 3 --conflicts=5 -- run P",
+        ],
+        ..PLAIN
+    },
+];
+
+/// Whether the command line is that of the row.
+fn is_row(line: &CommandLine<'_>, row: &Row) -> bool {
+    line.command == row.command
+        && line.subject == row.subject
+        && line.brief == row.brief
+        && line.conflicts.conflicts() == row.conflicts
+        && line.threads == row.threads
+}
+
+/// Whether the arguments are the command line of the row.
+fn is_given(alloc: Global, given: &str, row: &Row) -> Result<bool, NoMemory> {
+    let args = args_of(alloc, given)?;
+    match command_line(alloc, args.as_slice()) {
+        Ok(Some(line)) => Ok(is_row(&line, row)),
+        Ok(None) => Ok(false),
+        Err(error) => Err(error),
+    }
 }
 
 #[test]
 fn reads_command_lines(rt: HostRuntime) -> Result<(), Fail> {
     for row in ROWS {
-        assert!(rt; is_line(rt.alloc(), row)?);
+        for given in row.given {
+            assert!(rt; is_given(rt.alloc(), given, row)?);
+        }
     }
     Ok(())
 }

@@ -31,12 +31,33 @@ impl Env for Given {
 }
 
 /// What a system gives, and what the program takes for its arguments.
-const ROWS: &[(&[&[u8]], &[&str])] = &[
-    (&[b"bspl", b"verify", b"Ping"], &["verify", "Ping"]),
-    (&[b"bspl", b"verify", b"\xff"], &[""]),
-    (&[b"bspl", b"\xe2\x86", b"Ping"], &[""]),
-    (&[b"bspl"], &[]),
-    (&[], &[]),
+#[derive(Clone, Copy)]
+struct Row {
+    given: &'static [&'static [u8]],
+    taken: &'static [&'static str],
+}
+
+const ROWS: &[Row] = &[
+    Row {
+        given: &[b"bspl", b"verify", b"Ping"],
+        taken: &["verify", "Ping"],
+    },
+    Row {
+        given: &[b"bspl", b"verify", b"\xff"],
+        taken: &[""],
+    },
+    Row {
+        given: &[b"bspl", b"\xe2\x86", b"Ping"],
+        taken: &[""],
+    },
+    Row {
+        given: &[b"bspl"],
+        taken: &[],
+    },
+    Row {
+        given: &[],
+        taken: &[],
+    },
 ];
 
 /// Whether these arguments are taken.
@@ -50,7 +71,7 @@ fn are_taken(alloc: Global, args: &'static [&'static [u8]], wanted: &[&str]) -> 
 
 #[test]
 fn an_argument_that_is_no_text_leaves_one_empty_argument(rt: HostRuntime) {
-    for (args, wanted) in ROWS {
-        assert!(rt; are_taken(rt.alloc(), args, wanted));
+    for row in ROWS {
+        assert!(rt; are_taken(rt.alloc(), row.given, row.taken));
     }
 }

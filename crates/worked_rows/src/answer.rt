@@ -2,7 +2,7 @@ use super::spelling::append_spelled;
 use bspl_io::{PlainSink, PlainSource};
 use bspl_tool::bspl;
 use dimacs::run;
-use formula_tool::bspl_formula;
+use formula_text::bspl_formula;
 use list_base::{Bytes, NoMemory};
 use std::alloc::Global;
 

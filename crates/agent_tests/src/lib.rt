@@ -1,0 +1,13 @@
+//! Tests of the agents' crates by their public calls.
+#![tactic(auto)]
+
+#[cfg(test)]
+mod emission_tests;
+#[cfg(test)]
+mod fixtures;
+#[cfg(test)]
+mod loss_tests;
+#[cfg(test)]
+mod reception_tests;
+#[cfg(test)]
+mod world_tests;
