@@ -15,7 +15,7 @@ use sat_solver::{Outcome, SearchStats, solve_counted};
 use std::alloc::Global;
 
 /// Decides the formula of a text. A refutation has a log of at most `budget` steps, and the answer
-/// is unknown only if a log has that many.
+/// is unknown only if a log has exactly `budget` of them.
 pub fn decide(alloc: Global, budget: u32, text: &[u8]) -> Result<Verdict, Refusal>
     requires { 1 ≤ budget }
     ensures right { IfOk result (IsRightVerdict text.now budget) }

@@ -5,7 +5,7 @@ use Rattle.std.specs.List.{All}
 use Rattle.bspl_types.specs.declared.protocol.Carried.{Carried}
 use Rattle.bspl_types.specs.declared.value.Value.{Value}
 
--- a grid of that width and that many rows has the row, and a column for each parameter
+-- a grid with this width and this number of rows has the row, and a column for each parameter
 pub record HasCells (width rows row : ℕ) (carried : List Carried) : Type 0 where
   pub within : row < rows
   pub columns : All (λ c. c.param < width) carried
