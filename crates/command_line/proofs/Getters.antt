@@ -8,10 +8,10 @@ use Rattle.clap.specs.Walk.{Row, first_of, one_of, rows_of}
 use Rattle.clap.specs.declared.error.Error.{Error}
 use Rattle.clap.specs.declared.error.kind.ErrorKind.TheVariants.{OutOfMemory}
 use Rattle.clap.specs.declared.parser.matches.Found.{Found}
-use Rattle.clap.proofs.WalkLemmas.{first_value-rows, one_text-rows}
 use Rattle.command_line.specs.declared.raw_args.RawArgs.{RawArgs}
 use Rattle.command_line.specs.RawArgs.{parsed_of}
 use Rattle.command_line.specs.ParsedArgs.{ParsedArgs}
+use Rattle.command_line.proofs.FoundRows.{first_in_rows, one_in_rows}
 use Rattle.command_line.proofs.Rows.{rest_of}
 use Rattle.command_line.proofs.Final.{Reads, first, flag_text}
 
@@ -43,9 +43,9 @@ pub given_is : (given : RawArgs) (f : Found) (rows : List Row) (s : ParsedArgs) 
     → option_copied given.conflicts ≡ first_value f (codes "conflicts") → option_copied given.threads ≡ first_value f (codes "threads")
     → option_copied given.command ≡ first_value f (codes "command") → option_copied given.name ≡ first_value f (codes "name") → parsed_of given ≡ s
 given_is given f rows s same reads is_on is_off conflicts threads command name =
-    let flag = one_text-rows f (codes "brief") ∙ ap (one_of (codes "brief")) same ∙ reads.brief in
+    let flag = one_in_rows f (codes "brief") ∙ ap (one_of (codes "brief")) same ∙ reads.brief in
     let briefs = flag_read s.briefs given.brief reads.lean.briefs (λ e. is_on (flag ∙ ap Some e)) (λ e. is_off (flag ∙ ap Some e)) in
-    let value_of = λ (id : List ℕ). first_value-rows f id ∙ ap (first_of id) same in
+    let value_of = λ (id : List ℕ). first_in_rows f id ∙ ap (first_of id) same in
     let conflicts_are = ap option_to_list (conflicts ∙ value_of (codes "conflicts") ∙ reads.conflicts) ∙ one_value s.conflicts reads.lean.conflicts in
     let threads_are = ap option_to_list (threads ∙ value_of (codes "threads") ∙ reads.threads) ∙ one_value s.threads reads.lean.threads in
     let command_is = ap option_to_list (command ∙ value_of (codes "command") ∙ reads.command) in

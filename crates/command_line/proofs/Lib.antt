@@ -2,6 +2,7 @@ pub mod Adding
 pub mod Alone
 pub mod Final
 pub mod Front
+pub mod FoundRows
 pub mod Getters
 pub mod Known
 pub mod LineLemmas
