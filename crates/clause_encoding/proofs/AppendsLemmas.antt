@@ -12,7 +12,7 @@ use Rattle.clause_encoding.specs.inner.Appends.{Appends}
 use Rattle.clause_encoding.proofs.RangeLemmas.{flat_map_next, flat_map_numbered}
 
 -- clauses of one list and then of another
-joined : (written others : List Written) (clauses more : List (List Lit)) → AreClausesOf written clauses → AreClausesOf others more → AreClausesOf (written ++ others) (clauses ++ more)
+pub joined : (written others : List Written) (clauses more : List (List Lit)) → AreClausesOf written clauses → AreClausesOf others more → AreClausesOf (written ++ others) (clauses ++ more)
 joined [] others [] more are also = also
 joined [] others (clause ∷ clauses) more are also = absurd are
 joined (lits ∷ written) others [] more are also = absurd are

@@ -41,14 +41,14 @@ abbrev pub IsAfter : Variables → ℕ → ℕ → Type 0
 IsAfter vars i j = (i < j) × (j ≤ vars.kinds)
 
 -- the kinds after one are later kinds
-later_kinds : (vars : Variables) (i : ℕ) → All (IsAfter vars i) (kinds_after vars i)
+pub later_kinds : (vars : Variables) (i : ℕ) → All (IsAfter vars i) (kinds_after vars i)
 later_kinds vars i =
     All-weaker (λ j. (i + 1 ≤ j) × (j < i + 1 + (vars.kinds - i))) (IsAfter vars i)
     (λ j within. let from = within.0 in let to = within.1 in (omega (arith, from), omega (arith, from, to)))
     (kinds_after vars i) (range_members (i + 1) (vars.kinds - i))
 
 -- a kind after one is a kind
-kind_after : (vars : Variables) (i j : ℕ) → IsAfter vars i j → IsKind vars j
+pub kind_after : (vars : Variables) (i j : ℕ) → IsAfter vars i j → IsKind vars j
 kind_after vars i j after = let less = after.0 in record { from_one = omega (arith, less); up_to = after.1 }
 
 -- two clauses

@@ -15,3 +15,4 @@ mod SafetyLemmas
 mod LackingLemmas
 mod RestLemmas
 mod PropertyLemmas
+mod OrderLemmas

@@ -6,5 +6,6 @@ pub mod Families
 pub mod Rivals
 pub mod Rest
 pub mod Formula
+pub mod Ordered
 pub mod Laws
 pub mod inner

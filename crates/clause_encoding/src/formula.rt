@@ -1,17 +1,22 @@
 ghost use Rattle.std.specs.Prelude.{◌≡◌, ◌≤◌, [], length, IfOk, OnOk};
 ghost use Rattle.clause_encoding.specs.Formula.{IsFormula, IsLivenessFormula, IsSafetyFormula};
 ghost use Rattle.clause_encoding.specs.Formula.{clauses_of, own_clauses, variables_of};
+ghost use Rattle.clause_encoding.specs.Ordered.{IsOrderedFormula};
 ghost use Rattle.clause_encoding.specs.Variables.{IsSmall};
 ghost use Rattle.clause_encoding.specs.inner.Appends.{Appends};
+ghost use Rattle.clause_encoding.specs.inner.Order.{clauses_after_order};
+ghost use Rattle.order_clauses.specs.Formula.{whole};
 
 use super::base::variables_of;
+use super::order::{order_of, push_order};
 use super::rest::push_rest;
 use super::selection::push_rivals;
-use super::shared::push_shared;
+use super::shared::push_families;
 use super::variables::Variables;
 use bspl_types::{Admitted, Expanded, Property};
 use clause_core::{ClauseList, Formula};
 use list_base::{NoMemory, Seq};
+use order_clauses::{OrderedFormula, cycle_clauses_ascend};
 use std::alloc::Global;
 
 /// The formula of the protocol and the property: a run that shows that the protocol does not have
@@ -26,6 +31,27 @@ pub fn formula_of(alloc: Global, property: Property, a: &Admitted) -> Result<For
         vars: vars.count(),
         clauses,
     })
+}
+
+/// The same formula, whose order clauses are known by number and not stored.
+pub fn ordered_formula_of(
+    alloc: Global,
+    property: Property,
+    a: &Admitted,
+) -> Result<OrderedFormula, NoMemory>
+    ensures exact { IfOk result (IsOrderedFormula property a.now) }
+    ensures few { IfOk result (λ f. length (whole f).clauses ≤ 8000000) }
+{
+    // law: the literals of a clause that forbids a cycle ascend
+    cycle_clauses_ascend();
+    let vars = variables_of(alloc, property, a)?;
+    let clauses = clauses_after_order(alloc, property, a.expanded(), vars)?;
+    let order = order_of(vars);
+    let stored = Formula {
+        vars: vars.count(),
+        clauses,
+    };
+    Ok(OrderedFormula { order, stored })
 }
 
 /// The clauses that a run with two producers of one parameter would satisfy.
@@ -57,9 +83,42 @@ fn clauses_with(
     ensures { IfOk result (λ clauses. Appends [] clauses (clauses_of property x.now)) }
 {
     let mut clauses = Seq::new(alloc);
-    push_shared(&mut clauses, alloc, x, vars)?;
-    push_own(&mut clauses, alloc, property, x)?;
+    push_order(&mut clauses, alloc, vars)?;
+    push_after_order(&mut clauses, alloc, property, x, vars)?;
     Ok(clauses)
+}
+
+/// Those that come after the order clauses.
+fn clauses_after_order(
+    alloc: Global,
+    property: Property,
+    x: &Expanded,
+    vars: Variables,
+) -> Result<ClauseList, NoMemory>
+    requires exact { vars ≡ variables_of property x.now }
+    requires small { IsSmall vars }
+    ensures { IfOk result (λ clauses. Appends [] clauses (clauses_after_order property x.now)) }
+{
+    let mut clauses = Seq::new(alloc);
+    push_after_order(&mut clauses, alloc, property, x, vars)?;
+    Ok(clauses)
+}
+
+/// Appends the clauses of the formula that come after the order clauses.
+fn push_after_order(
+    clauses: &mut ClauseList,
+    alloc: Global,
+    property: Property,
+    x: &Expanded,
+    vars: Variables,
+) -> Result<(), NoMemory>
+    requires exact { vars ≡ variables_of property x.now }
+    requires small { IsSmall vars }
+    ensures { OnOk result
+        (Appends clauses.old clauses.new (clauses_after_order property x.now)) }
+{
+    push_families(clauses, alloc, x, vars)?;
+    push_own(clauses, alloc, property, x)
 }
 
 /// Appends the clauses that only the formula of the property has.

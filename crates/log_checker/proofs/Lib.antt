@@ -4,6 +4,7 @@ pub mod Failing
 pub mod FailingEntries
 pub mod MarkLemmas
 pub mod OneAnswer
+pub mod OneFormula
 pub mod Running
 pub mod RunningLog
 pub mod Soundness

@@ -1,6 +1,7 @@
 -- The answer of the checker is determined.
-use Rattle.std.proofs.Common.{◌≡◌, ◌≢◌, ◌↔◌, ◌⊎◌, inl, inr, Result, Ok, Err, IfErr, OnOk, IsOkUnless, refl, sym, ap, subst, ◌∙◌}
+use Rattle.std.proofs.Common.{◌≡◌, ◌≢◌, ◌↔◌, ◌⊎◌, inl, inr, List, Result, Ok, Err, IfErr, OnOk, IsOkUnless, refl, sym, ap, subst, ◌∙◌}
 use Rattle.clause_core.specs.declared.formula.Formula.{Formula}
+use Rattle.clause_core.specs.declared.literal.Lit.{Lit}
 use Rattle.clause_core.specs.Resolvent.{ResolventsAgree}
 use Rattle.refutation_log.specs.declared.refutation.Log.{Log}
 use Rattle.refutation_log.specs.Entries.{entries}
@@ -9,7 +10,7 @@ use Rattle.refutation_log.specs.Resolution.{Accepts}
 use Rattle.log_checker.specs.declared.refusal.Reject.{Reject}
 use Rattle.log_checker.specs.declared.refusal.Reject.TheVariants.{NoClause, NoPivot, NoDrop, NotEmpty, NoMemory}
 use Rattle.log_checker.specs.FirstFailure.{FailsAt, LacksEmpty, FailsFirst}
-use Rattle.log_checker.specs.inner.Stops.{LogStops}
+use Rattle.log_checker.specs.inner.Stops.{AcceptsClauses, ClausesStop, LogStops}
 use Rattle.log_checker.proofs.Running.{runs_one}
 use Rattle.log_checker.proofs.FailingEntries.{Stops, failure_blocks, failures_meet}
 
@@ -79,3 +80,12 @@ rejects_exactly agree f log (Ok done) accepts stops memory e =
 rejects_exactly agree f log (Err reject) accepts stops memory e =
     let fails = fails_first f log reject (λ is. memory (ap Err is)) stops in
     (λ is. let same : reject ≡ e = cc in rw same at fails, λ other. ap Err (one_failure agree f log reject e fails other))
+
+-- what is said of clauses is said of each formula that has them
+pub accepted_for : (clauses : List (List Lit)) (f : Formula) (log : Log) (r : Result (Unit {0}) Reject) → f.clauses ≡ clauses → OnOk r (AcceptsClauses clauses log) → OnOk r (Accepts f log)
+accepted_for clauses f log (Ok done) same accepts = accepts f same
+accepted_for clauses f log (Err reject) same accepts = tt
+
+pub stops_for : (clauses : List (List Lit)) (f : Formula) (log : Log) (r : Result (Unit {0}) Reject) → f.clauses ≡ clauses → IfErr r (ClausesStop clauses log) → IfErr r (LogStops f log)
+stops_for clauses f log (Ok done) same stops = tt
+stops_for clauses f log (Err reject) same stops = stops f same

@@ -85,3 +85,9 @@ drop_runs old new numbers same derived ledger removed = record { formula = same;
 
 pub drop_stops : (done : ℕ) (ledger : Ledger) (numbers : List ℕ) (item : ℕ) → LacksLive ledger numbers item → EntryStops done ledger (Drop numbers) (rejects.NoDrop done item)
 drop_stops done ledger numbers item lacks = (refl, lacks)
+
+-- ---- before the first entry
+
+-- what holds of the clauses of a formula holds of a table with nothing derived
+pub exist_first : (vars : ℕ) (formula : List (List Lit)) (table : TableState) → All (VariablesExist vars) formula → table.formula ≡ formula → table.derived ≡ [] → All (VariablesExist vars) (table.formula ++ table.derived)
+exist_first vars formula table exist same none = rw (same, none, append-nil) exist

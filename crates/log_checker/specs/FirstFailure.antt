@@ -67,6 +67,17 @@ FailsFirst f log NoMemory = ⊥
 abbrev pub AcceptedIsUnsatisfiable : Type 0
 AcceptedIsUnsatisfiable = (f : Formula) (log : Log) → Accepts f log → IsUnsatisfiable f.clauses
 
+-- what a log does to a formula depends on the formula's clauses alone: that it is accepted
+abbrev pub ClausesDecideAcceptance : Type 0
+ClausesDecideAcceptance =
+    (f g : Formula) (log : Log) → f.clauses ≡ g.clauses → Accepts f log → Accepts g log
+
+-- and where it fails first
+abbrev pub ClausesDecideFailure : Type 0
+ClausesDecideFailure =
+    (f g : Formula) (log : Log) (reject : Reject) → f.clauses ≡ g.clauses →
+    FailsFirst f log reject → FailsFirst g log reject
+
 -- a log has one first failure at most
 abbrev pub HasOneFailure : Type 0
 HasOneFailure =

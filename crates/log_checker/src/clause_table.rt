@@ -6,13 +6,14 @@ ghost use Rattle.log_checker.specs.ChainFailure.{HasNoClause};
 use super::lookup::{any_empty, clause_of};
 use clause_core::{Clause, ClauseList};
 use list_base::{NoMemory, Seq};
+use order_clauses::{FormulaClauses, LentClause};
 use std::alloc::Global;
 use std::marker::Model;
 
 /// The clauses of a formula and the derived ones, with a mark for each that is live.
 #[derive(Drop)]
 pub struct ClauseTable<'a> {
-    formula: &'a [Clause],
+    formula: FormulaClauses<'a>,
     derived: ClauseList,
     live: Vec<bool>,
 }
@@ -24,26 +25,27 @@ impl<'a> Model for ClauseTable<'a> {
     ghost Value = { TableState };
 
     ghost view = { λ a. record {
-      formula = a.formula.now;
+      formula = a.formula;
       derived = a.derived;
-      ledger = ledger_of (a.formula.now ++ a.derived) a.live.items;
+      ledger = ledger_of (a.formula ++ a.derived) a.live.items;
     } };
 
-    ghost invariant = { λ a. length a.live.items ≡ length (a.formula.now ++ a.derived) };
+    ghost invariant = { λ a. length a.live.items ≡ length (a.formula ++ a.derived) };
 }
 
 impl<'a> ClauseTable<'a> {
     /// The clauses of the formula, all of them live.
     #[tactic(auto, using(crate::proofs::TableLemmas::ledger_first))]
-    pub fn new(alloc: Global, formula: &'a [Clause]) -> Result<ClauseTable<'a>, NoMemory>
-        ensures formula { IfOk result (λ table. table.formula ≡ formula.now) }
+    pub fn new(alloc: Global, formula: FormulaClauses<'a>) -> Result<ClauseTable<'a>, NoMemory>
+        ensures formula { IfOk result (λ table. table.formula ≡ formula.entry) }
         ensures derived { IfOk result (λ table. table.derived ≡ []) }
-        ensures ledger { IfOk result (λ table. table.ledger ≡ all_live formula.now) }
+        ensures ledger { IfOk result (λ table. table.ledger ≡ all_live formula.entry) }
     {
+        let live = vec![in alloc; true; formula.len()]?;
         Ok(ClauseTable {
             formula,
             derived: Seq::new(alloc),
-            live: vec![in alloc; true; formula.len()]?,
+            live,
         })
     }
 
@@ -58,22 +60,21 @@ impl<'a> ClauseTable<'a> {
     pub fn has_empty(&self) -> bool
         ensures { IsTrue result ↔ Contains (self.now.formula ++ self.now.derived) [] }
     {
-        any_empty(self.formula, self.derived.as_slice())
+        any_empty(&self.formula, self.derived.as_slice())
     }
 
     /// The live clause of the number.
     #[tactic(auto, using(crate::proofs::TableLemmas::live_numbered, crate::proofs::TableLemmas::none_numbered, crate::proofs::TableLemmas::none_live))]
-    pub fn clause_of(&self, number: u32) -> Option<&Clause>
-        ensures some { IfSome result (λ clause.
-            HasNumber (live self.now.ledger) number clause.now) }
-        ensures among { IfSome result (λ clause.
-            HasNumber (numbered (self.now.formula ++ self.now.derived)) number clause.now) }
+    pub fn clause_of(&self, number: u32) -> Option<LentClause<'_>>
+        ensures some { IfSome result (HasNumber (live self.now.ledger) number) }
+        ensures among { IfSome result
+            (HasNumber (numbered (self.now.formula ++ self.now.derived)) number) }
         ensures none { IfNone result (HasNoClause (live self.now.ledger) number) }
     {
         if !self.is_live(number) {
             return None;
         }
-        clause_of(self.formula, self.derived.as_slice(), number)
+        clause_of(&self.formula, self.derived.as_slice(), number)
     }
 
     /// Adds a derived clause, which is live.

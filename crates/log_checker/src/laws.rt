@@ -1,5 +1,6 @@
 ghost use Rattle.log_checker.specs.FirstFailure.{AcceptedDoesNotFail, HasOneFailure};
 ghost use Rattle.log_checker.specs.FirstFailure.{AcceptedIsUnsatisfiable};
+ghost use Rattle.log_checker.specs.FirstFailure.{ClausesDecideAcceptance, ClausesDecideFailure};
 
 use clause_core::{resolvents_agree, resolvents_follow};
 
@@ -19,3 +20,9 @@ pub fn accepted_is_unsatisfiable()
     // law: a resolvent holds wherever both clauses do
     resolvents_follow();
 }
+
+/// A law: what a log does to a formula it does to each formula with the same clauses.
+pub fn clauses_decide()
+    ensures accepted { ClausesDecideAcceptance }
+    ensures failure { ClausesDecideFailure }
+{}

@@ -11,6 +11,6 @@ mod mark_table;
 mod refusal;
 mod removals;
 
-pub use checker::check_log;
-pub use laws::{accepted_is_unsatisfiable, fails_once};
+pub use checker::{check_log, check_ordered_log};
+pub use laws::{accepted_is_unsatisfiable, clauses_decide, fails_once};
 pub use refusal::Reject;

@@ -14,7 +14,7 @@ use super::clause_table::ClauseTable;
 use super::mark_table::MarkTable;
 use super::refusal::{ChainError, Reject};
 use super::removals::remove_all;
-use clause_core::Clause;
+use order_clauses::FormulaClauses;
 use refutation_log::{Chain, EntryRef, Log, entries_append};
 use std::alloc::Global;
 
@@ -22,15 +22,15 @@ use std::alloc::Global;
 pub fn run_log<'a>(
     alloc: Global,
     vars: u32,
-    formula: &'a [Clause],
+    formula: FormulaClauses<'a>,
     log: &Log,
 ) -> Result<ClauseTable<'a>, Reject>
-    requires few { length formula.now + length log.now.steps < 2 ^ 32 }
-    requires exist { All (VariablesExist vars) formula.now }
-    ensures formula { IfOk result (λ table. table.formula ≡ formula.now) }
-    ensures ok { IfOk result (λ table.
-        Runs IsLive (all_live formula.now) (entries log.now) table.derived table.ledger) }
-    ensures err { IfErr result (EntriesStop formula.now (entries log.now)) }
+    requires few { length formula + length log.now.steps < 2 ^ 32 }
+    requires exist { All (VariablesExist vars) formula }
+    ensures formula { IfOk result (λ table. table.formula ≡ formula.entry) }
+    ensures ok { IfOk result (λ table. Runs IsLive (all_live formula.entry) (entries log.now)
+        table.derived table.ledger) }
+    ensures err { IfErr result (EntriesStop formula.entry (entries log.now)) }
 {
     // law: entries after entries run on from where those ended
     entries_append();

@@ -3,15 +3,15 @@ ghost use Rattle.clause_core.specs.Numbering.{numbered, HasNumber};
 ghost use Rattle.log_checker.specs.ChainFailure.{HasNoClause};
 
 use clause_core::Clause;
+use order_clauses::{FormulaClauses, LentClause};
 
 /// The clause of the number: the formula's clauses come first, then the derived ones.
 pub fn clause_of<'a>(
-    formula: &'a [Clause],
+    formula: &'a FormulaClauses<'_>,
     derived: &'a [Clause],
     number: u32,
-) -> Option<&'a Clause>
-    ensures some { IfSome result (λ clause.
-        HasNumber (numbered (formula.now ++ derived.now)) number clause.now) }
+) -> Option<LentClause<'a>>
+    ensures some { IfSome result (HasNumber (numbered (formula.now ++ derived.now)) number) }
     ensures none { IfNone result (HasNoClause (numbered (formula.now ++ derived.now)) number) }
 {
     if number == 0 {
@@ -19,17 +19,17 @@ pub fn clause_of<'a>(
     }
     let index = number as usize - 1;
     if index < formula.len() {
-        Some(&formula[index])
+        formula.get(index)
     } else {
-        derived.get(index - formula.len())
+        derived.get(index - formula.len()).map(LentClause::stored)
     }
 }
 
 /// Whether a clause of the formula or a derived one is empty.
-pub fn any_empty(formula: &[Clause], derived: &[Clause]) -> bool
+pub fn any_empty(formula: &FormulaClauses<'_>, derived: &[Clause]) -> bool
     ensures { IsTrue result ↔ Contains (formula.now ++ derived.now) [] }
 {
-    has_empty(formula) || has_empty(derived)
+    formula.has_empty() || has_empty(derived)
 }
 
 /// Whether one of the clauses is empty.

@@ -1,2 +1,1 @@
-pub mod OneFormula
 pub mod Checks

@@ -3,7 +3,7 @@ ghost use Rattle.protocol_check.specs.Laws.{AcceptedSafetyDoesNotFail, LivenessF
 ghost use Rattle.protocol_check.specs.Laws.{LogFailsOnce, SafetyFailsOnce, WrittenLogIsAccepted};
 
 use clause_encoding::clauses_are_determined;
-use log_checker::fails_once;
+use log_checker::{clauses_decide, fails_once};
 use refutation_log::{reads_once, writes_texts};
 
 /// A law: for the formula of a protocol and a property a log is accepted or has one first failure,
@@ -14,6 +14,8 @@ pub fn log_fails_once()
 {
     // law: a protocol has one formula of a property
     clauses_are_determined();
+    // law: what a log does to a formula it does to each with the same clauses
+    clauses_decide();
     // law: the same for any formula
     fails_once();
 }

@@ -7,9 +7,9 @@ ghost use Rattle.protocol_check.specs.Check.{AcceptsLiveness, AcceptsLog, Accept
 ghost use Rattle.protocol_check.specs.Check.{FailsLiveness, FailsLog, FailsSafety};
 
 use bspl_types::{Admitted, Property};
-use clause_encoding::{clauses_are_as_many, clauses_are_determined, formula_of};
+use clause_encoding::{clauses_are_as_many, clauses_are_determined, ordered_formula_of};
 use first_occurrences::unsatisfiable_holds;
-use log_checker::{Reject, check_log};
+use log_checker::{Reject, check_ordered_log, clauses_decide};
 use refutation_log::Log;
 use std::alloc::Global;
 
@@ -30,10 +30,12 @@ pub fn check(alloc: Global, property: Property, a: &Admitted, log: &Log) -> Resu
     // laws: what is written has one list of clauses, and a clause for each
     clauses_are_determined();
     clauses_are_as_many();
+    // law: what a log does to a formula it does to each with the same clauses
+    clauses_decide();
     // law: what was admitted is admitted
     a.is_admitted();
-    let formula = formula_of(alloc, property, a)?;
-    check_log(alloc, &formula, log)
+    let formula = ordered_formula_of(alloc, property, a)?;
+    check_ordered_log(alloc, &formula, log)
 }
 
 /// Checks a log against the safety formula of the protocol. If it is accepted, then the protocol is

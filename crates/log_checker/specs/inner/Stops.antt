@@ -6,6 +6,7 @@ use Rattle.clause_core.specs.Numbering.{Numbering}
 use Rattle.refutation_log.specs.declared.refutation.Log.{Log}
 use Rattle.refutation_log.specs.declared.refutation.Entry.{Entry}
 use Rattle.refutation_log.specs.Ledger.{Ledger}
+use Rattle.refutation_log.specs.Resolution.{Accepts}
 use Rattle.refutation_log.specs.declared.refutation.Link.{Link}
 use Rattle.refutation_log.specs.declared.refutation.Chain.{Chain}
 use Rattle.log_checker.specs.declared.refusal.ChainError.{ChainError}
@@ -54,3 +55,11 @@ EntriesStop formula log reject =
 abbrev pub LogStops : Formula → Log → Reject → Type 0
 LogStops f log rejects.NoMemory = Unit {0}
 LogStops f log reject = FailsFirst f log reject
+
+-- the log is accepted for a formula of these clauses
+abbrev pub AcceptsClauses : List (List Lit) → Log → Type 0
+AcceptsClauses clauses log = (f : Formula) → f.clauses ≡ clauses → Accepts f log
+
+-- it is not, for this reason
+abbrev pub ClausesStop : List (List Lit) → Log → Reject → Type 0
+ClausesStop clauses log reject = (f : Formula) → f.clauses ≡ clauses → LogStops f log reject

@@ -1,9 +1,14 @@
--- One kind more.
-use Rattle.std.proofs.Common.{arith}
-use Rattle.clause_encoding.specs.inner.Order.{order_of_one}
-use Rattle.clause_encoding.proofs.AppendsLemmas.{appends_next}
+-- The clauses of the order are the order clauses.
+use Rattle.std.proofs.Common.{ap, ◌∙◌, ◌++◌}
+use Rattle.std.proofs.lemmas.Result.{IfOk-weaker}
+use Rattle.order_clauses.specs.Order.{order_list}
+use Rattle.clause_encoding.proofs.OrderLemmas.{appends_order}
 use Rattle.clause_encoding.proofs.order.push_order.Goals as goal
 
-pub loop-i-preserved : goal.loop-i-preserved
-loop-i-preserved c =
-    appends_next (order_of_one c.args.vars) _ _ _ 1 c.loop-i.i (omega arith) c.loop-i.invariant c.in_ok-push_order_of_one.ensures
+pub returns : goal.returns
+returns c =
+    let old = c.args.clauses.now in
+    IfOk-weaker c.push_all.result _ _
+    (λ _ pushed. appends_order c.cycle_clauses_ascend.ensures c.order_of.result c.args.vars old c.push_all.new.clauses c.order_of.ensures
+    (pushed ∙ ap (λ o. old ++ order_list o) c.in_ok-new.ensures))
+    c.push_all.ensures

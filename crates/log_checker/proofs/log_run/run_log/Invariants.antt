@@ -8,7 +8,7 @@ use Rattle.log_checker.proofs.log_run.run_log.Given as goal
 -- the entries that were passed led to the table, and nothing is marked
 abbrev pub invariant-loop-entry : goal.invariant-loop-entry
 invariant-loop-entry l = record {
-  run : HasRun l.formula (entries l.log) l.entries l.table;
+  run : HasRun l.fn.formula (entries l.log) l.entries l.table;
   counted : length l.table.derived + length (steps_of l.entries) ≡ length l.log.steps;
   clear : IsClear l.marks (l.table.formula ++ l.table.derived);
 }

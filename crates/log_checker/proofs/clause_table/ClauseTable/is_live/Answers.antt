@@ -10,11 +10,11 @@ returns-in-Some-clause-exact c =
     let some : 0 < c.args.number = search rules in
     let there = rw c.deref.ensures.value at c.in-Some.ensures.lookup in
     let is : c.in-Some.mark.now ≡ get_or table.live.items (c.args.number - 1) false = there.3.1 false in
-    live_iff (table.formula.now ++ table.derived) table.live.items _ c.args.number c.in-Some.mark.now (ap (λ state. state.ledger) c.self.view_is) some c.self.invariant is
+    live_iff (table.formula ++ table.derived) table.live.items _ c.args.number c.in-Some.mark.now (ap (λ state. state.ledger) c.self.view_is) some c.self.invariant is
 
 pub returns-in-None-clause-exact : goal.returns-in-None-clause-exact
 returns-in-None-clause-exact c =
     let table = c.self.inside in
     let some : 0 < c.args.number = search rules in
     let long : length table.live.items ≤ c.args.number - 1 = search rules in
-    live_iff (table.formula.now ++ table.derived) table.live.items _ c.args.number false (ap (λ state. state.ledger) c.self.view_is) some c.self.invariant (sym (get_or_past table.live.items (c.args.number - 1) false long))
+    live_iff (table.formula ++ table.derived) table.live.items _ c.args.number false (ap (λ state. state.ledger) c.self.view_is) some c.self.invariant (sym (get_or_past table.live.items (c.args.number - 1) false long))

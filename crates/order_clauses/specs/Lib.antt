@@ -1,0 +1,4 @@
+-- The clauses of an order, and formulas that begin with them.
+pub mod Order
+pub mod Formula
+pub mod inner

@@ -1,0 +1,17 @@
+//! Clauses that say that "comes before" is an order, by number and without being stored.
+#![tactic(auto)]
+
+mod formula_clauses;
+mod laws;
+mod lent_clause;
+mod order;
+mod order_numbers;
+mod ordered_formula;
+mod starts;
+
+pub use formula_clauses::FormulaClauses;
+pub use laws::cycle_clauses_ascend;
+pub use lent_clause::LentClause;
+pub use order::Order;
+pub use order_numbers::OrderNumbers;
+pub use ordered_formula::OrderedFormula;
