@@ -21,8 +21,11 @@ steps_in_lines (Drop numbers ∷ log) = omega (arith, steps_in_lines log, length
 middle_within : (n : ℕ) (xs ys zs : List ℕ) → n ≤ length ys → n ≤ length (xs ++ ys ++ zs)
 middle_within n xs ys zs within = omega (arith, length-append (xs ++ ys) zs, length-append xs ys)
 
--- and the text has the lines of all steps
+-- so the lines of all steps have as many bytes
+pub steps_in_log : (log : Log) → length log.steps ≤ length (flat_map entry_line (entries log))
+steps_in_log log = subst (λ steps. length steps ≤ length (flat_map entry_line (entries log))) (log_steps log) (steps_in_lines (entries log))
+
+-- and the text has these lines
 pub steps_in_text : (text : List ℕ) (kind : Kind) (log : Log) → IsTextOf text kind log → length log.steps ≤ length text
 steps_in_text text kind log is =
-    let within = subst (λ steps. length steps ≤ length (flat_map entry_line (entries log))) (log_steps log) (steps_in_lines (entries log)) in
-    subst (λ bytes. length log.steps ≤ length bytes) (sym is.text) (middle_within (length log.steps) (header_line is.version kind) (flat_map entry_line (entries log)) end_line within)
+    subst (λ bytes. length log.steps ≤ length bytes) (sym is.text) (middle_within (length log.steps) (header_line is.version kind) (flat_map entry_line (entries log)) end_line (steps_in_log log))

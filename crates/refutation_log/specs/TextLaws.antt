@@ -1,10 +1,12 @@
 -- Laws of the texts of logs.
 use Rattle.std.specs.Prelude.{◌≡◌, ◌≢◌, ℕ, ◌≤◌, List, length}
+use Rattle.std.specs.List.{flat_map}
 use Rattle.refutation_log.specs.declared.refutation.Kind.{Kind}
 use Rattle.refutation_log.specs.declared.refutation.Log.{Log}
 use Rattle.refutation_log.specs.declared.refusal.LogRefusal.{LogRefusal}
 use Rattle.refutation_log.specs.declared.refusal.LogRefusal.TheVariants.{NoMemory}
-use Rattle.refutation_log.specs.LogText.{IsTextOf, log_text}
+use Rattle.refutation_log.specs.Entries.{entries}
+use Rattle.refutation_log.specs.LogText.{IsTextOf, entry_line, log_text}
 use Rattle.refutation_log.specs.NumberRange.{LogInRange}
 use Rattle.refutation_log.specs.Refusal.{IsRefusedLog}
 
@@ -36,3 +38,8 @@ abbrev pub StepsAreFewerThanBytes : Type 0
 StepsAreFewerThanBytes =
     (text : List ℕ) (kind : Kind) (log : Log) → IsTextOf text kind log →
     length log.steps ≤ length text
+
+-- nor than the lines of its entries have
+abbrev pub StepsAreFewerThanLineBytes : Type 0
+StepsAreFewerThanLineBytes =
+    (log : Log) → length log.steps ≤ length (flat_map entry_line (entries log))

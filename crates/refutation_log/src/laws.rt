@@ -3,6 +3,7 @@ ghost use Rattle.refutation_log.specs.ResolutionLaws.{StepsAppend, NewClausesApp
 ghost use Rattle.refutation_log.specs.ResolutionLaws.{PlainLogsResolve, NewLogsResolve};
 ghost use Rattle.refutation_log.specs.ResolutionLaws.{NewClausesAreIrredundant, StepsAreCounted};
 ghost use Rattle.refutation_log.specs.TextLaws.{LogIsNotRefused, StepsAreFewerThanBytes};
+ghost use Rattle.refutation_log.specs.TextLaws.{StepsAreFewerThanLineBytes};
 ghost use Rattle.refutation_log.specs.TextLaws.{TextHasOneLog, TextHasOneRefusal, WrittenTextsAreTexts};
 
 /// A law: a step at the end of a log derives its clause from all the clauses before it.
@@ -58,4 +59,9 @@ pub fn writes_texts()
 /// A law: a log has no more steps than its text has bytes.
 pub fn steps_are_fewer_than_bytes()
     ensures { StepsAreFewerThanBytes }
+{}
+
+/// A law: nor than the lines of its entries have.
+pub fn steps_have_lines()
+    ensures { StepsAreFewerThanLineBytes }
 {}

@@ -44,12 +44,13 @@ fn log_of(alloc: Global, text: &[u8]) -> Result<(Kind, Log), LogRefusal>
     let Some((version, kind)) = header_of(line) else {
         return Err(LogRefusal::Form { line: 1 });
     };
-    let log = log_after(alloc, version, rest)?;
+    let log = read_entries(alloc, version, rest)?;
     Ok((kind, log))
 }
 
-/// The log of a text of this version from its second line on.
-fn log_after(alloc: Global, version: Version, text: &[u8]) -> Result<Log, LogRefusal>
+/// The log of a text of this version from its second line on, whatever the first line says that the
+/// log is of.
+pub fn read_entries(alloc: Global, version: Version, text: &[u8]) -> Result<Log, LogRefusal>
     ensures numbers { IfOk result LogInRange }
     ensures allowed { IfOk result (λ log. version ≡ Version.One → log.removals ≡ []) }
     ensures text { IfOk result

@@ -1,10 +1,12 @@
 ghost use Rattle.std.specs.Prelude.{◌≡◌, ◌+◌, ◌++◌, IfOk, OnOk};
+ghost use Rattle.std.specs.List.{flat_map};
 ghost use Rattle.refutation_log.specs.Cursor.{lent_entry};
+ghost use Rattle.refutation_log.specs.Entries.{entries};
 ghost use Rattle.refutation_log.specs.LogText.{log_text, pivot_text, link_fields};
 ghost use Rattle.refutation_log.specs.NumberRange.{LogInRange};
 ghost use Rattle.refutation_log.specs.LogText.{step_fields, drop_fields, entry_line};
 ghost use Rattle.refutation_log.specs.inner.LineFields.{spaced};
-ghost use Rattle.list_base.specs.Lines.{line_of};
+ghost use Rattle.list_base.specs.Lines.{end_line, line_of};
 
 use super::header::title;
 use super::log_cursor::EntryRef;
@@ -22,12 +24,21 @@ pub fn write_log(alloc: Global, kind: Kind, log: &Log) -> Result<Bytes, NoMemory
 {
     let mut text = Bytes::from_slice(alloc, title(log.version(), kind))?;
     text.push(b'\n')?;
+    push_entries(&mut text, log)?;
+    Ok(text)
+}
+
+/// Appends the lines of the log after the first one, up to `end`. If memory runs out, some of them
+/// may have been appended.
+pub fn push_entries(text: &mut Bytes, log: &Log) -> Result<(), NoMemory>
+    ensures { OnOk result
+        (text.new ≡ text.old ++ flat_map entry_line (entries log.now) ++ end_line) }
+{
     let mut entries = log.entries();
     while let Some(entry) = entries.next() {
-        push_entry(&mut text, entry)?;
+        push_entry(text, entry)?;
     }
-    text.append(b"end\n")?;
-    Ok(text)
+    text.append(b"end\n")
 }
 
 /// Appends the line of an entry.

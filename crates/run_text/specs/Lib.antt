@@ -1,4 +1,5 @@
 -- The definitions that the contracts cite, in reading order.
 pub mod RunText
 pub mod Refusal
+pub mod Names
 pub mod inner

@@ -1,3 +1,4 @@
+ghost use Rattle.run_text.specs.Names.{NamesAreFields};
 ghost use Rattle.run_text.specs.Refusal.{EventsAreFewerThanBytes, RunIsNotRefused};
 ghost use Rattle.run_text.specs.Refusal.{TextHasOneBadLine, TextHasOneRun};
 
@@ -16,4 +17,9 @@ pub fn reads_once()
 /// A law: a run has no more events than its text has bytes.
 pub fn events_are_fewer_than_bytes()
     ensures { EventsAreFewerThanBytes }
+{}
+
+/// A law: a name has neither a space nor an LF, so it is one field of a line.
+pub fn names_are_fields()
+    ensures { NamesAreFields }
 {}

@@ -6,11 +6,17 @@ mod checker_tests;
 #[cfg(test)]
 mod clause_tests;
 #[cfg(test)]
+mod dead_tests;
+#[cfg(test)]
 mod formulas;
 #[cfg(test)]
 mod liveness_tests;
 #[cfg(test)]
 mod log_tests;
+#[cfg(test)]
+mod order_tests;
+#[cfg(test)]
+mod protocols;
 #[cfg(test)]
 mod solve_tests;
 #[cfg(test)]

@@ -1,12 +1,8 @@
-ghost use Rattle.std.specs.Prelude.{◌≡◌, [], ◌∷◌, IfOk};
-
-use adornment_check::admit;
-use bspl_parser::{parse, reads_back};
-use bspl_types::{Admitted, Expanded, NoMemory, Refusal, Seq};
+use super::protocols::{alone, protocol};
+use bspl_types::Admitted;
 use clause_encoding::liveness_clauses_are_few;
 use log_checker::Reject;
 use protocol_check::check_liveness;
-use protocol_expand::expand;
 use refutation_log::read_log;
 use std::alloc::Global;
 use std::test::Fail;
@@ -45,29 +41,6 @@ const ROWS: &[Row] = &[
     },
 ];
 
-/// The expansion of Ping.
-fn expansion(alloc: Global) -> Result<Expanded, Refusal> {
-    // law: the document of a text is well formed
-    reads_back();
-    let document = parse(alloc, PING)?;
-    expand(alloc, &document, b"Ping")
-}
-
-/// The protocol Ping, which is admitted.
-fn ping(alloc: Global) -> Result<Admitted, Fail> {
-    let x = expansion(alloc).ok().ok_or("the text has no expansion")?;
-    Ok(admit(x).ok().ok_or("the protocol is not admitted")?)
-}
-
-/// A list of the protocol alone: it is one value to drop, where the protocol has many.
-fn alone(alloc: Global, protocol: Admitted) -> Result<Seq<Admitted>, NoMemory>
-    ensures { IfOk result (λ list. list ≡ protocol ∷ []) }
-{
-    let mut list = Seq::new(alloc);
-    list.push(protocol)?;
-    Ok(list)
-}
-
 /// The answer for the text of a short log.
 fn answer(alloc: Global, protocol: &Admitted, text: &[u8]) -> Option<Result<(), Reject>> {
     // law: a liveness formula has few clauses
@@ -82,7 +55,7 @@ fn answer(alloc: Global, protocol: &Admitted, text: &[u8]) -> Option<Result<(), 
 
 #[test]
 fn logs_of_the_liveness_of_ping(rt: HostRuntime) -> Result<(), Fail> {
-    let pings = alone(rt.alloc(), ping(rt.alloc())?)?;
+    let pings = alone(rt.alloc(), protocol(rt.alloc(), PING, b"Ping")?)?;
     for row in ROWS {
         assert!(rt; answer(rt.alloc(), pings.at(0), row.text) == Some(row.answer));
     }

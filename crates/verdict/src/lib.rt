@@ -10,4 +10,5 @@ mod verdicts;
 pub use decision::decide;
 pub use laws::numbers_in_range;
 pub use outcome::{Decision, Liveness, Safety, Verdicts};
+pub use search::search_model;
 pub use verdicts::verify;

@@ -1,6 +1,7 @@
 ghost use Rattle.std.specs.Prelude.{◌+◌, ◌^◌, ◌<◌, ◌≤◌, length, IfOk};
 ghost use Rattle.refutation_log.specs.Resolution.{Accepts};
-ghost use Rattle.verdict.specs.inner.Answer.{IsChecked, IsFound};
+ghost use Rattle.verdict.specs.Search.{IsFound};
+ghost use Rattle.verdict.specs.inner.Answer.{IsChecked};
 
 use clause_core::Formula;
 use list_base::NoMemory;
@@ -11,11 +12,7 @@ use std::alloc::Global;
 
 /// Searches for an assignment that satisfies the formula: there is one, a refutation, which the
 /// separate checker accepts, or neither within the budget.
-pub(crate) fn search_model(
-    alloc: Global,
-    formula: &Formula,
-    budget: u32,
-) -> Result<Outcome, NoMemory>
+pub fn search_model(alloc: Global, formula: &Formula, budget: u32) -> Result<Outcome, NoMemory>
     requires some { 1 ≤ budget }
     requires few { length formula.now.clauses + budget < 2 ^ 32 }
     ensures { IfOk result (IsFound formula.now budget) }

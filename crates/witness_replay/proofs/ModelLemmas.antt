@@ -1,6 +1,6 @@
 -- A model of the formula of a property gives a run that does what the property excludes, and where
 -- that run is cut it refutes the property.
-use Rattle.std.proofs.Common.{◌≡◌, ◌+◌, ℕ, Bool, List, length, take, sym, ap, ◌∙◌, subst, arith}
+use Rattle.std.proofs.Common.{◌≡◌, ℕ, Bool, List, length, take, sym, ◌∙◌, subst, arith}
 use Rattle.std.specs.List.{All}
 use Rattle.std.proofs.lemmas.List.{length-take-le, take_all}
 use Rattle.std.proofs.lemmas.List.Elements.{All-take}
@@ -17,7 +17,7 @@ use Rattle.enactment_model.specs.Legal.{IsLegalRun}
 use Rattle.enactment_model.specs.Property.{HasConflict, ViolatedDoesNotHold, Violates}
 use Rattle.enactment_model.specs.ShortestConflict.{ShortestConflict}
 use Rattle.first_occurrences.specs.Report.{AreVariablesOf}
-use Rattle.witness_replay.specs.Laws.{HasRefutation, ModelDoesNotHold, ModelRefutes}
+use Rattle.witness_replay.specs.Laws.{HasRefutation, ModelDoesNotHold, ModelRefutes, RunIsUnderOnes, SharedModelHasRun}
 use Rattle.witness_replay.specs.Refuting.{IsCut, IsRefutation, Refutes, RestsUnbound}
 use Rattle.witness_replay.specs.Witness.{IsRunOf, IsRunOfKinds, key_of_ones}
 use Rattle.witness_replay.proofs.ConflictLemmas.{are_safety_variables, has_conflict}
@@ -59,12 +59,16 @@ cut_legal prefix property x whole run is_legal cut =
 abbrev HasOnes : Expanded → Event → Type 0
 HasOnes x e = (instance_of e).key ≡ key_of_ones x
 
+-- each event of a run of kinds is under it
+pub is_under_ones : RunIsUnderOnes
+is_under_ones x kinds run is_run = each_member (HasOnes x) run (λ e among. (under_ones x kinds run is_run e among).key)
+
 -- and its events are under the key of ones
 cut_ones : (property : Property) (x : Expanded) (kinds : List ℕ) (whole run : List Event) → IsRunOfKinds x kinds whole → IsCut property x whole run → All (HasOnes x) run
 cut_ones property x kinds whole run is_run cut =
     let (n, is) = first_of property x whole run cut in
     subst (λ (events : List Event). All (HasOnes x) events) (sym is)
-    (All-take (HasOnes x) n whole (each_member (HasOnes x) whole (λ e among. (under_ones x kinds whole is_run e among).key)))
+    (All-take (HasOnes x) n whole (is_under_ones x kinds whole is_run))
 
 -- and it refutes the property
 cut_refutes : KnownExactlyIfSomeEventBinds → HistoryIsRun → (property : Property) (x : Expanded) (v : ℕ → Bool) (whole run : List Event) → IsRunOf x (variables_of property x) v whole → SatisfiesAll v (clauses_of property x) → IsCut property x whole run → Refutes property x run
@@ -105,14 +109,20 @@ refutation_from shortest x run is_legal has =
 resting_from : (x : Expanded) (run : List Event) → IsLegalRun x run → RestsUnbound x run → HasRefutation Liveness x
 resting_from x run is_legal rests = record { run = run; legal = is_legal; refutes = rests }
 
+-- an assignment that satisfies the shared clauses has a legal run
+pub has_run : LegalByPositions → KnownExactlyIfSomeEventBinds → HistoryIsRun → SharedModelHasRun
+has_run by_positions known histories x vars v are shared =
+    let (run, is_run) = run_exists x known histories vars v are shared in
+    record { run = run; run_of = is_run; legal = run_is_legal by_positions known histories x vars v run are shared is_run }
+
 -- an assignment that satisfies the clauses of a property gives such a run
 pub model_refutes_each : LegalByPositions → KnownExactlyIfSomeEventBinds → HistoryIsRun → ShortestConflict → ModelRefutes
 model_refutes_each by_positions known histories shortest property x v admitted satisfied =
     let vars = variables_of property x in
     let are = are_variables property x in
     let shared = all_left (Satisfies v) (shared_clauses x vars) (own_clauses property x) satisfied in
-    let (run, is_run) = run_exists x known histories vars v are shared in
-    by_property property run is_run (run_is_legal by_positions known histories x vars v run are shared is_run) satisfied
+    let found = has_run by_positions known histories x vars v are shared in
+    by_property property found.run found.run_of found.legal satisfied
   where
     by_property : (p : Property) (run : List Event) → IsRunOf x (variables_of p x) v run → IsLegalRun x run → SatisfiesAll v (clauses_of p x) → HasRefutation p x
     by_property Safety run is_run is_legal all = refutation_from shortest x run is_legal (has_conflict x v run is_run all)

@@ -1,14 +1,38 @@
--- A model of the formula of a property refutes the property.
-use Rattle.std.specs.Prelude.{ℕ, Bool, List}
+-- A model of the shared clauses has a run; one of the formula of a property refutes the property.
+use Rattle.std.specs.Prelude.{◌≡◌, ℕ, Bool, List}
+use Rattle.std.specs.List.{All}
 use Rattle.bspl_types.specs.declared.event.Event.{Event}
 use Rattle.bspl_types.specs.declared.expanded.Expanded.{Expanded}
 use Rattle.bspl_types.specs.declared.property.Property.{Property}
 use Rattle.bspl_types.specs.Admission.{IsAdmitted}
+use Rattle.bspl_types.specs.History.{instance_of}
 use Rattle.clause_core.specs.Clause.{SatisfiesAll}
+use Rattle.clause_encoding.specs.declared.variables.Variables.{Variables}
+use Rattle.clause_encoding.specs.Families.{shared_clauses}
 use Rattle.clause_encoding.specs.Formula.{clauses_of}
 use Rattle.enactment_model.specs.Legal.{IsLegalRun}
 use Rattle.enactment_model.specs.Property.{Holds}
+use Rattle.first_occurrences.specs.Report.{AreVariablesOf}
 use Rattle.witness_replay.specs.Refuting.{Refutes}
+use Rattle.witness_replay.specs.Witness.{IsRunOf, IsRunOfKinds, key_of_ones}
+
+-- the run of an assignment, which is legal
+pub record HasRunOf (x : Expanded) (vars : Variables) (v : ℕ → Bool) : Type 0 where
+  pub run : List Event
+  pub run_of : IsRunOf x vars v run
+  pub legal : IsLegalRun x run
+
+-- an assignment that satisfies the clauses that all formulas share has such a run
+abbrev pub SharedModelHasRun : Type 0
+SharedModelHasRun =
+    (x : Expanded) (vars : Variables) (v : ℕ → Bool) → AreVariablesOf x vars →
+    SatisfiesAll v (shared_clauses x vars) → HasRunOf x vars v
+
+-- each event of a run of kinds is under the key of ones
+abbrev pub RunIsUnderOnes : Type 0
+RunIsUnderOnes =
+    (x : Expanded) (kinds : List ℕ) (run : List Event) → IsRunOfKinds x kinds run →
+    All (λ e. (instance_of e).key ≡ key_of_ones x) run
 
 -- a legal run that refutes the property
 pub record HasRefutation (property : Property) (x : Expanded) : Type 0 where

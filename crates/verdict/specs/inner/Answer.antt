@@ -25,17 +25,6 @@ pub record IsChecked (f : Formula) (log : Log) (outcome : Outcome) : Type 0 wher
   pub is_log : outcome ≡ Unsat log
   pub no_model : IsUnsatisfiable f.clauses
 
--- a refuted formula has no model
-abbrev pub IsSound : Formula → Outcome → Type 0
-IsSound f (Sat assignment) = Unit {0}
-IsSound f (Unsat log) = IsUnsatisfiable f.clauses
-IsSound f (Budget log) = Unit {0}
-
--- what the search finds, checked
-pub record IsFound (f : Formula) (budget : ℕ) (outcome : Outcome) : Type 0 where
-  pub right : IsOutcome f budget outcome
-  pub sound : IsSound f outcome
-
 -- the answer is to what the search found about the formula
 pub record IsAnswered {A : Type 0} (f : Formula) (budget : ℕ) (Answers : Outcome → A → Type 0)
     (answer : A) : Type 0 where

@@ -1,0 +1,9 @@
+pub mod CutLemmas
+pub mod EmissionLemmas
+pub mod ClauseLemmas
+pub mod AnswerLemmas
+pub mod ModelLemmas
+pub mod CheckLemmas
+pub mod TitleLemmas
+pub mod TextLemmas
+pub mod OneAnswer

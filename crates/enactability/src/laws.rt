@@ -1,0 +1,131 @@
+ghost use Rattle.enactability.specs.Enactable.{AreMessages};
+ghost use Rattle.enactability.specs.Laws.{AcceptedDeadDoesNotFail, DeadExactlyIfNoModel};
+ghost use Rattle.enactability.specs.Laws.{DeadLogFailsOnce, DeadLogIsNotRefused};
+ghost use Rattle.enactability.specs.Laws.{DeadStepsAreFewerThanBytes};
+ghost use Rattle.enactability.specs.Laws.{EnactClausesAreFew, EnactableAlone, ModelEnacts};
+ghost use Rattle.enactability.specs.Laws.{NoModelIsDead, TextHasOneDeadLog};
+ghost use Rattle.enactability.specs.Laws.{TextHasOneDeadRefusal, WrittenIsDeadText};
+ghost use Rattle.enactability.specs.Refusal.{IsOneMessage};
+ghost use Rattle.enactability.specs.inner.Search.{CutEnacts};
+
+use bspl_types::equal_values_are_one;
+use clause_encoding::{clauses_are_determined, safety_clauses_are_few, written_is_satisfied};
+use enactment_model::prefix_is_legal;
+use first_occurrences::{assignment_exists, shared_clauses_hold};
+use log_checker::{clauses_decide, fails_once};
+use refutation_log::{reads_once, steps_have_lines};
+use run_text::names_are_fields;
+use witness_replay::shared_model_has_run;
+
+/// A law: a message can be enacted exactly if the list of it alone can.
+pub fn enactable_alone()
+    ensures { EnactableAlone }
+{}
+
+/// A law: if the formula of messages has no model, then no legal run, over any number of keys,
+/// emits all of them under one key: the first occurrences under that key would be a model (after
+/// Singh 2012).
+pub fn no_model_is_dead()
+    ensures { NoModelIsDead }
+{
+    // law: lists of values that the test finds equal are one list
+    equal_values_are_one();
+    // laws: a run has an assignment of its first occurrences, which satisfies the shared clauses
+    assignment_exists();
+    shared_clauses_hold();
+    // law: a model of the formula satisfies what is written
+    written_is_satisfied();
+}
+
+/// A law: each model of the formula of messages gives a legal run, which is cut after the last of
+/// their emissions.
+pub fn model_enacts()
+    ensures { ModelEnacts }
+{
+    // law: a model of the shared clauses has a legal run
+    shared_model_has_run();
+    // law: it is the evidence if it is cut so
+    cut_enacts();
+}
+
+/// A law: the run of a model is evidence for each messages that it emits, if it is cut after the
+/// last of their emissions.
+pub(crate) fn cut_enacts()
+    ensures { CutEnacts }
+{
+    // law: the run of a model is under the key of ones
+    shared_model_has_run();
+    // law: the first events of a legal run are legal
+    prefix_is_legal();
+}
+
+/// A law: messages are dead exactly if their formula has no model.
+pub fn dead_exactly_if_no_model()
+    ensures { DeadExactlyIfNoModel }
+{
+    // law: lists of values that the test finds equal are one list
+    equal_values_are_one();
+    // laws: a run has an assignment of its first occurrences, which satisfies the shared clauses
+    assignment_exists();
+    shared_clauses_hold();
+    // law: each model gives a run
+    model_enacts();
+}
+
+/// A law: the formula of messages has few clauses.
+pub fn enact_clauses_are_few()
+    ensures { EnactClausesAreFew }
+{
+    // law: the safety formula has few clauses
+    safety_clauses_are_few();
+}
+
+/// A law: for the formula of messages a log is accepted or has one first failure, and not both.
+pub fn dead_log_fails_once()
+    ensures failure { DeadLogFailsOnce }
+    ensures accepted { AcceptedDeadDoesNotFail }
+{
+    // law: messages have one formula
+    clauses_are_determined();
+    // law: what a log does to a formula it does to each with the same clauses
+    clauses_decide();
+    // law: the same for any formula
+    fails_once();
+}
+
+/// A law: what is written of a log on messages is a text of it.
+pub fn dead_texts_written()
+    ensures { WrittenIsDeadText }
+{}
+
+/// A law: a text is that of one log on one message at most, or refused for one thing, and not both.
+pub fn dead_texts_read_once()
+    ensures logs { TextHasOneDeadLog }
+    ensures refusals { TextHasOneDeadRefusal IsOneMessage }
+    ensures exclusive { DeadLogIsNotRefused IsOneMessage }
+{
+    // law: a name is one field of a line
+    names_are_fields();
+    // law: the same of the text of any log
+    reads_once();
+}
+
+/// A law: the same where any messages may be named.
+pub fn texts_on_messages_read_once()
+    ensures logs { TextHasOneDeadLog }
+    ensures refusals { TextHasOneDeadRefusal AreMessages }
+    ensures exclusive { DeadLogIsNotRefused AreMessages }
+{
+    // law: a name is one field of a line
+    names_are_fields();
+    // law: the same of the text of any log
+    reads_once();
+}
+
+/// A law: a log on messages has no more steps than its text has bytes.
+pub fn dead_steps_are_fewer_than_bytes()
+    ensures { DeadStepsAreFewerThanBytes }
+{
+    // law: the lines of a log's entries have as many bytes as it has steps, or more
+    steps_have_lines();
+}
