@@ -1,4 +1,4 @@
--- The definitions that the contracts cite, in reading order.
+-- The definitions that the contracts cite, in reading order; what no public contract cites is last.
 pub mod Lines
 pub mod Table
 pub mod Statement
@@ -11,3 +11,4 @@ pub mod Laws
 pub mod Fitting
 pub mod Plan
 pub mod Job
+pub mod inner

@@ -4,7 +4,7 @@ ghost use Rattle.agent_scripts.specs.Refusal.{IsScriptFor};
 use super::plan::Plan;
 use super::script::Script;
 use bspl_types::Admitted;
-use std::marker::Model;
+use std::marker::{Brand, Model};
 
 /// What a text says of the agents.
 #[derive(Drop)]
@@ -76,4 +76,11 @@ pub trait Scene {
     ghost use Rattle.agent_scripts.specs.Job.{Job as SpecJob};
 
     ghost job: { SpecJob };
+}
+
+/// A call that names a job passes `Brand`. If the call names none, it is a job without messages.
+impl Scene for Brand {
+    ghost use Rattle.agent_scripts.specs.inner.NoJob.{no_job};
+
+    ghost job = { no_job };
 }

@@ -1,3 +1,11 @@
 mod SlotLemmas
 mod CountLemmas
 mod InboxLemmas
+mod ItemLemmas
+mod ViewLemmas
+mod SplitLemmas
+mod QueueLemmas
+mod JoinLemmas
+mod PassLemmas
+mod StockLemmas
+mod GatherLemmas

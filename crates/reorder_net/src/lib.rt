@@ -1,11 +1,21 @@
-//! What a plan loses, and the inbox of a role.
+//! What a plan loses, the mailboxes between roles, and the inbox of a role.
 #![tactic(auto)]
 
 mod choice;
 mod counts;
+mod gathered;
+mod hold;
 mod inbox;
 mod losses;
+mod mailbox;
+mod moves;
+mod passes;
+mod post;
+mod steps;
+mod stock;
 
 pub use choice::pick;
 pub use inbox::Inbox;
 pub use losses::{copies, lost};
+pub use passes::{Gathered, MailPass, PassList, RolePasses};
+pub use post::{Mail, Post};
