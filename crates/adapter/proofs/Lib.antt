@@ -1,10 +1,15 @@
--- Lemmas on desks.
+-- Lemmas on desks and states.
 mod EventLemmas
+mod ExplainedLemmas
 mod InboxLemmas
+mod IntakeLemmas
+mod MailedLemmas
 mod NextLemmas
 mod OrderLemmas
 mod PendingLemmas
 mod PlanLemmas
-mod TakingLemmas
+mod PostedLemmas
+mod StateLemmas
 mod StepLemmas
+mod TakingLemmas
 mod ValueLemmas

@@ -1,8 +1,8 @@
 -- What a store emits at an agent's step is what the rules ask for.
-use Rattle.std.proofs.Common.{◌≡◌, ◌≢◌, ℕ, ◌+◌, ◌-◌, ◌<◌, Bool, true, false, List, [], ◌∷◌, ◌++◌, length, get_or, take, Some, slice_get, refl, sym, ◌∙◌, ap, subst, arith, inl, inr, ⊎_elim, All, Contains}
-use Rattle.std.specs.Prelude.{◌==◌, if◌then◌else◌}
+use Rattle.std.proofs.Common.{◌≡◌, ◌≢◌, ℕ, ◌+◌, ◌-◌, ◌<◌, Bool, true, List, [], ◌∷◌, ◌++◌, length, get_or, take, Some, slice_get, refl, sym, ◌∙◌, ap, subst, arith, inl, inr, All, Contains}
+use Rattle.std.specs.Prelude.{◌==◌}
 use Rattle.std.specs.List.{AllPairs, filter}
-use Rattle.std.proofs.lemmas.Bool.{cases_Bool, cond-true, true≢false}
+use Rattle.std.proofs.lemmas.Bool.{cond-true}
 use Rattle.std.proofs.lemmas.Bool.Decides.{Decides-eqb}
 use Rattle.std.proofs.Math.Seq.{get_or-append_seam, take-append_seam}
 use Rattle.std.proofs.lemmas.List.{length-map}
@@ -34,7 +34,8 @@ use Rattle.local_store.specs.State.{acts_of}
 use Rattle.stamped_history.specs.PlayedLaws.{PlayedGrows}
 use Rattle.stamped_history.specs.Played.{IsChosen, IsPassed}
 use Rattle.stamped_history.specs.Rules.{IsNumber, TriesBefore}
-use Rattle.reorder_net.specs.Losses.{copies_of, is_lost}
+use Rattle.reorder_net.specs.Losses.{copies_of}
+use Rattle.reorder_net.specs.Mail.{IsPosted}
 use Rattle.adapter.specs.declared.step.Step.{Step}
 use Rattle.adapter.specs.Desk.{DeskState}
 use Rattle.adapter.specs.Kept.{IsFor, IsKept}
@@ -42,9 +43,11 @@ use Rattle.adapter.specs.Next.{IsNext, IsPassedOver, IsWorkload}
 use Rattle.adapter.specs.Rules.{key_of, rules_of}
 use Rattle.adapter.specs.Steps.{IsPlanned, with_emission}
 use Rattle.adapter.specs.Laws.{IsOrderly}
-use Rattle.adapter.specs.inner.NextStep.{envelope_of, IsNextStep, IsPossible}
+use Rattle.adapter.specs.Posted.{envelope_of}
+use Rattle.adapter.specs.inner.NextStep.{IsNextStep, IsPossible}
 use Rattle.adapter.proofs.EventLemmas.{none_if_not_emitted, with_event}
 use Rattle.adapter.proofs.NextLemmas.{has_order, key_held, order_sent}
+use Rattle.adapter.proofs.PostedLemmas.{is_for}
 use Rattle.adapter.proofs.ValueLemmas.{given_value}
 
 -- the order of the desk's role
@@ -178,28 +181,23 @@ planned job d n t m orderly kept number step emission =
       copies = refl;
     }
 
--- what is lost has no copies
-lost_none : (b : Bool) (many : ℕ) → b ≡ true → 0 < (if b then 0 else many) → ⊥
-lost_none true many lost some = omega (arith, some)
-lost_none false many lost some = true≢false (sym lost)
-
--- and is for its receiver, if it has copies
-pub posted : (job : Job) (d : DeskState) (n : ℕ) (m : Stamped) → IsOrderly job → IsKept job d.store.role d → IsWorkload job n → Fits d.store.protocol m.instance → m.instance.key ≡ key_of job n → 0 < copies_of job.plan m.instance.message n → IsFor job (message_of job.protocol m.instance.message).receiver (envelope_of job d.store.role n m)
-posted job d n m orderly kept number fits key_is some =
+-- if it has copies, the envelope can be posted
+mailed : (job : Job) (d : DeskState) (n : ℕ) (t : Step) (m : Stamped) → IsOrderly job → IsKept job d.store.role d → IsWorkload job n → IsNextStep job d.store n t → IsEmission d.store t.message t.key t.outs m → 0 < copies_of job.plan m.instance.message n → IsPosted job d.store.role (message_of job.protocol m.instance.message).receiver (envelope_of job d.store.role n m)
+mailed job d n t m orderly kept number step emission some =
+    let i = m.instance in
+    let key_is : i.key ≡ key_of job n = emission.key_is ∙ step.key_is in
+    let next : IsNext job d.store n (Some i.message) = subst (λ k. IsNext job d.store n (Some k)) (sym emission.message_is) step.next in
+    let own : IsSentBy d.store.protocol d.store.role i.message = sent job d i.message orderly kept (in_order job d n i.message next) in
     record {
-      fits = subst (λ (x : Expanded). Fits x m.instance) kept.protocol_is fits;
-      to_role = refl;
-      own = refl;
-      workload = member_at job.script.keys (n - 1) m.instance.key (key_at job n number ∙ ap (λ v. Some v) (sym key_is));
-      arrives = λ k is. ap (λ j. is_lost job.plan m.instance.message j) (same_number job n k m.instance.key orderly number key_is is) ∙ not_lost;
+      from_is = refl;
+      to_is = refl;
+      fits = subst (λ (x : Expanded). Fits x i) kept.protocol_is emission.fits;
+      sent_by = subst (λ (x : Expanded). (message_of x i.message).sender ≡ d.store.role) kept.protocol_is own.1;
+      sent_to = refl;
+      workload = member_at job.script.keys (n - 1) i.key (key_at job n number ∙ ap (λ v. Some v) (sym key_is));
+      copies = λ k is. ap (copies_of job.plan i.message) (sym (same_number job n k i.key orderly number key_is (record { some = is.some; at = is.at })));
       some = some;
     }
-  where
-    not_lost : is_lost job.plan m.instance.message n ≡ false
-    not_lost = ⊎_elim
-        (λ yes. absurd (lost_none (is_lost job.plan m.instance.message n) (1 + job.plan.repeat) yes some))
-        (λ none. none)
-        (cases_Bool (is_lost job.plan m.instance.message n))
 
 -- a desk that emitted it is kept
 pub emitted_kept : PlayedGrows → EqualValuesAreOne → (job : Job) (d new : DeskState) (n : ℕ) (t : Step) (m : Stamped) → IsOrderly job → IsKept job d.store.role d → IsWorkload job n → IsNextStep job d.store n t → IsEmission d.store t.message t.key t.outs m → new ≡ with_emission d m → IsConsistent new.store → IsKept job d.store.role new
@@ -223,6 +221,11 @@ pub planned_as : (job : Job) (d : DeskState) (n role : ℕ) (t : Step) (m : Stam
 planned_as job d n role t m e orderly kept number step emission role_is is =
     subst (IsPlanned job d.store n) (sym (is ∙ ap (λ r. envelope_of job r n m) role_is)) (planned job d n t m orderly kept number step emission)
 
+pub mailed_as : (job : Job) (d : DeskState) (n role : ℕ) (t : Step) (m : Stamped) (e : Envelope) → IsOrderly job → IsKept job d.store.role d → IsWorkload job n → IsNextStep job d.store n t → IsEmission d.store t.message t.key t.outs m → role ≡ d.store.role → e ≡ envelope_of job role n m → 0 < e.copies → IsPosted job d.store.role e.to e
+mailed_as job d n role t m e orderly kept number step emission role_is is =
+    subst (λ (f : Envelope). 0 < f.copies → IsPosted job d.store.role f.to f) (sym (is ∙ ap (λ r. envelope_of job r n m) role_is)) (mailed job d n t m orderly kept number step emission)
+
+-- so it is for its receiver
 pub posted_as : (job : Job) (d : DeskState) (n role : ℕ) (t : Step) (m : Stamped) (e : Envelope) → IsOrderly job → IsKept job d.store.role d → IsWorkload job n → IsNextStep job d.store n t → IsEmission d.store t.message t.key t.outs m → role ≡ d.store.role → e ≡ envelope_of job role n m → 0 < e.copies → IsFor job e.to e
-posted_as job d n role t m e orderly kept number step emission role_is is =
-    subst (λ (f : Envelope). 0 < f.copies → IsFor job f.to f) (sym (is ∙ ap (λ r. envelope_of job r n m) role_is)) (posted job d n m orderly kept number emission.fits (emission.key_is ∙ step.key_is))
+posted_as job d n role t m e orderly kept number step emission role_is is some =
+    is_for job d.store.role e.to e (mailed_as job d n role t m e orderly kept number step emission role_is is some)

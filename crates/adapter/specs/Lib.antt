@@ -1,9 +1,13 @@
--- What contracts see of a desk, the rules of its job, when it is kept, and what its steps do.
+-- What contracts see of a desk, the rules of its job, when it is kept, and what its steps do; the
+-- same of a role's state, which is a desk with passes to the mailboxes; what holds of both.
 pub mod Desk
 pub mod Rules
 pub mod Pending
 pub mod Kept
 pub mod Next
 pub mod Steps
+pub mod Posted
+pub mod State
+pub mod StateSteps
 pub mod Laws
 pub mod inner

@@ -9,7 +9,7 @@ use list_base::NoMemory;
 
 /// Puts the envelope into the desk's inbox, or drops it if it has no copies. An inbox with room
 /// takes no memory.
-pub fn accept(desk: &mut Desk, job: &Job, e: Envelope) -> Result<(), NoMemory>
+pub fn deliver(desk: &mut Desk, job: &Job, e: Envelope) -> Result<(), NoMemory>
     requires kept { IsKept job.now desk.old.store.role desk.old }
     requires own { 0 < e.copies → IsFor job.now desk.old.store.role e }
     ensures kept { IsKept job.now desk.old.store.role desk.new }

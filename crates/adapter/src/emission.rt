@@ -1,10 +1,12 @@
 ghost use Rattle.std.specs.Prelude.{◌≡◌, ◌<◌, length, None, IfSome, MatchOption};
 ghost use Rattle.local_store.specs.Consistent.{IsConsistent};
 ghost use Rattle.local_store.specs.Emission.{IsEmission};
+ghost use Rattle.reorder_net.specs.Mail.{IsPosted};
 ghost use Rattle.adapter.specs.Kept.{IsFor, IsKept};
 ghost use Rattle.adapter.specs.Next.{IsAtWork};
+ghost use Rattle.adapter.specs.Posted.{envelope_of};
 ghost use Rattle.adapter.specs.Steps.{IsNextEnvelope, after_emission, with_emission};
-ghost use Rattle.adapter.specs.inner.NextStep.{IsPossible, IsNextStep, envelope_of};
+ghost use Rattle.adapter.specs.inner.NextStep.{IsPossible, IsNextStep};
 
 use super::desk::Desk;
 use super::laws::is_orderly;
@@ -37,11 +39,13 @@ pub fn desk_emit(desk: &mut Desk, job: &Job, n: u64) -> Option<Envelope>
 }
 
 /// The envelope that `desk_emit` would answer: there is one at most, as `next_envelopes_are_one`
-/// states. Nothing changes.
+/// states. Nothing changes. With copies it can go into its receiver's mailbox.
 pub fn desk_plan(desk: &Desk, job: &Job, n: u64) -> Option<Envelope>
     requires { IsAtWork job.now desk.now n }
     ensures plan { IsNextEnvelope job.now desk.now.store n result }
     ensures posted { IfSome result (λ e. 0 < e.copies → IsFor job.now e.to e) }
+    ensures mailed { IfSome result
+        (λ e. 0 < e.copies → IsPosted job.now desk.now.store.role e.to e) }
 {
     // law: the script fits its protocol
     is_orderly(job);

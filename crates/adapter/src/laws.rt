@@ -1,4 +1,5 @@
-ghost use Rattle.adapter.specs.Laws.{IsOrderly, NextEnvelopesAreOne, OrdersAreDistinct};
+ghost use Rattle.adapter.specs.Laws.{IsOrderly, NewStatesAreKept, NextEnvelopesAreOne};
+ghost use Rattle.adapter.specs.Laws.{OrdersAreDistinct, TakenEnvelopesExplain};
 
 use agent_scripts::{Job, scripts_fit};
 
@@ -10,6 +11,16 @@ pub fn orders_are_distinct()
 /// A law: what a kept desk emits next is determined, so `desk_plan` answers what `desk_emit` would.
 pub fn next_envelopes_are_one()
     ensures { NextEnvelopesAreOne }
+{}
+
+/// A law: a new state is kept.
+pub fn new_states_are_kept()
+    ensures { NewStatesAreKept }
+{}
+
+/// A law: what a role took out of its mailbox, and its sender posted, explains the role's receipt.
+pub fn taken_envelopes_explain()
+    ensures { TakenEnvelopesExplain }
 {}
 
 /// A law: the job's script is one for its protocol and fits it, its keys and rules fit each other,

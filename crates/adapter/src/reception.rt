@@ -1,10 +1,14 @@
-ghost use Rattle.std.specs.Prelude.{◌≡◌, ◌<◌, length, slice_get, Some};
+ghost use Rattle.std.specs.Prelude.{◌≡◌, ◌<◌, List, length, slice_get, Some};
 ghost use Rattle.bspl_types.specs.declared.envelope.Envelope.{Envelope};
 ghost use Rattle.stamped_history.specs.Entries.{clock_limit, last_stamp};
+ghost use Rattle.reorder_net.specs.Pass.{BoxId};
 ghost use Rattle.adapter.specs.Kept.{IsKept};
+ghost use Rattle.adapter.specs.State.{IsStateKept};
+ghost use Rattle.adapter.specs.StateSteps.{TakesOne};
 ghost use Rattle.adapter.specs.Steps.{IsSpent, IsTaken, IsTaking, after_pick};
 
 use super::desk::Desk;
+use super::role_state::RoleState;
 use agent_scripts::Job;
 use bspl_types::equal_values_are_one;
 use local_store::Receipt;
@@ -30,6 +34,18 @@ pub fn desk_take(desk: &mut Desk, job: &Job, rng: &mut Pcg32) -> Option<Receipt>
         return None;
     }
     Some(take_at(desk, job, index))
+}
+
+/// The state's desk takes as `desk_take` does. It waits for nobody and takes no memory.
+pub fn step_take(state: &mut RoleState, job: &Job, rng: &mut Pcg32) -> Option<Receipt>
+    requires kept { (boxes : List BoxId) ×
+        IsStateKept job.now state.old.desk.store.role boxes state.old }
+    ensures kept { (boxes : List BoxId) →
+        IsStateKept job.now state.old.desk.store.role boxes state.old →
+        IsStateKept job.now state.old.desk.store.role boxes state.new }
+    ensures taken { TakesOne rng.old state.old result rng.new state.new }
+{
+    desk_take(&mut state.desk, job, rng)
 }
 
 /// Takes the envelope at the index.

@@ -1,15 +1,11 @@
 -- The step of an agent: which message it emits, under which key, with which values of its own.
 use Rattle.std.specs.Prelude.{◌≡◌, ℕ, ◌<◌, Some}
-use Rattle.bspl_types.specs.declared.envelope.Envelope.{Envelope}
-use Rattle.bspl_types.specs.declared.envelope.Stamped.{Stamped}
-use Rattle.bspl_types.specs.Expansion.{message_of}
 use Rattle.bspl_types.specs.Knowledge.{CanEmit}
 use Rattle.stamped_history.specs.Entries.{clock_limit, last_stamp}
 use Rattle.agent_scripts.specs.Job.{Job}
 use Rattle.agent_scripts.specs.Script.{values_of}
 use Rattle.local_store.specs.Emission.{IsAttempt}
 use Rattle.local_store.specs.State.{StoreState, acts_of}
-use Rattle.reorder_net.specs.Losses.{copies_of}
 use Rattle.adapter.specs.declared.step.Step.{Step}
 use Rattle.adapter.specs.Next.{IsNext}
 use Rattle.adapter.specs.Rules.{key_of}
@@ -25,12 +21,3 @@ pub record IsNextStep (job : Job) (s : StoreState) (n : ℕ) (t : Step) : Type 0
 pub record IsPossible (s : StoreState) (t : Step) : Type 0 where
   pub attempt : IsAttempt s t.message t.key t.outs
   pub can : CanEmit s.protocol (acts_of s) t.message t.key
-
--- the message goes from the role to its receiver, in as many copies as the plan gives
-abbrev pub envelope_of : Job → ℕ → ℕ → Stamped → Envelope
-envelope_of job role n m = record {
-  to = (message_of job.protocol m.instance.message).receiver;
-  from = role;
-  message = m;
-  copies = copies_of job.plan m.instance.message n;
-}

@@ -3,7 +3,7 @@ use Rattle.std.proofs.Common.{◌≡◌, ◌∙◌, ap, subst, sym}
 use Rattle.local_store.specs.Emission.{IsEmission}
 use Rattle.adapter.specs.Desk.{DeskState}
 use Rattle.adapter.specs.inner.NextStep.{IsPossible}
-use Rattle.adapter.proofs.StepLemmas.{planned_as, possible, posted_as}
+use Rattle.adapter.proofs.StepLemmas.{mailed_as, planned_as, possible, posted_as}
 use Rattle.adapter.proofs.emission.desk_plan.Goals as goal
 
 pub plan_step-message-requires : goal.plan_step-message-requires
@@ -25,4 +25,12 @@ returns-clause-posted c =
     let role_is : c.role.result ≡ c.args.desk.now.store.role = c.role.ensures ∙ ap (λ (d : DeskState). d.store.role) c.desk.view_is in
     let emission = subst (λ (d : DeskState). IsEmission d.store step.message step.key step.outs c.plan_step-message.result) c.desk.view_is c.plan_step-message.ensures in
     posted_as c.args.job.now c.args.desk.now c.args.n c.role.result step c.plan_step-message.result c.envelope_of.result
+    c.is_orderly.ensures c.requires.kept c.requires.number c.in_ok-step.ensures emission role_is c.envelope_of.ensures
+
+pub returns-clause-mailed : goal.returns-clause-mailed
+returns-clause-mailed c =
+    let step = c.in_ok-step.step in
+    let role_is : c.role.result ≡ c.args.desk.now.store.role = c.role.ensures ∙ ap (λ (d : DeskState). d.store.role) c.desk.view_is in
+    let emission = subst (λ (d : DeskState). IsEmission d.store step.message step.key step.outs c.plan_step-message.result) c.desk.view_is c.plan_step-message.ensures in
+    mailed_as c.args.job.now c.args.desk.now c.args.n c.role.result step c.plan_step-message.result c.envelope_of.result
     c.is_orderly.ensures c.requires.kept c.requires.number c.in_ok-step.ensures emission role_is c.envelope_of.ensures

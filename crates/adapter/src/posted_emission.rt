@@ -1,0 +1,65 @@
+ghost use Rattle.std.specs.Prelude.{◌≡◌, ℕ, ◌<◌, ◌++◌, List, length, IfOk, OnErr, OnOk};
+ghost use Rattle.bspl_types.specs.declared.envelope.Envelope.{Envelope};
+ghost use Rattle.reorder_net.specs.Mail.{IsPosted};
+ghost use Rattle.reorder_net.specs.Passes.{ArePasses};
+ghost use Rattle.adapter.specs.Posted.{arriving};
+ghost use Rattle.adapter.specs.State.{IsStateKept};
+ghost use Rattle.adapter.specs.StateSteps.{EmitsNext, IsStateAtWork};
+
+use super::emission::{desk_emit, desk_plan};
+use super::laws::{is_orderly, next_envelopes_are_one};
+use super::role_state::RoleState;
+use agent_scripts::{Job, Scene};
+use bspl_types::{Envelope, equal_values_are_one};
+use list_base::NoMemory;
+use reorder_net::{Post, RolePasses};
+use std::sync::Wait;
+
+/// The role's agent emits as `desk_emit` does. The envelope goes into its receiver's mailbox
+/// before the store changes, unless the plan loses it. If the mailbox cannot take it, the answer is
+/// out of memory, and the state stays as it was.
+pub fn step_emit<N: Scene, W: Wait>(
+    rt: &W,
+    state: &mut RoleState,
+    job: &Job,
+    n: u64,
+    post: &Post<N>,
+) -> Result<Option<Envelope>, NoMemory>
+    requires scene { N.job ≡ job.now }
+    requires at_work { IsStateAtWork job.now post.now state.old n }
+    ensures kept { IsStateKept job.now state.old.desk.store.role post.now state.new }
+    ensures ok { IfOk result (λ e. EmitsNext job.now n state.old e state.new) }
+    ensures err { OnErr result (state.new ≡ state.old) }
+{
+    // laws: of the script; the desk emits what it planned; equal keys are one key
+    is_orderly(job);
+    next_envelopes_are_one();
+    equal_values_are_one();
+    let Some(planned) = desk_plan(&state.desk, job, n) else {
+        return Ok(None);
+    };
+    post_planned(rt, post, &mut state.passes, planned)?;
+    Ok(desk_emit(&mut state.desk, job, n))
+}
+
+/// Puts the envelope into its receiver's mailbox, unless it is lost.
+fn post_planned<N: Scene, W: Wait>(
+    rt: &W,
+    post: &Post<N>,
+    passes: &mut RolePasses,
+    e: Envelope,
+) -> Result<(), NoMemory>
+    requires passes { (sent : ℕ → List Envelope) × (taken : List Envelope) ×
+        ArePasses post.now e.from sent taken passes.old }
+    requires known { 0 < e.copies → e.to < length post.now }
+    requires posted { 0 < e.copies → IsPosted N.job e.from e.to e }
+    ensures ok { OnOk result ((sent : ℕ → List Envelope) (taken : List Envelope) →
+        ArePasses post.now e.from sent taken passes.old →
+        ArePasses post.now e.from (λ q. sent q ++ arriving q e) taken passes.new) }
+    ensures err { OnErr result (passes.new ≡ passes.old) }
+{
+    if e.copies == 0 {
+        return Ok(());
+    }
+    post.put(rt, passes, e)
+}
