@@ -1,10 +1,14 @@
+pub mod ReleaseLemmas
 pub mod CourseLemmas
 pub mod EmissionLemmas
 pub mod EmitLemmas
 pub mod EntryLemmas
 pub mod FinishLemmas
+pub mod FinishedTableLemmas
 pub mod GrowLemmas
 pub mod InboxLemmas
+pub mod JoinedLemmas
+pub mod LockLemmas
 pub mod MergeLemmas
 pub mod OpenLemmas
 pub mod UndeliveredLemmas
@@ -14,5 +18,6 @@ pub mod SetLemmas
 pub mod SoundLemmas
 pub mod TableLemmas
 pub mod TakeLemmas
+pub mod ToldLemmas
 pub mod WholeLemmas
 pub mod WorldLemmas

@@ -1,5 +1,5 @@
 -- A list in which one item was replaced.
-use Rattle.std.proofs.Common.{◌≡◌, ◌≢◌, ℕ, zero, suc, ◌⊎◌, inl, inr, Some, List, [], ◌∷◌, ◌++◌, refl, sym, ap, arith}
+use Rattle.std.proofs.Common.{◌≡◌, ◌≢◌, ℕ, zero, suc, ◌⊎◌, inl, inr, Some, List, [], ◌∷◌, ◌++◌, length, refl, sym, ap, arith}
 use Rattle.std.specs.Prelude.{slice_get, slice_set}
 
 -- an item is the new one at its index, or was there before
@@ -38,3 +38,13 @@ pub item_longer : {X : Type 0} (xs more : List X) (i : ℕ) (z : X) → slice_ge
 item_longer [] more i z at = absurd (cc)
 item_longer (x ∷ xs) more zero z at = at
 item_longer (x ∷ xs) more (suc i) z at = item_longer xs more i z at
+
+-- an item of a list with one more is the last one, or was there before
+pub item_pushed : {X : Type 0} (xs : List X) (y : X) (i : ℕ) (z : X) → slice_get (xs ++ y ∷ []) i ≡ Some z → ((i ≡ length xs) × (y ≡ z)) ⊎ (slice_get xs i ≡ Some z)
+item_pushed [] y zero z at = inl (refl, (cc))
+item_pushed [] y (suc i) z at = absurd (cc)
+item_pushed (x ∷ xs) y zero z at = inr at
+item_pushed (x ∷ xs) y (suc i) z at = elim (item_pushed xs y i z at) [
+  | inl last ↦ inl (ap suc last.0, last.1)
+  | inr before ↦ inr before
+]

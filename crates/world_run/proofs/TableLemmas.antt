@@ -106,7 +106,7 @@ first_in one x before (e ∷ rest) key p unknown = elim (decide one x e key p) [
 ]
 
 -- what is known first is known
-known_first : (x : Expanded) (history : List Event) (key : List Value) (p : ℕ) (w : Value) → IsFirstKnown x history key p w → Knows x history key p w
+pub known_first : (x : Expanded) (history : List Event) (key : List Value) (p : ℕ) (w : Value) → IsFirstKnown x history key p w → Knows x history key p w
 known_first x history key p w first =
     let k = first.knows in
     record {
@@ -125,7 +125,7 @@ first_known one x history key p v unique knows = elim (first_in one x [] history
 ]
 
 -- a desk's history in the run
-history_run : (x : Expanded) (desks : List DeskState) (run : List Event) (role : ℕ) (d : DeskState) → HasHistories x desks run → slice_get desks role ≡ Some d → history_of x role run ≡ acts_of d.store
+pub history_run : (x : Expanded) (desks : List DeskState) (run : List Event) (role : ℕ) (d : DeskState) → HasHistories x desks run → slice_get desks role ≡ Some d → history_of x role run ≡ acts_of d.store
 history_run x desks run role d has at = has role ∙ ap events_of (history_is desks role d at)
 
 -- what a store does not know, its role's history in the run does not

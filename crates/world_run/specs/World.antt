@@ -11,9 +11,11 @@ use Rattle.stamped_history.specs.declared.entry.Entry.{Entry}
 use Rattle.stamped_history.specs.Entries.{events_of}
 use Rattle.stamped_history.specs.Explained.{history_at}
 
--- the desks of all roles, in order of the roles
+-- the desks of all roles, in order of the roles; how many entries each store had when the threads
+-- that played were joined, or 0 for each if none have
 pub record WorldState : Type 0 where
   pub desks : List DeskState
+  pub joined : List ℕ
 
 -- the stamped histories of their stores
 abbrev pub histories_of : List DeskState → List (List Entry)

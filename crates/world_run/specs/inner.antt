@@ -8,3 +8,6 @@ pub mod Opened
 pub mod Undelivered
 pub mod Ending
 pub mod Work
+pub mod Locks
+pub mod Released
+pub mod Workers

@@ -9,7 +9,7 @@ ghost use Rattle.world_run.specs.inner.InProgress.{AreSound, AreWhole, Extend};
 use super::emissions::undelivered_envelope;
 use super::laws::kept_desks_merge;
 use super::world::DeskList;
-use adapter::{Desk, accept, is_orderly};
+use adapter::{Desk, deliver, is_orderly};
 use agent_scripts::Job;
 use list_base::NoMemory;
 use reorder_net::Inbox;
@@ -89,6 +89,6 @@ fn post(desks: &mut DeskList, job: &Job, role: usize, index: u32) -> Result<(), 
     let Some(envelope) = undelivered_envelope(desks, job, role, index) else {
         return Ok(());
     };
-    accept(desks.at_mut(envelope.to as usize), job, envelope)?;
+    deliver(desks.at_mut(envelope.to as usize), job, envelope)?;
     Ok(())
 }

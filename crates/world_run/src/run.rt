@@ -1,4 +1,5 @@
-ghost use Rattle.std.specs.Prelude.{◌≡◌, IfOk, OnOk};
+ghost use Rattle.std.specs.Prelude.{◌≡◌, replicate, IfOk, OnOk};
+ghost use Rattle.bspl_types.specs.Limits.{role_limit};
 ghost use Rattle.enactment_model.specs.Safety.{SafeProtocol};
 ghost use Rattle.stamped_history.specs.Explained.{AreExplained};
 ghost use Rattle.world_run.specs.Course.{generator_of};
@@ -12,6 +13,7 @@ use super::opened_desks::open_desks;
 use super::rounds::play;
 use super::world::World;
 use agent_scripts::Job;
+use bspl_types::ROLE_LIMIT;
 use list_base::NoMemory;
 use rand_core::SeedableRng;
 use rand_pcg::Pcg32;
@@ -22,9 +24,13 @@ pub fn run_one(alloc: Global, job: &Job) -> Result<World, NoMemory>
     requires safe { SafeProtocol job.now.protocol }
     ensures finished { IfOk result (λ world. IsFinished job.now world.desks) }
     ensures course { IfOk result (λ world. HaveRunWhole job.now world.desks) }
+    ensures joined { IfOk result (λ world. world.joined ≡ replicate role_limit 0) }
 {
     let desks = open_desks(alloc, job)?;
-    let mut world = World { desks };
+    let mut world = World {
+        desks,
+        joined: [0; ROLE_LIMIT],
+    };
     settle(alloc, job, &mut world)?;
     Ok(world)
 }
@@ -38,6 +44,7 @@ pub fn settle(alloc: Global, job: &Job, world: &mut World) -> Result<(), NoMemor
     requires explained { AreExplained job.now.protocol (histories_of world.old.desks) }
     ensures ok { OnOk result (Settles job.now world.old.desks world.new.desks) }
     ensures continues { Continues job.now world.old.desks world.new.desks }
+    ensures joined { world.new.joined ≡ world.old.joined }
 {
     // law: desks at which nothing is left to do are finished
     idle_desks_finish(job);

@@ -5,7 +5,7 @@ ghost use Rattle.world_run.specs.inner.InProgress.{Extend};
 ghost use Rattle.world_run.specs.inner.Steps.{IsAtPlay, IsStep, IsStepOr};
 
 use super::world::DeskList;
-use adapter::{accept, desk_emit, desk_take};
+use adapter::{deliver, desk_emit, desk_take};
 use agent_scripts::Job;
 use list_base::NoMemory;
 use rand_pcg::Pcg32;
@@ -54,6 +54,6 @@ fn emit(desks: &mut DeskList, job: &Job, role: usize, n: u64) -> Result<bool, No
     let Some(envelope) = desk_emit(desks.at_mut(role), job, n) else {
         return Ok(false);
     };
-    accept(desks.at_mut(envelope.to as usize), job, envelope)?;
+    deliver(desks.at_mut(envelope.to as usize), job, envelope)?;
     Ok(true)
 }

@@ -14,31 +14,31 @@ at_mut-requires c =
     let entry = item_there (history_at (histories_of c.args.desks.now) c.args.role) c.args.index c.requires.index in
     (c.in-Some.ensures entry.0 entry.1).within
 
-pub accept-requires-clause-kept : goal.accept-requires-clause-kept
-accept-requires-clause-kept c =
+pub deliver-requires-clause-kept : goal.deliver-requires-clause-kept
+deliver-requires-clause-kept c =
     let is : IsKept c.args.job.now c.in-Some.envelope.to c.at_mut.result.now = c.requires.sound.kept.each c.in-Some.envelope.to c.at_mut.result.now c.at_mut.ensures.item in
     subst (λ r. IsKept c.args.job.now r c.at_mut.result.now) (sym is.role_is) is
 
-pub accept-requires-clause-own : goal.accept-requires-clause-own
-accept-requires-clause-own c = λ some.
+pub deliver-requires-clause-own : goal.deliver-requires-clause-own
+deliver-requires-clause-own c = λ some.
     let is : IsKept c.args.job.now c.in-Some.envelope.to c.at_mut.result.now = c.requires.sound.kept.each c.in-Some.envelope.to c.at_mut.result.now c.at_mut.ensures.item in
     let entry = item_there (history_at (histories_of c.args.desks.now) c.args.role) c.args.index c.requires.index in
     subst (λ r. IsFor c.args.job.now r c.in-Some.envelope) (sym is.role_is) (c.in-Some.ensures entry.0 entry.1).is_for
 
-pub returns-in_err-accept-clause-posted : goal.returns-in_err-accept-clause-posted
-returns-in_err-accept-clause-posted c =
-    posted_failed c.args.job.now c.args.desks.now c.in-Some.envelope c.at_mut.result.now c.accept.new.desk c.requires.sound c.at_mut.ensures.item c.in_err-accept.ensures.err
+pub returns-in_err-deliver-clause-posted : goal.returns-in_err-deliver-clause-posted
+returns-in_err-deliver-clause-posted c =
+    posted_failed c.args.job.now c.args.desks.now c.in-Some.envelope c.at_mut.result.now c.deliver.new.desk c.requires.sound c.at_mut.ensures.item c.in_err-deliver.ensures.err
 
 pub returns-clause-posted : goal.returns-clause-posted
 returns-clause-posted c =
     let is : IsKept c.args.job.now c.in-Some.envelope.to c.at_mut.result.now = c.requires.sound.kept.each c.in-Some.envelope.to c.at_mut.result.now c.at_mut.ensures.item in
     let entry = item_there (history_at (histories_of c.args.desks.now) c.args.role) c.args.index c.requires.index in
-    posted_one c.args.job.now c.args.desks.now c.in-Some.envelope c.at_mut.result.now c.accept.new.desk c.requires.sound c.at_mut.ensures.item
-    (subst (λ r. IsKept c.args.job.now r c.accept.new.desk) is.role_is c.accept.ensures.kept) c.in_ok-accept.ensures.ok.store (c.in-Some.ensures entry.0 entry.1).sent c.in_ok-accept.ensures.ok.envelopes
+    posted_one c.args.job.now c.args.desks.now c.in-Some.envelope c.at_mut.result.now c.deliver.new.desk c.requires.sound c.at_mut.ensures.item
+    (subst (λ r. IsKept c.args.job.now r c.deliver.new.desk) is.role_is c.deliver.ensures.kept) c.in_ok-deliver.ensures.ok.store (c.in-Some.ensures entry.0 entry.1).sent c.in_ok-deliver.ensures.ok.envelopes
 
 pub returns-clause-arrive : goal.returns-clause-arrive
 returns-clause-arrive c = λ entry at.
-    undelivered_arrives c.args.job.now c.args.desks.now entry c.in-Some.envelope c.at_mut.result.now c.accept.new.desk (c.in-Some.ensures entry at) c.at_mut.ensures.item c.in_ok-accept.ensures.ok.envelopes
+    undelivered_arrives c.args.job.now c.args.desks.now entry c.in-Some.envelope c.at_mut.result.now c.deliver.new.desk (c.in-Some.ensures entry at) c.at_mut.ensures.item c.in_ok-deliver.ensures.ok.envelopes
 
 pub returns-in_default-clause-arrive : goal.returns-in_default-clause-arrive
 returns-in_default-clause-arrive c = λ entry at. (c.in_default.ensures entry at).arrives
@@ -56,5 +56,5 @@ returns-clause-step c =
       at = entry.1;
       envelope = Some c.in-Some.envelope;
       undelivered = (c.in-Some.ensures entry.0 entry.1).undelivered;
-      posted = record { receiver = c.at_mut.result.now; at = c.at_mut.ensures.item; after = c.accept.new.desk; accepted = c.in_ok-accept.ensures.ok; desks = refl };
+      posted = record { receiver = c.at_mut.result.now; at = c.at_mut.ensures.item; after = c.deliver.new.desk; accepted = c.in_ok-deliver.ensures.ok; desks = refl };
     }

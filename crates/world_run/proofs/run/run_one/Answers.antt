@@ -1,10 +1,11 @@
 -- New desks are kept and have no receipts, and settled desks are those of one protocol.
+use Rattle.std.proofs.Common.{refl}
 use Rattle.world_run.proofs.OpenLemmas.{opened_new, opened_sound}
 use Rattle.world_run.proofs.WorldLemmas.{of_one}
 use Rattle.world_run.proofs.run.run_one.Goals as goal
 
 pub invariant_of-world : goal.invariant_of-world
-invariant_of-world c = of_one c.args.job.now c.in_ok-desks.desks (opened_sound c.args.job.now c.in_ok-desks.desks c.in_ok-desks.ensures).kept
+invariant_of-world c = (of_one c.args.job.now c.in_ok-desks.desks (opened_sound c.args.job.now c.in_ok-desks.desks c.in_ok-desks.ensures).kept, refl)
 
 pub settle-requires-clause-kept : goal.settle-requires-clause-kept
 settle-requires-clause-kept c = (opened_sound c.args.job.now c.in_ok-desks.desks c.in_ok-desks.ensures).kept

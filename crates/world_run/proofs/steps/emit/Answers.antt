@@ -40,8 +40,8 @@ returns-in_default c =
       };
     }
 
-pub accept-requires-clause-kept : goal.accept-requires-clause-kept
-accept-requires-clause-kept c =
+pub deliver-requires-clause-kept : goal.deliver-requires-clause-kept
+deliver-requires-clause-kept c =
     let job : Job = c.args.job.now in
     let desks : List DeskState = c.args.desks.now in
     let role : ℕ = c.args.role in
@@ -54,8 +54,8 @@ accept-requires-clause-kept c =
     let is : IsKept job e.to target = done.sound.kept.each e.to target c.at_mut-2.ensures.item in
     subst (λ r. IsKept job r target) (sym is.role_is) is
 
-pub accept-requires-clause-own : goal.accept-requires-clause-own
-accept-requires-clause-own c = λ some.
+pub deliver-requires-clause-own : goal.deliver-requires-clause-own
+deliver-requires-clause-own c = λ some.
     let job : Job = c.args.job.now in
     let desks : List DeskState = c.args.desks.now in
     let role : ℕ = c.args.role in
@@ -68,8 +68,8 @@ accept-requires-clause-own c = λ some.
     let is : IsKept job e.to target = done.sound.kept.each e.to target c.at_mut-2.ensures.item in
     subst (λ r. IsFor job r e) (sym is.role_is) (c.in-Some.ensures.posted some)
 
-pub returns-in_err-accept : goal.returns-in_err-accept
-returns-in_err-accept c =
+pub returns-in_err-deliver : goal.returns-in_err-deliver
+returns-in_err-deliver c =
     let job : Job = c.args.job.now in
     let desks : List DeskState = c.args.desks.now in
     let role : ℕ = c.args.role in
@@ -81,7 +81,7 @@ returns-in_err-accept c =
     let target : DeskState = c.at_mut-2.result.now in
     let is : IsKept job e.to target = done.sound.kept.each e.to target c.at_mut-2.ensures.item in
     record {
-      extend = put_failed job desks (slice_set desks role new) c.args.n e target c.accept.new.desk done c.at_mut-2.ensures.item c.in_err-accept.ensures.err;
+      extend = put_failed job desks (slice_set desks role new) c.args.n e target c.deliver.new.desk done c.at_mut-2.ensures.item c.in_err-deliver.ensures.err;
       made = search rules;
     }
 
@@ -97,8 +97,8 @@ returns c =
     let done : Emitted job desks c.args.n e (slice_set desks role new) = emitted c.extended_stay_explained.ensures.emission job desks role c.args.n old new e c.requires.at_play.all.sound c.requires.at_play.all.whole c.requires.number.some c.requires.number.within c.at_mut.ensures.item kept c.in-Some.ensures.plan c.in-Some.ensures.changed in
     let target : DeskState = c.at_mut-2.result.now in
     let is : IsKept job e.to target = done.sound.kept.each e.to target c.at_mut-2.ensures.item in
-    let kept_after : IsKept job e.to c.accept.new.desk = subst (λ r. IsKept job r c.accept.new.desk) is.role_is c.accept.ensures.kept in
-    let both = put_done job desks (slice_set desks role new) c.args.n e target c.accept.new.desk done c.at_mut-2.ensures.item kept_after c.in_ok-accept.ensures.ok.store c.in_ok-accept.ensures.ok.envelopes in
+    let kept_after : IsKept job e.to c.deliver.new.desk = subst (λ r. IsKept job r c.deliver.new.desk) is.role_is c.deliver.ensures.kept in
+    let both = put_done job desks (slice_set desks role new) c.args.n e target c.deliver.new.desk done c.at_mut-2.ensures.item kept_after c.in_ok-deliver.ensures.ok.store c.in_ok-deliver.ensures.ok.envelopes in
     record {
       extend = both.0;
       made = record {
@@ -114,8 +114,8 @@ returns c =
           posted = record {
             receiver = c.at_mut-2.result.now;
             at = c.at_mut-2.ensures.item;
-            after = c.accept.new.desk;
-            accepted = c.in_ok-accept.ensures.ok;
+            after = c.deliver.new.desk;
+            accepted = c.in_ok-deliver.ensures.ok;
             desks = refl;
           };
         };
