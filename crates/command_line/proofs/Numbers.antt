@@ -1,4 +1,4 @@
--- What is read of a number, and which numbers of conflicts are read.
+-- What is read of a number, and which numbers of conflicts and of threads are read.
 use Rattle.std.proofs.Common.{◌≡◌, ◌<◌, ℕ, Bool, List, [], ◌∷◌, Err, sym, ◌∙◌, arith}
 use Rattle.list_base.specs.Numeral.{numeral}
 use Rattle.list_base.proofs.Numerals.{same_from_numeral}
@@ -8,6 +8,7 @@ use Rattle.text_lines.specs.declared.decimal.DecimalError.TheVariants.{Form, Too
 use Rattle.command_line.specs.Budget.{IsBudget}
 use Rattle.command_line.specs.Line.{IsChosen}
 use Rattle.command_line.specs.Number.{IsNumberIn}
+use Rattle.command_line.specs.ThreadCount.{IsThreadCount}
 
 -- a text that is not read is no number in the range
 pub not_read : (least most : ℕ) (text : List ℕ) (e : DecimalError) → IsReadUpTo most text (Err e) → (n : ℕ) → ¬ IsNumberIn least most text n
@@ -30,3 +31,9 @@ pub chosen_budget : (belongs : Bool) (values : List (List ℕ)) (n : ℕ) → Is
 chosen_budget belongs [] n is = record { least = omega arith; most = omega arith }
 chosen_budget belongs (value ∷ []) n chosen = record { least = chosen.0.low; most = chosen.0.high }
 chosen_budget belongs (value ∷ other ∷ values) n chosen = absurd chosen
+
+-- a number of threads that is chosen may be given
+pub chosen_threads : (belongs : Bool) (values : List (List ℕ)) (n : ℕ) → IsChosen belongs 0 8 1 values n → IsThreadCount n
+chosen_threads belongs [] n is = omega arith
+chosen_threads belongs (value ∷ []) n chosen = chosen.0.high
+chosen_threads belongs (value ∷ other ∷ values) n chosen = absurd chosen

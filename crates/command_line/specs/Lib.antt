@@ -5,5 +5,6 @@ pub mod Known
 pub mod Line
 pub mod Number
 pub mod Budget
+pub mod ThreadCount
 pub mod Argument
 pub mod ParsedArgs

@@ -5,6 +5,7 @@ ghost use Rattle.command_line.specs.Line.{IsCommandLine};
 use super::budget::Budget;
 use super::clap_matches::{are_known, raw_args_of};
 use super::command::Command;
+use super::thread_count::ThreadCount;
 use super::validation::line_of;
 use bspl_types::NoMemory;
 use std::alloc::Global;
@@ -25,7 +26,7 @@ pub struct CommandLine<'a> {
     pub subject: Subject<'a>,
     pub brief: bool,
     pub conflicts: Budget,
-    pub threads: u32,
+    pub threads: ThreadCount,
 }
 
 /// The command line that the arguments are, if they are one.

@@ -10,6 +10,7 @@ use super::command::command_of;
 use super::line::{CommandLine, Subject};
 use super::number::number_in;
 use super::raw_args::RawArgs;
+use super::thread_count::ThreadCount;
 use bspl_types::is_name;
 
 /// The numbers that an option takes, and the one that it has if it is left out.
@@ -88,6 +89,6 @@ pub fn line_of(given: RawArgs<'_>) -> Option<CommandLine<'_>>
         subject,
         brief: given.brief,
         conflicts: Budget::of(conflicts),
-        threads,
+        threads: ThreadCount::of(threads),
     })
 }

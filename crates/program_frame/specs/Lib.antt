@@ -1,5 +1,7 @@
--- What a call of a program promises, and how it ends; what private functions cite is last.
+-- What a call of a program promises, and how it ends; then what each half of a call says.
 pub mod Call
 pub mod Program
 pub mod Ending
-pub mod inner
+pub mod Reply
+pub mod Prepared
+pub mod Laws

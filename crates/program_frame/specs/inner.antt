@@ -1,2 +1,0 @@
--- What private functions alone cite.
-pub mod Reply

@@ -1,0 +1,50 @@
+ghost use Rattle.std.specs.Prelude.{map, string_bytes};
+ghost use Rattle.program_frame.specs.Prepared.{AreReadsCounted, IsPrepared};
+
+use super::ending::Ending;
+use super::program::Program;
+use super::reply::Reply;
+use bspl_io::{ReadRefusal, Source, read_all};
+use list_base::Bytes;
+use std::alloc::Global;
+
+/// What a call knows before it writes anything.
+#[derive(Drop)]
+pub enum Prepared<X, S> {
+    /// The reply: it needs no input, or the input is too long.
+    Replied(Reply<S>),
+    /// What the arguments request, and the whole input.
+    Read { request: X, input: Bytes },
+    /// The call ends here.
+    Ended(Ending<S>),
+}
+
+/// Reads what the arguments request, and the input if they ask for it.
+pub fn prepare<'a, P: Program<'a>, R: Source>(
+    alloc: Global,
+    args: &'a [String],
+    input: &mut R,
+) -> Prepared<P, P::Status>
+    ensures known { IsPrepared (P.asks (map string_bytes args.now)) P.limit
+        (P.requests (map string_bytes args.now)) (P.answers (map string_bytes args.now))
+        (R.remaining input.old) (R.remaining input.new) result }
+    ensures faults { AreReadsCounted (R.faults input.old) (R.faults input.new) result }
+{
+    let Ok(request) = P::request(alloc, args) else {
+        return Prepared::Ended(Ending::NoMemory);
+    };
+    match request.unread(alloc) {
+        Ok(None) => {}
+        Ok(Some(reply)) => return Prepared::Replied(reply),
+        Err(_) => return Prepared::Ended(Ending::NoMemory),
+    }
+    match read_all(alloc, input, request.input_limit()) {
+        Ok(input) => Prepared::Read { request, input },
+        Err(ReadRefusal::TooLong) => match request.too_long(alloc) {
+            Ok(reply) => Prepared::Replied(reply),
+            Err(_) => Prepared::Ended(Ending::NoMemory),
+        },
+        Err(ReadRefusal::ReadFault) => Prepared::Ended(Ending::ReadFault),
+        Err(ReadRefusal::NoMemory) => Prepared::Ended(Ending::NoMemory),
+    }
+}
