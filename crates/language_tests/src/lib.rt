@@ -31,3 +31,5 @@ mod protocol_names_tests;
 mod protocols;
 #[cfg(test)]
 mod reference_graph_tests;
+#[cfg(test)]
+mod workload_tests;

@@ -6,3 +6,4 @@ pub mod RowLemmas
 pub mod RoleCounts
 pub mod CountLemmas
 pub mod MessageLemmas
+pub mod TotalLemmas

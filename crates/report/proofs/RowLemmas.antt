@@ -28,7 +28,7 @@ enumerate_push {X} n (y ∷ ys) x =
     ap (λ (rest : List (ℕ × X)). (n, y) ∷ rest) (enumerate_push (n + 1) ys x) ∙ ap at same
 
 -- what is at an index of a list with one item more
-push_cases : {X : Type 0} (xs : List X) (x : X) (i : ℕ) (y : X) → slice_get (xs ++ x ∷ []) i ≡ Some y → (slice_get xs i ≡ Some y) ⊎ ((i ≡ length xs) × (y ≡ x))
+pub push_cases : {X : Type 0} (xs : List X) (x : X) (i : ℕ) (y : X) → slice_get (xs ++ x ∷ []) i ≡ Some y → (slice_get xs i ≡ Some y) ⊎ ((i ≡ length xs) × (y ≡ x))
 push_cases [] x zero y at = inr (refl, cc)
 push_cases [] x (suc i) y at = absurd (cc)
 push_cases (z ∷ xs) x zero y at = inl at

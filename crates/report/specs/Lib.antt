@@ -5,5 +5,6 @@ pub mod ReplayLines
 pub mod ReplayText
 pub mod VerdictText
 pub mod WorldText
+pub mod Summary
 pub mod Laws
 pub mod inner

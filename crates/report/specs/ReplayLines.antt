@@ -1,5 +1,5 @@
 -- The lines of the text that reports on a run: an illegal one, its conflict, and its keys.
-use Rattle.std.specs.Prelude.{ℕ, List, [], ◌∷◌, ◌++◌, codes, length, map, slice_index_or}
+use Rattle.std.specs.Prelude.{ℕ, List, [], ◌∷◌, ◌++◌, codes, length, map}
 use Rattle.std.specs.Fmt.{decimal}
 use Rattle.bspl_types.specs.declared.event.Event.{Event}
 use Rattle.bspl_types.specs.declared.expanded.Expanded.{Expanded}
@@ -11,7 +11,6 @@ use Rattle.enactment_model.specs.declared.bad_event.Why.{Why}
 use Rattle.enactment_model.specs.declared.bad_event.Why.TheVariants.{Missing, Bound, Other, Unsent}
 use Rattle.enactment_model.specs.declared.conflicts.Conflict.{Conflict}
 use Rattle.refutation_log.specs.LogText.{line_of}
-use Rattle.run_text.specs.RunText.{no_param}
 use Rattle.report.specs.declared.status.Status.{Status as KeyStatus}
 use Rattle.report.specs.declared.status.Status.TheVariants.{Loose, Incomplete, Complete}
 

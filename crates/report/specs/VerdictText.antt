@@ -39,22 +39,37 @@ abbrev pub undecided_line : List ℕ → Log → List ℕ
 undecided_line property log =
     line_of (property ∷ codes "undecided" ∷ decimal (length log.steps) ∷ [])
 
--- the answer on safety, with its evidence: a log, or always the run
+-- the line of the answer on safety
+abbrev pub safety_line : Expanded → Safety → List ℕ
+safety_line x (Safe log) = line_of (codes "safety" ∷ codes "safe" ∷ [])
+safety_line x (Unsafe run param first second) = unsafe_line x param first second
+safety_line x (Undecided log) = undecided_line (codes "safety") log
+
+-- its evidence: a log, or always the run
+abbrev pub safety_evidence : Expanded → Bool → Safety → List ℕ
+safety_evidence x brief (Safe log) = log_part kinds.Safety brief log
+safety_evidence x brief (Unsafe run param first second) = run_text x run
+safety_evidence x brief (Undecided log) = log_part kinds.Safety brief log
+
+-- the answer on safety, with its evidence
 abbrev pub safety_text : Expanded → Bool → Safety → List ℕ
-safety_text x brief (Safe log) =
-    line_of (codes "safety" ∷ codes "safe" ∷ []) ++ log_part kinds.Safety brief log
-safety_text x brief (Unsafe run param first second) =
-    unsafe_line x param first second ++ run_text x run
-safety_text x brief (Undecided log) =
-    undecided_line (codes "safety") log ++ log_part kinds.Safety brief log
+safety_text x brief safety = safety_line x safety ++ safety_evidence x brief safety
+
+-- the line of the answer on liveness
+abbrev pub liveness_line : Expanded → Liveness → List ℕ
+liveness_line x (liveness.Live log) = line_of (codes "liveness" ∷ codes "live" ∷ [])
+liveness_line x (liveness.NotLive run param) = not_live_line x param
+liveness_line x (liveness.Undecided log) = undecided_line (codes "liveness") log
+
+-- its evidence
+abbrev pub liveness_evidence : Expanded → Bool → Liveness → List ℕ
+liveness_evidence x brief (liveness.Live log) = log_part kinds.Liveness brief log
+liveness_evidence x brief (liveness.NotLive run param) = run_text x run
+liveness_evidence x brief (liveness.Undecided log) = log_part kinds.Liveness brief log
 
 -- the answer on liveness, with its evidence
 abbrev pub liveness_text : Expanded → Bool → Liveness → List ℕ
-liveness_text x brief (liveness.Live log) =
-    line_of (codes "liveness" ∷ codes "live" ∷ []) ++ log_part kinds.Liveness brief log
-liveness_text x brief (liveness.NotLive run param) = not_live_line x param ++ run_text x run
-liveness_text x brief (liveness.Undecided log) =
-    undecided_line (codes "liveness") log ++ log_part kinds.Liveness brief log
+liveness_text x brief liveness = liveness_line x liveness ++ liveness_evidence x brief liveness
 
 -- the protocol, and the answers on its safety and its liveness
 abbrev pub verdict_text : Expanded → Verdicts → Bool → List ℕ

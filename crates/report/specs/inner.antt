@@ -1,4 +1,5 @@
 -- What only private functions cite.
 pub mod KeyLines
 pub mod Counts
+pub mod Totals
 pub mod WorldRows

@@ -8,14 +8,18 @@ mod laws;
 mod replay;
 mod replay_lines;
 mod status;
+mod summary;
 mod verdict_lines;
 mod world;
 mod world_counts;
+mod world_known;
 mod world_messages;
 mod world_rows;
+mod world_totals;
 
 pub use laws::{replay_is_once, right_runs_fit};
 pub use replay::{Replay, replay_text};
 pub use status::Status;
+pub use summary::{generated_text, summary_text};
 pub use verdict_lines::verdict_text;
 pub use world::world_text;

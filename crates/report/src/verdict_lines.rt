@@ -1,13 +1,16 @@
 ghost use Rattle.std.specs.Prelude.{◌≡◌, ◌++◌, IfOk, OnOk};
+ghost use Rattle.bspl_types.specs.History.{IsRun};
 ghost use Rattle.refutation_log.specs.LogText.{LogInRange};
 ghost use Rattle.report.specs.VerdictText.{HasFittingRest, HasFittingRun, HaveFittingRuns};
-ghost use Rattle.report.specs.VerdictText.{liveness_text, log_part, not_live_line, safety_text};
-ghost use Rattle.report.specs.VerdictText.{undecided_line, unsafe_line, verdict_text};
+ghost use Rattle.report.specs.VerdictText.{liveness_line, liveness_text, log_part, not_live_line};
+ghost use Rattle.report.specs.VerdictText.{safety_line, safety_text, undecided_line, unsafe_line};
+ghost use Rattle.report.specs.VerdictText.{verdict_text};
+ghost use Rattle.run_text.specs.RunText.{run_text};
 ghost use Rattle.verdict.specs.Numbers.{HasNumbersInRange};
 ghost use Rattle.verdict.specs.Verdicts.{AreInRange, HasLivenessInRange};
 
 use super::fields::{param_name, push_count, push_field};
-use bspl_types::{Admitted, Expanded};
+use bspl_types::{Admitted, Event, Expanded};
 use list_base::{Bytes, NoMemory};
 use refutation_log::{Kind, Log, write_log};
 use run_text::write_run;
@@ -45,25 +48,11 @@ fn push_safety(
     requires numbers { HasNumbersInRange safety.now }
     ensures { OnOk result (text.new ≡ text.old ++ safety_text a.now brief safety.now) }
 {
+    push_safety_line(text, a.expanded(), safety)?;
     match safety {
-        Safety::Safe(log) => {
-            text.append(b"safety safe\n")?;
-            push_log(alloc, text, Kind::Safety, log, brief)
-        }
-        Safety::Unsafe {
-            run,
-            param,
-            first,
-            second,
-        } => {
-            push_unsafe(text, a.expanded(), *param, *first, *second)?;
-            let events = write_run(alloc, a, run.as_slice())?;
-            text.append(events.as_slice())
-        }
-        Safety::Undecided(log) => {
-            push_undecided(text, b"safety", log)?;
-            push_log(alloc, text, Kind::Safety, log, brief)
-        }
+        Safety::Safe(log) => push_log(alloc, text, Kind::Safety, log, brief),
+        Safety::Unsafe { run, .. } => push_run(alloc, text, a, run.as_slice()),
+        Safety::Undecided(log) => push_log(alloc, text, Kind::Safety, log, brief),
     }
 }
 
@@ -79,20 +68,46 @@ fn push_liveness(
     requires numbers { HasLivenessInRange liveness.now }
     ensures { OnOk result (text.new ≡ text.old ++ liveness_text a.now brief liveness.now) }
 {
+    push_liveness_line(text, a.expanded(), liveness)?;
     match liveness {
-        Liveness::Live(log) => {
-            text.append(b"liveness live\n")?;
-            push_log(alloc, text, Kind::Liveness, log, brief)
-        }
-        Liveness::NotLive { run, param } => {
-            push_not_live(text, a.expanded(), *param)?;
-            let events = write_run(alloc, a, run.as_slice())?;
-            text.append(events.as_slice())
-        }
-        Liveness::Undecided(log) => {
-            push_undecided(text, b"liveness", log)?;
-            push_log(alloc, text, Kind::Liveness, log, brief)
-        }
+        Liveness::Live(log) => push_log(alloc, text, Kind::Liveness, log, brief),
+        Liveness::NotLive { run, .. } => push_run(alloc, text, a, run.as_slice()),
+        Liveness::Undecided(log) => push_log(alloc, text, Kind::Liveness, log, brief),
+    }
+}
+
+/// Appends the line of the answer on safety.
+pub(crate) fn push_safety_line(
+    text: &mut Bytes,
+    x: &Expanded,
+    safety: &Safety,
+) -> Result<(), NoMemory>
+    ensures { OnOk result (text.new ≡ text.old ++ safety_line x.now safety.now) }
+{
+    match safety {
+        Safety::Safe(_) => text.append(b"safety safe\n"),
+        Safety::Unsafe {
+            param,
+            first,
+            second,
+            ..
+        } => { push_unsafe(text, x, *param, *first, *second) }
+        Safety::Undecided(log) => push_undecided(text, b"safety", log),
+    }
+}
+
+/// Appends the line of the answer on liveness.
+pub(crate) fn push_liveness_line(
+    text: &mut Bytes,
+    x: &Expanded,
+    liveness: &Liveness,
+) -> Result<(), NoMemory>
+    ensures { OnOk result (text.new ≡ text.old ++ liveness_line x.now liveness.now) }
+{
+    match liveness {
+        Liveness::Live(_) => text.append(b"liveness live\n"),
+        Liveness::NotLive { param, .. } => push_not_live(text, x, *param),
+        Liveness::Undecided(log) => push_undecided(text, b"liveness", log),
     }
 }
 
@@ -130,6 +145,15 @@ fn push_undecided(text: &mut Bytes, property: &[u8], log: &Log) -> Result<(), No
     push_field(text, b"undecided")?;
     push_count(text, log.steps.len())?;
     text.push(b'\n')
+}
+
+/// Appends the text of the run.
+fn push_run(alloc: Global, text: &mut Bytes, a: &Admitted, run: &[Event]) -> Result<(), NoMemory>
+    requires { IsRun a.now run.now }
+    ensures { OnOk result (text.new ≡ text.old ++ run_text a.now run.now) }
+{
+    let events = write_run(alloc, a, run)?;
+    text.append(events.as_slice())
 }
 
 /// Appends the text of the log, unless the text is brief.
