@@ -7,6 +7,7 @@ ghost use Rattle.program_frame.specs.declared.ending.Ending.TheVariants.{NoMemor
 ghost use Rattle.bspl_tool.specs.Call.{IsToolCall};
 ghost use Rattle.bspl_tool.specs.Headline.{TrueWhereSaid};
 
+use adapter::OpenGate;
 use bspl_io::{Sink, Source, StdSink, StdSource};
 use bspl_tool::bspl;
 use program_args::args_given;
@@ -14,18 +15,21 @@ use program_frame::Ending;
 use std::alloc::Global;
 use std::io::{self, Read, Write};
 use std::process::ExitCode;
+use std::sync::Wait;
+use std::thread::Threads;
 use tool_input::Status;
 
 fn main(rt: HostRuntime) -> ExitCode {
     let args = args_given(&rt);
-    let (ending, _, _) = answer(rt.alloc(), args, rt.reader(), io::writer(&rt));
+    let (ending, _, _) = answer(&rt, rt.alloc(), args, rt.reader(), io::writer(&rt));
     ExitCode::from(ending.number())
 }
 
 /// The call for the arguments over a reader and a writer, which come back as the source and the
-/// sink of the call, with their counts of faults. If the arguments could not be had, nothing is
-/// read or written.
-fn answer<R: Read + Drop, W: Write + Drop>(
+/// sink of the call, with their counts of faults. No gate holds a thread. If the arguments could
+/// not be had, nothing is read or written.
+fn answer<H: Threads + Wait + Sync, R: Read + Drop, W: Write + Drop>(
+    rt: &H,
     alloc: Global,
     args: io::Result<Vec<String>>,
     input: R,
@@ -58,7 +62,14 @@ fn answer<R: Read + Drop, W: Write + Drop>(
     let mut source = StdSource::new(input);
     let mut sink = StdSink::new(output);
     let ending = match args {
-        Ok(args) => bspl(alloc, args.as_slice(), &mut source, &mut sink),
+        Ok(args) => bspl(
+            rt,
+            alloc,
+            args.as_slice(),
+            &mut source,
+            &mut sink,
+            &OpenGate,
+        ),
         Err(_) => Ending::NoMemory,
     };
     (ending, source, sink)

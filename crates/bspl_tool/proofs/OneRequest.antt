@@ -1,13 +1,16 @@
 -- Arguments request one task on one protocol, or a command that is not supported.
-use Rattle.std.proofs.Common.{◌≡◌, ℕ, List, None, Some, refl, sym, ◌∙◌, Bor}
+use Rattle.std.proofs.Common.{◌≡◌, ℕ, ◌<◌, List, None, Some, refl, sym, ◌∙◌, subst, arith, Bor}
+use Rattle.std.specs.Prelude.{IsTrue}
+use Rattle.command_line.specs.declared.command.Command.{Command}
 use Rattle.command_line.specs.declared.line.CommandLine.{CommandLine}
 use Rattle.command_line.specs.declared.line.Subject.{Subject}
 use Rattle.command_line.specs.declared.line.Subject.TheVariants.{Protocol, Size}
-use Rattle.command_line.specs.Line.{IsSameLine, IsSameSubject, OneLine}
+use Rattle.command_line.specs.Command.{takes_threads}
+use Rattle.command_line.specs.Line.{IsCommandLine, IsSameLine, IsSameSubject, OneLine}
 use Rattle.bspl_tool.specs.declared.request.Request.{Request}
 use Rattle.bspl_tool.specs.declared.request.Request.TheVariants.{Do, Unsupported, Usage}
 use Rattle.bspl_tool.specs.declared.task.Task.{Task}
-use Rattle.bspl_tool.specs.Request.{IsAbout, IsRequest, Requests, RequestsInput, RequestsUnsupported, line_task}
+use Rattle.bspl_tool.specs.Request.{IsAbout, IsRequest, IsThreaded, Requests, RequestsInput, RequestsUnsupported, line_task}
 
 -- a command line is for one task
 same_task : (one again : CommandLine) → IsSameLine one again → line_task one ≡ line_task again
@@ -47,3 +50,11 @@ pub no_task_or_input : OneLine → (args : List (List ℕ)) (request : Request) 
 no_task_or_input line args Usage other none asks = none (asks.requested.line, asks.requested.is_line)
 no_task_or_input line args Unsupported other requests asks = task_or_unsupported line args asks.task asks.name asks.requested requests
 no_task_or_input line args (Do task name) other requests asks = other task name refl
+
+-- the one command line of arguments says whether these ask for threads
+pub threads_of_line : OneLine → (args : List (List ℕ)) (line : CommandLine) → IsCommandLine args line → IsThreaded args → IsTrue (takes_threads line.command) × (0 < line.threads)
+threads_of_line one_line args line is threaded =
+    let same = one_line args threaded.line line threaded.is_line is in
+    let number = same.threads in
+    let some = threaded.some in
+    (subst (λ (command : Command). IsTrue (takes_threads command)) same.command threaded.takes, omega (arith, number, some))

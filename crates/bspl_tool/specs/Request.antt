@@ -1,8 +1,9 @@
 -- What the arguments request.
-use Rattle.std.specs.Prelude.{◌≡◌, ℕ, List, Option, None, Some}
+use Rattle.std.specs.Prelude.{◌≡◌, ℕ, ◌<◌, List, Option, None, Some, IsTrue}
 use Rattle.command_line.specs.declared.line.CommandLine.{CommandLine}
 use Rattle.command_line.specs.declared.line.Subject.{Subject}
 use Rattle.command_line.specs.declared.line.Subject.TheVariants.{Protocol, Size}
+use Rattle.command_line.specs.Command.{takes_threads}
 use Rattle.command_line.specs.Line.{IsCommandLine}
 use Rattle.bspl_tool.specs.declared.request.Request.{Request}
 use Rattle.bspl_tool.specs.declared.request.Request.TheVariants as request
@@ -40,6 +41,14 @@ pub record RequestsUnsupported (args : List (List ℕ)) : Type 0 where
   pub line : CommandLine
   pub is_line : IsCommandLine args line
   pub unsupported : line_task line ≡ None
+
+-- the arguments are a command line whose agents play in threads of their own: each command line has
+-- a number of threads, which counts only for a command that takes one
+pub record IsThreaded (args : List (List ℕ)) : Type 0 where
+  pub line : CommandLine
+  pub is_line : IsCommandLine args line
+  pub takes : IsTrue (takes_threads line.command)
+  pub some : 0 < line.threads
 
 -- what the arguments request; if they are no command line, the usage line
 abbrev pub IsRequest : List (List ℕ) → Request → Type 0

@@ -20,8 +20,7 @@ rules_of Check = check_rules
 rules_of Replay = replay_rules
 rules_of (Run brief conflicts threads) = run_rules brief conflicts threads
 
--- the task of a command with its options, if the command is supported; whether threads play is a
--- matter of the task, since a command line has a number of them for each command
+-- the task of a command with its options, if the command is supported
 abbrev pub task_of : Command → Bool → ℕ → ℕ → Option Task
 task_of command.Verify brief conflicts threads = Some (Verify brief conflicts)
 task_of command.Check brief conflicts threads = Some Check

@@ -2,25 +2,29 @@ ghost use Rattle.std.specs.Prelude.{◌≤◌, IfErr, IfOk, length};
 ghost use Rattle.bspl_types.specs.Limits.{input_limit};
 ghost use Rattle.bspl_tool.specs.Output.{AnswersInput};
 ghost use Rattle.bspl_tool.specs.Refusals.{RefusesInput};
-ghost use Rattle.bspl_tool.specs.inner.Answer.{Completes, IsPlayable, IsRightAnswer};
+ghost use Rattle.bspl_tool.specs.inner.Answer.{IsPlayable, IsRightAnswer};
 ghost use Rattle.bspl_tool.specs.inner.Error.{RejectsFor};
 
 use super::answer_error::AnswerError;
-use super::run_command::played_text;
 use super::task::Task;
 use agent_scripts::Job;
-use bspl_types::NoMemory;
+use command_line::ThreadCount;
 use program_frame::Reply;
 use std::alloc::Global;
 use tool_input::{Status, declared_protocol, needed_part};
 
-/// What is answered. A call without threads plays its job on one thread.
+/// What is answered, as far as one thread alone answers it.
 #[derive(Drop)]
 pub enum Answer {
     /// The whole reply.
     Whole(Reply<Status>),
-    /// The reply so far. The agents of the job play, and what they play comes after its text.
-    Play { job: Job, so_far: Reply<Status> },
+    /// The reply so far. The agents of the job are to play, each role in so many threads, and what
+    /// they play comes after its text.
+    Play {
+        job: Job,
+        threads: ThreadCount,
+        so_far: Reply<Status>,
+    },
 }
 
 /// Answers the task on an input that was read.
@@ -39,20 +43,4 @@ pub fn answer_input(
     let text = task.judged_text(input);
     let protocol = declared_protocol(alloc, name, text)?;
     task.answer(alloc, protocol, part)
-}
-
-/// The reply that the answer comes to. If agents are to play, they do so on this thread.
-pub fn finish(alloc: Global, answer: Answer) -> Result<Reply<Status>, NoMemory>
-    requires { IsPlayable answer }
-    ensures { IfOk result (λ reply. Completes answer reply.text reply.status) }
-{
-    match answer {
-        Answer::Whole(reply) => Ok(reply),
-        Answer::Play { job, so_far } => {
-            let played = played_text(alloc, &job)?;
-            let Reply { status, mut text } = so_far;
-            text.append(played.as_slice())?;
-            Ok(Reply { status, text })
-        }
-    }
 }

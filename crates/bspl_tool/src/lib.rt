@@ -8,6 +8,7 @@ mod check_command;
 mod claim;
 mod expand_command;
 mod laws;
+mod play;
 mod replay_command;
 mod request;
 mod run_command;
@@ -15,7 +16,7 @@ mod task;
 mod texts;
 mod verify_command;
 
-pub use call::bspl;
+pub use call::{bspl, bspl_alone};
 pub use check_command::log_rejection;
 pub use claim::Claim;
 pub use laws::answers_are_distinct;

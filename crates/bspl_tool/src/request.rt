@@ -1,9 +1,13 @@
-ghost use Rattle.std.specs.Prelude.{List, ℕ};
+ghost use Rattle.std.specs.Prelude.{◌≤◌, ◌↔◌, IfOk, IsTrue, List, ℕ, length, map, string_bytes};
+ghost use Rattle.bspl_types.specs.Limits.{input_limit};
 ghost use Rattle.command_line.specs.Line.{IsCommandLine};
-ghost use Rattle.bspl_tool.specs.Request.{IsRequest};
+ghost use Rattle.bspl_tool.specs.Output.{Output};
+ghost use Rattle.bspl_tool.specs.Request.{IsRequest, IsThreaded, RequestsInput};
+ghost use Rattle.bspl_tool.specs.inner.Answer.{IsPlayable, IsRightAnswer};
 
-use super::answer::{answer_input, finish};
+use super::answer::{Answer, answer_input};
 use super::answer_error::AnswerError;
+use super::play::finish;
 use super::task::{Task, task_of};
 use super::texts::usage;
 use bspl_types::NoMemory;
@@ -64,22 +68,50 @@ impl<'a> Program<'a> for Request<'a> {
     }
 
     fn read(&self, alloc: Global, input: &[u8]) -> Result<Reply<Status>, NoMemory> {
-        // law: arguments are one command line at most
-        one_line();
-        let Request::Do { task, name } = self else {
-            // never: only a task asks for the input
-            return usage(alloc);
-        };
-        match answer_input(alloc, *task, name, input) {
-            Ok(answer) => finish(alloc, answer),
-            Err(AnswerError::Rejected(rejection)) => refused(alloc, &rejection),
-            Err(AnswerError::NoMemory) => Err(NoMemory),
-        }
+        finish(alloc, self.answer(alloc, input)?)
     }
 
     fn too_long(&self, alloc: Global) -> Result<Reply<Status>, NoMemory> {
         let rejection = input_rejection(InputRefusal::TooLong { limit: INPUT_LIMIT });
         refused(alloc, &rejection)
+    }
+}
+
+impl Request<'_> {
+    /// What is answered on the whole input.
+    pub fn answer(&self, alloc: Global, input: &[u8]) -> Result<Answer, NoMemory>
+        requires { length input.now ≤ input_limit }
+        ensures right { (args : List (List ℕ)) → IsRequest args self.now → RequestsInput args →
+            IfOk result (IsRightAnswer (Output args input.now)) }
+        ensures safe { IfOk result IsPlayable }
+    {
+        // law: arguments are one command line at most
+        one_line();
+        let Request::Do { task, name } = self else {
+            // never: only a task asks for the input
+            return Ok(Answer::Whole(usage(alloc)?));
+        };
+        match answer_input(alloc, *task, name, input) {
+            Ok(answer) => Ok(answer),
+            Err(AnswerError::Rejected(rejection)) => {
+                Ok(Answer::Whole(refused(alloc, &rejection)?))
+            }
+            Err(AnswerError::NoMemory) => Err(NoMemory),
+        }
+    }
+}
+
+/// Whether the arguments ask for threads.
+pub fn is_threaded(alloc: Global, args: &[String]) -> Result<bool, NoMemory>
+    ensures { IfOk result (λ threaded.
+        IsTrue threaded ↔ IsThreaded (map string_bytes args.now)) }
+{
+    // law: arguments are one command line at most
+    one_line();
+    match command_line(alloc, args) {
+        Ok(Some(line)) => Ok(line.command.row().threads && line.threads.threads() > 0),
+        Ok(None) => Ok(false),
+        Err(_) => Err(NoMemory),
     }
 }
 

@@ -1,6 +1,5 @@
 ghost use Rattle.std.specs.Prelude.{◌≡◌, IfErr, IfOk};
-ghost use Rattle.enactment_model.specs.Safety.{SafeProtocol};
-ghost use Rattle.bspl_tool.specs.RunAnswer.{IsPlayedText, IsRunAnswer, IsRunRefused, script_rejection};
+ghost use Rattle.bspl_tool.specs.RunAnswer.{IsRunAnswer, IsRunRefused, script_rejection};
 ghost use Rattle.bspl_tool.specs.inner.Answer.{IsPlayable, IsRightAnswer};
 ghost use Rattle.bspl_tool.specs.inner.Error.{RejectsFor};
 ghost use Rattle.bspl_tool.specs.inner.Job.{IsGivenJob};
@@ -9,30 +8,28 @@ use super::answer::Answer;
 use super::answer_error::{AnswerError, error_for};
 use super::verify_command::{VerdictReply, reply_with_verdicts};
 use agent_scripts::{Job, ScriptRefusal};
-use bspl_types::{Admitted, Bytes, NoMemory};
-use command_line::Budget;
-use report::world_text;
+use bspl_types::Admitted;
+use command_line::{Budget, ThreadCount};
 use script_text::read_scripts;
 use std::alloc::Global;
-use tool_input::{Code, Field, InputRefusal, Rejection};
+use tool_input::{Code, Field, Rejection};
 use verdict::Safety;
-use world_run::run_one;
 
 /// Answers `run` on the text of agents. They are to play if their protocol is found safe.
 pub fn run(
     alloc: Global,
     brief: bool,
     conflicts: Budget,
-    threads: u32,
+    threads: ThreadCount,
     protocol: Admitted,
     part: &[u8],
 ) -> Result<Answer, AnswerError>
     ensures ok { IfOk result
         (IsRightAnswer (IsRunAnswer brief conflicts threads protocol part.now)) }
     ensures safe { IfOk result IsPlayable }
-    ensures refused { IfErr result (RejectsFor (IsRunRefused threads protocol part.now)) }
+    ensures refused { IfErr result (RejectsFor (IsRunRefused protocol part.now)) }
 {
-    let job = job_of(alloc, threads, protocol, part)?;
+    let job = job_of(alloc, protocol, part)?;
     let VerdictReply { verdicts, reply } = reply_with_verdicts(
         alloc,
         brief,
@@ -40,33 +37,23 @@ pub fn run(
         job.admitted(),
     )?;
     if let Safety::Safe(_) = verdicts.safety {
-        Ok(Answer::Play { job, so_far: reply })
+        Ok(Answer::Play {
+            job,
+            threads,
+            so_far: reply,
+        })
     } else {
         Ok(Answer::Whole(reply))
     }
 }
 
-/// The job that the text gives the agents of the protocol. Threads are refused before the protocol
-/// is verified, whatever its verdicts would be.
-fn job_of(alloc: Global, threads: u32, protocol: Admitted, part: &[u8]) -> Result<Job, AnswerError>
-    ensures no_threads { IfOk result (λ _. threads ≡ 0) }
+/// The job that the text gives the agents of the protocol.
+fn job_of(alloc: Global, protocol: Admitted, part: &[u8]) -> Result<Job, AnswerError>
     ensures ok { IfOk result (IsGivenJob protocol part.now) }
-    ensures refused { IfErr result (RejectsFor (IsRunRefused threads protocol part.now)) }
+    ensures refused { IfErr result (RejectsFor (IsRunRefused protocol part.now)) }
 {
     let agents = read_scripts(alloc, part, &protocol)?;
-    if threads > 0 {
-        return Err(AnswerError::from(InputRefusal::Unsupported));
-    }
     Ok(Job::of(protocol, agents))
-}
-
-/// The text of a world that the agents of the job play on this thread.
-pub fn played_text(alloc: Global, job: &Job) -> Result<Bytes, NoMemory>
-    requires { SafeProtocol job.now.protocol }
-    ensures { IfOk result (IsPlayedText job.now) }
-{
-    let world = run_one(alloc, job)?;
-    world_text(alloc, job.admitted(), job.script(), &world)
 }
 
 /// The rejection of the agents' text, unless memory ran out.

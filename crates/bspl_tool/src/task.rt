@@ -12,7 +12,7 @@ use super::replay_command::replay;
 use super::run_command::run;
 use super::verify_command::verify;
 use bspl_types::Admitted;
-use command_line::{Budget, Command};
+use command_line::{Budget, Command, ThreadCount};
 use std::alloc::Global;
 use tool_input::{Part, protocol_text};
 
@@ -30,17 +30,22 @@ pub enum Task {
     Check,
     /// A run of it is replayed.
     Replay,
-    /// It is verified likewise, and if it is safe, agents play it by their scripts. With 0 threads
-    /// all roles share one; other numbers are refused.
+    /// It is verified likewise, and if it is safe, agents play it by their scripts, each role in so
+    /// many threads.
     Run {
         brief: bool,
         conflicts: Budget,
-        threads: u32,
+        threads: ThreadCount,
     },
 }
 
 /// The task of a command with its options, if the command is supported.
-pub fn task_of(command: Command, brief: bool, conflicts: Budget, threads: u32) -> Option<Task>
+pub fn task_of(
+    command: Command,
+    brief: bool,
+    conflicts: Budget,
+    threads: ThreadCount,
+) -> Option<Task>
     ensures { result ≡ task_of command brief conflicts threads }
 {
     match command {

@@ -1,10 +1,13 @@
 use super::args::args_of;
+use adapter::OpenGate;
 use bspl_io::{MemSink, MemSource};
 use bspl_tool::bspl;
 use bspl_types::{Bytes, NoMemory, NumberList};
 use program_frame::Ending;
 use std::alloc::Global;
+use std::sync::Wait;
 use std::test::Fail;
+use std::thread::Threads;
 use tool_input::Status;
 
 const PING: &[u8] = b"Ping { roles A, B parameters out ID key A -> B: ping[out ID] }";
@@ -78,28 +81,33 @@ fn sink(alloc: Global, row: &Row) -> Result<MemSink, NoMemory> {
 }
 
 /// Whether a call with the arguments and the source ends as the row says, and writes its output.
-fn is_ending(
+fn is_ending<H: Threads + Wait + Sync>(
+    rt: &H,
     alloc: Global,
     args: &[String],
     source: &mut MemSource,
     row: &Row,
 ) -> Result<bool, NoMemory> {
     let mut sink = sink(alloc, row)?;
-    let ending = bspl(alloc, args, source, &mut sink);
+    let ending = bspl(rt, alloc, args, source, &mut sink, &OpenGate);
     Ok(ending == row.ending && sink.written() == row.output)
 }
 
 /// Whether a call ends as the row says, and writes its output.
-fn is_answered(alloc: Global, row: &Row) -> Result<bool, NoMemory> {
+fn is_answered<H: Threads + Wait + Sync>(
+    rt: &H,
+    alloc: Global,
+    row: &Row,
+) -> Result<bool, NoMemory> {
     let args = args_of(alloc, row.args)?;
     let mut source = source(alloc, row)?;
-    is_ending(alloc, args.as_slice(), &mut source, row)
+    is_ending(rt, alloc, args.as_slice(), &mut source, row)
 }
 
 #[test]
 fn ends_at_faults_and_at_the_first_refusal(rt: HostRuntime) -> Result<(), Fail> {
     for row in ROWS {
-        assert!(rt; is_answered(rt.alloc(), row)?);
+        assert!(rt; is_answered(&rt, rt.alloc(), row)?);
     }
     Ok(())
 }

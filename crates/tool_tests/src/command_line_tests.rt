@@ -186,7 +186,7 @@ fn is_row(line: &CommandLine<'_>, row: &Row) -> bool {
         && line.subject == row.subject
         && line.brief == row.brief
         && line.conflicts.conflicts() == row.conflicts
-        && line.threads == row.threads
+        && line.threads.threads() == row.threads
 }
 
 /// Whether the arguments are the command line of the row.

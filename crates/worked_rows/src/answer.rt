@@ -1,10 +1,13 @@
 use super::spelling::append_spelled;
+use adapter::OpenGate;
 use bspl_io::{PlainSink, PlainSource};
 use bspl_tool::bspl;
 use dimacs::run;
 use formula_text::bspl_formula;
 use list_base::{Bytes, NoMemory};
 use std::alloc::Global;
+use std::sync::Wait;
+use std::thread::Threads;
 
 /// An exit status and an output.
 #[derive(Drop)]
@@ -23,20 +26,26 @@ impl Answer {
 }
 
 /// What the program of the command gives for its arguments and the input.
-pub(crate) fn answer_to(alloc: Global, command: &[u8], input: &[u8]) -> Result<Answer, NoMemory> {
+pub(crate) fn answer_to<H: Threads + Wait + Sync>(
+    rt: &H,
+    alloc: Global,
+    command: &[u8],
+    input: &[u8],
+) -> Result<Answer, NoMemory> {
     let words = words_of(alloc, command)?;
     let input = Bytes::from_slice(alloc, input)?;
-    answer_to_words(alloc, words.as_slice(), PlainSource::new(input))
+    answer_to_words(rt, alloc, words.as_slice(), PlainSource::new(input))
 }
 
 /// What the program that the first word names gives for the other words and the source.
-fn answer_to_words(
+fn answer_to_words<H: Threads + Wait + Sync>(
+    rt: &H,
     alloc: Global,
     words: &[String],
     mut source: PlainSource,
 ) -> Result<Answer, NoMemory> {
     let mut sink = PlainSink::new(alloc);
-    let status = status_of(alloc, words, &mut source, &mut sink);
+    let status = status_of(rt, alloc, words, &mut source, &mut sink);
     answer_of(alloc, status, sink.written())
 }
 
@@ -56,7 +65,8 @@ fn status_text(alloc: Global, status: Option<u8>) -> Result<String, NoMemory> {
 }
 
 /// The exit status of the program that the first word names.
-fn status_of(
+fn status_of<H: Threads + Wait + Sync>(
+    rt: &H,
     alloc: Global,
     words: &[String],
     source: &mut PlainSource,
@@ -64,20 +74,21 @@ fn status_of(
 ) -> Option<u8> {
     let (program, args) = words.split_first()?;
     match program.as_str() {
-        "bspl" => Some(bspl_status(alloc, args, source, sink)),
+        "bspl" => Some(bspl_status(rt, alloc, args, source, sink)),
         "bspl_formula" => Some(formula_status(alloc, args, source, sink)),
         "dimacs_sat" => Some(dimacs_status(alloc, args, source, sink)),
         _ => None,
     }
 }
 
-fn bspl_status(
+fn bspl_status<H: Threads + Wait + Sync>(
+    rt: &H,
     alloc: Global,
     args: &[String],
     source: &mut PlainSource,
     sink: &mut PlainSink,
 ) -> u8 {
-    bspl(alloc, args, source, sink).number()
+    bspl(rt, alloc, args, source, sink, &OpenGate).number()
 }
 
 fn formula_status(

@@ -2,6 +2,8 @@ use super::answer::{Answer, answer_to};
 use list_base::{Bytes, NoMemory};
 use std::alloc::Global;
 use std::mem;
+use std::sync::Wait;
+use std::thread::Threads;
 use text_lines::split_once;
 
 /// The lines of an output that were taken, and the block of evidence that is being read.
@@ -15,23 +17,34 @@ struct Verdicts {
 
 impl Verdicts {
     /// Takes a line. At the end of a block it is tried.
-    fn take(&mut self, alloc: Global, input: &[u8], line: &[u8]) -> Result<(), NoMemory> {
+    fn take<H: Threads + Wait + Sync>(
+        &mut self,
+        rt: &H,
+        alloc: Global,
+        input: &[u8],
+        line: &[u8],
+    ) -> Result<(), NoMemory> {
         if self.block.is_empty() && !begins_block(line) {
             return self.take_claim(alloc, line);
         }
         self.block.append(line)?;
         self.block.push(b'\n')?;
         if line == b"end".as_slice() {
-            self.end_block(alloc, input)
+            self.end_block(rt, alloc, input)
         } else {
             Ok(())
         }
     }
 
     /// Tries the block. One that holds leaves a line, any other stays.
-    fn end_block(&mut self, alloc: Global, input: &[u8]) -> Result<(), NoMemory> {
+    fn end_block<H: Threads + Wait + Sync>(
+        &mut self,
+        rt: &H,
+        alloc: Global,
+        input: &[u8],
+    ) -> Result<(), NoMemory> {
         let block = mem::replace(&mut self.block, Bytes::new(alloc));
-        if self.holds(alloc, input, block.as_slice())? {
+        if self.holds(rt, alloc, input, block.as_slice())? {
             self.push_held(split_once(block.as_slice(), b' ').0)
         } else {
             self.lines.append(block.as_slice())
@@ -39,13 +52,19 @@ impl Verdicts {
     }
 
     /// Whether the block proves the claim before it.
-    fn holds(&self, alloc: Global, input: &[u8], block: &[u8]) -> Result<bool, NoMemory> {
+    fn holds<H: Threads + Wait + Sync>(
+        &self,
+        rt: &H,
+        alloc: Global,
+        input: &[u8],
+        block: &[u8],
+    ) -> Result<bool, NoMemory> {
         let name = self.name.as_slice();
         let claim = self.claim.as_slice();
         if block.starts_with(b"log ") {
-            log_holds(alloc, name, input, claim, block)
+            log_holds(rt, alloc, name, input, claim, block)
         } else {
-            run_holds(alloc, name, input, claim, block)
+            run_holds(rt, alloc, name, input, claim, block)
         }
     }
 
@@ -77,10 +96,16 @@ impl Verdicts {
     }
 
     /// Takes the lines of an output. A block that does not end stays.
-    fn take_output(&mut self, alloc: Global, input: &[u8], output: &[u8]) -> Result<(), NoMemory> {
+    fn take_output<H: Threads + Wait + Sync>(
+        &mut self,
+        rt: &H,
+        alloc: Global,
+        input: &[u8],
+        output: &[u8],
+    ) -> Result<(), NoMemory> {
         let lines = output.strip_suffix(b"\n").unwrap_or(output);
         for line in lines.split(|b| *b == b'\n') {
-            self.take(alloc, input, line)?;
+            self.take(rt, alloc, input, line)?;
         }
         self.lines.append(self.block.as_slice())
     }
@@ -88,7 +113,8 @@ impl Verdicts {
 
 /// The output with a line `log ..` or `run ..` for each block of evidence that holds, and without
 /// the positions of a conflict.
-pub(crate) fn without_evidence(
+pub(crate) fn without_evidence<H: Threads + Wait + Sync>(
+    rt: &H,
     alloc: Global,
     input: &[u8],
     output: &[u8],
@@ -99,7 +125,7 @@ pub(crate) fn without_evidence(
         block: Bytes::new(alloc),
         lines: Bytes::new(alloc),
     };
-    verdicts.take_output(alloc, input, output)?;
+    verdicts.take_output(rt, alloc, input, output)?;
     Ok(verdicts.lines)
 }
 
@@ -110,14 +136,15 @@ fn begins_block(line: &[u8]) -> bool {
 
 /// Whether `check` accepts the log for the claim; for an undecided one, whether all its steps
 /// resolve.
-fn log_holds(
+fn log_holds<H: Threads + Wait + Sync>(
+    rt: &H,
     alloc: Global,
     name: &[u8],
     input: &[u8],
     claim: &[u8],
     block: &[u8],
 ) -> Result<bool, NoMemory> {
-    let answer = answer_with_part(alloc, b"bspl check ", name, input, b"\n%% log\n", block)?;
+    let answer = answer_with_part(rt, alloc, b"bspl check ", name, input, b"\n%% log\n", block)?;
     is_accepted(alloc, claim, &answer)
 }
 
@@ -145,14 +172,23 @@ fn is_answer(answer: &Answer, status: &str, output: &[u8]) -> bool {
 
 /// Whether `replay` finds in the run what is claimed: the conflict, at these positions and the
 /// second one last, or the parameter that stays unbound at the key of all ones.
-fn run_holds(
+fn run_holds<H: Threads + Wait + Sync>(
+    rt: &H,
     alloc: Global,
     name: &[u8],
     input: &[u8],
     claim: &[u8],
     block: &[u8],
 ) -> Result<bool, NoMemory> {
-    let answer = answer_with_part(alloc, b"bspl replay ", name, input, b"\n%% run\n", block)?;
+    let answer = answer_with_part(
+        rt,
+        alloc,
+        b"bspl replay ",
+        name,
+        input,
+        b"\n%% run\n",
+        block,
+    )?;
     if answer.status.as_str() != "0" {
         return Ok(false);
     }
@@ -200,7 +236,8 @@ fn is_unbound(line: &[u8], param: &[u8]) -> bool {
 }
 
 /// The answer to a command on the protocol of that name, over the input with a part after it.
-fn answer_with_part(
+fn answer_with_part<H: Threads + Wait + Sync>(
+    rt: &H,
     alloc: Global,
     command: &[u8],
     name: &[u8],
@@ -211,7 +248,7 @@ fn answer_with_part(
     let whole = joined(alloc, command, name)?;
     let mut text = joined(alloc, input, part_line)?;
     text.append(part)?;
-    answer_to(alloc, whole.as_slice(), text.as_slice())
+    answer_to(rt, alloc, whole.as_slice(), text.as_slice())
 }
 
 /// Both texts, one after the other.

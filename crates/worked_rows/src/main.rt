@@ -10,6 +10,9 @@ mod tally;
 use bspl_io::{ReadRefusal, Sink, Source, StdSink, StdSource, WriteRefusal, read_all, write_all};
 use list_base::NoMemory;
 use std::process::ExitCode;
+use std::rt::Files;
+use std::sync::Wait;
+use std::thread::Threads;
 use std::{fs, io};
 use tally::Tally;
 
@@ -64,7 +67,10 @@ fn main(rt: HostRuntime) -> ExitCode {
 }
 
 /// Reads the names of the sections and the rows of each, and writes the report on them.
-fn report<W: Sink>(rt: &HostRuntime, output: &mut W) -> Result<(), NoReport> {
+fn report<R: AllocGlobal + Files + Input + Threads + Wait + Sync, W: Sink>(
+    rt: &R,
+    output: &mut W,
+) -> Result<(), NoReport> {
     let names = read_all(rt.alloc(), &mut StdSource::new(rt.reader()), SECTION_LIMIT)?;
     let mut tally = Tally::new(rt.alloc());
     for name in names.as_slice().split(|b| *b == b'\n') {
@@ -78,12 +84,16 @@ fn report<W: Sink>(rt: &HostRuntime, output: &mut W) -> Result<(), NoReport> {
 }
 
 /// Tries the rows of the section in the file of this name.
-fn take_section(rt: &HostRuntime, tally: &mut Tally, name: &[u8]) -> Result<(), NoReport> {
+fn take_section<R: AllocGlobal + Files + Threads + Wait + Sync>(
+    rt: &R,
+    tally: &mut Tally,
+    name: &[u8],
+) -> Result<(), NoReport> {
     let Ok(path) = str::from_utf8(name) else {
         return Err(NoReport::Fault);
     };
     let mut file = StdSource::new(fs::open(rt, path)?);
     let rows = read_all(rt.alloc(), &mut file, SECTION_LIMIT)?;
-    tally.take_section(rt.alloc(), name, rows.as_slice())?;
+    tally.take_section(rt, rt.alloc(), name, rows.as_slice())?;
     Ok(())
 }

@@ -3,6 +3,8 @@ use super::evidence::without_evidence;
 use super::spelling::append_line;
 use list_base::{Bytes, NoMemory};
 use std::alloc::Global;
+use std::sync::Wait;
+use std::thread::Threads;
 use text_lines::split_once;
 
 /// A command and an input, with the status and the output that are wanted; and a name, and the line
@@ -63,14 +65,18 @@ impl Row {
     }
 
     /// What the program gives for the command and the input.
-    pub(crate) fn answer(&self, alloc: Global) -> Result<Answer, NoMemory> {
+    pub(crate) fn answer<H: Threads + Wait + Sync>(
+        &self,
+        rt: &H,
+        alloc: Global,
+    ) -> Result<Answer, NoMemory> {
         let input = self.input.as_slice();
-        let answer = answer_to(alloc, self.command.as_slice(), input)?;
+        let answer = answer_to(rt, alloc, self.command.as_slice(), input)?;
         if !self.is_tried {
             return Ok(answer);
         }
         Ok(Answer {
-            output: without_evidence(alloc, input, answer.output.as_slice())?,
+            output: without_evidence(rt, alloc, input, answer.output.as_slice())?,
             status: answer.status,
         })
     }

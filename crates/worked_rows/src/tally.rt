@@ -2,6 +2,8 @@ use super::answer::Answer;
 use super::row::Row;
 use list_base::{Bytes, NoMemory};
 use std::alloc::Global;
+use std::sync::Wait;
+use std::thread::Threads;
 
 /// How many rows there were, how many of them were answered otherwise, and which; and the section,
 /// the line and the row that are being read.
@@ -36,8 +38,9 @@ impl Tally {
     /// Takes all lines of a section. A line `$ NAME | PROGRAM ARGUMENTS` begins a row, the lines
     /// after it are the input, a line `= STATUS` or `~ STATUS` ends the input, and the lines after
     /// that are the output. A line that begins with `# ` is passed over.
-    pub(crate) fn take_section(
+    pub(crate) fn take_section<H: Threads + Wait + Sync>(
         &mut self,
+        rt: &H,
         alloc: Global,
         name: &[u8],
         rows: &[u8],
@@ -47,25 +50,35 @@ impl Tally {
         let lines = rows.strip_suffix(b"\n").unwrap_or(rows);
         for line in lines.split(|b| *b == b'\n') {
             self.line = self.line.saturating_add(1);
-            self.take_line(alloc, line)?;
+            self.take_line(rt, alloc, line)?;
         }
-        self.end_row(alloc)
+        self.end_row(rt, alloc)
     }
 
     /// Takes a line of the rows.
-    fn take_line(&mut self, alloc: Global, line: &[u8]) -> Result<(), NoMemory> {
+    fn take_line<H: Threads + Wait + Sync>(
+        &mut self,
+        rt: &H,
+        alloc: Global,
+        line: &[u8],
+    ) -> Result<(), NoMemory> {
         if line.starts_with(b"# ") {
             return Ok(());
         }
         match line.strip_prefix(b"$") {
-            Some(head) => self.begin_row(alloc, head),
+            Some(head) => self.begin_row(rt, alloc, head),
             None => self.go_on(alloc, line),
         }
     }
 
     /// Begins a row with this name and command, after the one before it.
-    fn begin_row(&mut self, alloc: Global, head: &[u8]) -> Result<(), NoMemory> {
-        self.end_row(alloc)?;
+    fn begin_row<H: Threads + Wait + Sync>(
+        &mut self,
+        rt: &H,
+        alloc: Global,
+        head: &[u8],
+    ) -> Result<(), NoMemory> {
+        self.end_row(rt, alloc)?;
         self.row = Some(Row::of(alloc, self.line, head)?);
         Ok(())
     }
@@ -79,17 +92,22 @@ impl Tally {
     }
 
     /// Counts the row that was read, if there is one.
-    fn end_row(&mut self, alloc: Global) -> Result<(), NoMemory> {
+    fn end_row<H: Threads + Wait + Sync>(&mut self, rt: &H, alloc: Global) -> Result<(), NoMemory> {
         match self.row.take() {
-            Some(row) => self.count(alloc, &row),
+            Some(row) => self.count(rt, alloc, &row),
             None => Ok(()),
         }
     }
 
     /// Counts the row. If it is answered otherwise, that is reported.
-    fn count(&mut self, alloc: Global, row: &Row) -> Result<(), NoMemory> {
+    fn count<H: Threads + Wait + Sync>(
+        &mut self,
+        rt: &H,
+        alloc: Global,
+        row: &Row,
+    ) -> Result<(), NoMemory> {
         self.rows = self.rows.saturating_add(1);
-        let answer = row.answer(alloc)?;
+        let answer = row.answer(rt, alloc)?;
         if row.wants(&answer) {
             return Ok(());
         }

@@ -9,17 +9,17 @@ use Rattle.bspl_tool.specs.declared.answer.Answer.TheVariants as answer
 use Rattle.bspl_tool.specs.RunAnswer.{IsPlayedText}
 
 -- the text is that so far, and then that of what the job's agents play; the status is that so far
-pub record PlaysOut (job : Job) (so_far : Reply Status) (out : List ℕ)
+pub record PlaysOut (threads : ℕ) (job : Job) (so_far : Reply Status) (out : List ℕ)
     (status : Status) : Type 0 where
   pub played : List ℕ
-  pub is_played : IsPlayedText job played
+  pub is_played : IsPlayedText threads job played
   pub text : out ≡ so_far.text ++ played
   pub ends : status ≡ so_far.status
 
 -- the text and the status are those of the reply, or complete what was answered so far
 abbrev pub Completes : Answer → List ℕ → Status → Type 0
 Completes (answer.Whole reply) out status = (out ≡ reply.text) × (status ≡ reply.status)
-Completes (answer.Play job so_far) out status = PlaysOut job so_far out status
+Completes (answer.Play job threads so_far) out status = PlaysOut threads job so_far out status
 
 -- whatever completes the answer is right
 abbrev pub IsRightAnswer : (List ℕ → Status → Type 0) → Answer → Type 0
@@ -29,4 +29,4 @@ IsRightAnswer IsRight a = (out : List ℕ) (status : Status) → Completes a out
 -- agents play only a protocol that is safe
 abbrev pub IsPlayable : Answer → Type 0
 IsPlayable (answer.Whole reply) = ⊤
-IsPlayable (answer.Play job so_far) = SafeProtocol job.protocol
+IsPlayable (answer.Play job threads so_far) = SafeProtocol job.protocol

@@ -1,0 +1,100 @@
+ghost use Rattle.std.specs.Prelude.{◌≡◌, ◌++◌, ℕ, IfOk};
+ghost use Rattle.enactment_model.specs.Safety.{SafeProtocol};
+ghost use Rattle.bspl_tool.specs.RunAnswer.{IsPlayedText};
+ghost use Rattle.bspl_tool.specs.inner.Answer.{Completes, IsPlayable};
+
+use super::answer::Answer;
+use adapter::Gate;
+use agent_scripts::Job;
+use bspl_types::{Bytes, NoMemory};
+use command_line::ThreadCount;
+use program_frame::Reply;
+use report::world_text;
+use std::alloc::Global;
+use std::sync::Wait;
+use std::thread::Threads;
+use tool_input::Status;
+use world_run::{run_one, run_threads};
+
+/// The reply that the answer comes to. If agents are to play, they do so on this thread, which is a
+/// right way whatever number of threads they were to have.
+pub fn finish(alloc: Global, answer: Answer) -> Result<Reply<Status>, NoMemory>
+    requires { IsPlayable answer }
+    ensures { IfOk result (λ reply. Completes answer reply.text reply.status) }
+{
+    match answer {
+        Answer::Whole(reply) => Ok(reply),
+        Answer::Play {
+            job,
+            threads: _,
+            so_far,
+        } => {
+            let played = alone_text(alloc, &job);
+            drop(job);
+            with_played(so_far, played?)
+        }
+    }
+}
+
+/// The reply that the answer comes to. If agents are to play, they do so in their threads.
+pub fn finish_in_threads<H: Threads + Wait + Sync, G: Gate + Sync>(
+    rt: &H,
+    alloc: Global,
+    answer: Answer,
+    gate: &G,
+) -> Result<Reply<Status>, NoMemory>
+    requires { IsPlayable answer }
+    ensures { IfOk result (λ reply. Completes answer reply.text reply.status) }
+{
+    match answer {
+        Answer::Whole(reply) => Ok(reply),
+        Answer::Play {
+            job,
+            threads,
+            so_far,
+        } => {
+            let played = threads_text(rt, alloc, &job, threads, gate);
+            drop(job);
+            with_played(so_far, played?)
+        }
+    }
+}
+
+/// The reply, after whose text comes what was played.
+fn with_played(so_far: Reply<Status>, played: Bytes) -> Result<Reply<Status>, NoMemory>
+    ensures { IfOk result (λ reply. (reply.text ≡ so_far.text ++ played)
+        × (reply.status ≡ so_far.status)) }
+{
+    let Reply { status, mut text } = so_far;
+    text.append(played.as_slice())?;
+    Ok(Reply { status, text })
+}
+
+/// The text of a world that the agents of the job play, each role in so many threads.
+fn threads_text<H: Threads + Wait + Sync, G: Gate + Sync>(
+    rt: &H,
+    alloc: Global,
+    job: &Job,
+    threads: ThreadCount,
+    gate: &G,
+) -> Result<Bytes, NoMemory>
+    requires { SafeProtocol job.now.protocol }
+    ensures { IfOk result (IsPlayedText threads job.now) }
+{
+    let threads = threads.threads();
+    if threads == 0 {
+        return alone_text(alloc, job);
+    }
+    let world = run_threads(rt, alloc, job, threads, gate)?;
+    world_text(alloc, job.admitted(), job.script(), &world)
+}
+
+/// The text of a world that the agents of the job play on this thread, which is right for each
+/// number of threads.
+fn alone_text(alloc: Global, job: &Job) -> Result<Bytes, NoMemory>
+    requires { SafeProtocol job.now.protocol }
+    ensures { IfOk result (λ text. (threads : ℕ) → IsPlayedText threads job.now text) }
+{
+    let world = run_one(alloc, job)?;
+    world_text(alloc, job.admitted(), job.script(), &world)
+}
