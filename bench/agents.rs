@@ -1,9 +1,16 @@
-// Scripted agents on one thread, written plainly with the standard library: the peer of `bench/run`.
+// Scripted agents, written plainly with the standard library: the peer of `bench/run`.
 //
 // Reads an input of `bspl run NAME`: a protocol of messages alone, the line `%% agents`, and lines `keys`, `loss` and
 // `repeat`. Each role has a hash map from key to what it knows, a history and an inbox. Prints the world's lines.
+//
+// The one argument is the number of threads of each role. With 0 all roles act on one thread. Else each role's desk is
+// behind a mutex, and a channel is its mailbox; a thread has one pass more than there are messages over its share of the
+// keys, and in each turn locks its role's desk, empties the mailbox into the inbox, takes one envelope and emits one
+// message. What is left after the threads is delivered on one thread.
 use std::collections::HashMap;
 use std::io::{Read, Write};
+use std::sync::Mutex;
+use std::sync::mpsc::{Receiver, Sender, channel};
 
 #[derive(Clone, PartialEq, Eq, Hash)]
 enum Value {
@@ -60,6 +67,7 @@ struct Desk {
     history: Vec<Entry>,
     clock: u64,
     inbox: Vec<Envelope>,
+    mailbox: Receiver<Envelope>,
 }
 
 struct Plan {
@@ -130,6 +138,10 @@ fn plan_of(text: &str) -> Plan {
 }
 
 impl Desk {
+    fn empty_mailbox(&mut self) {
+        self.inbox.extend(self.mailbox.try_iter());
+    }
+
     fn can_emit(&self, message: &Message, row: usize) -> bool {
         let values = &self.rows[row].values;
         message.carried.iter().all(|&(adornment, p)| match adornment {
@@ -184,53 +196,124 @@ impl Desk {
     }
 }
 
-fn main() {
-    let mut input = String::new();
-    std::io::stdin().read_to_string(&mut input).unwrap();
-    let (text, agents) = input.split_once("%% agents\n").expect("a part `agents`");
-    let (p, plan) = (protocol_of(text), plan_of(agents));
-    let keys: Vec<Vec<Value>> = (1..=plan.keys).map(|n| vec![Value::Number(n); p.keys.len()]).collect();
-    let mut desks: Vec<Desk> = p.roles.iter().map(|_| Desk {
-        row_of: keys.iter().cloned().zip(0..).collect(),
-        rows: keys.iter().map(|_| Row { values: vec![None; p.params.len()], done: vec![false; p.messages.len()] }).collect(),
-        history: vec![],
-        clock: 0,
-        inbox: vec![],
-    }).collect();
-    let (mut random, mut acted) = (1, true);
-    while acted {
-        acted = false;
-        for role in 0..desks.len() {
-            for (n, key) in (1..).zip(&keys) {
-                acted |= desks[role].take(&p, &mut random);
-                if let Some(mut envelope) = desks[role].emit(&p, role, n, key) {
-                    acted = true;
-                    let lost = (379 * (envelope.message as u64 + 1) + 617 * (n % 1000)) % 1000 < plan.loss;
-                    if !lost {
-                        envelope.copies += plan.repeat;
-                        desks[p.messages[envelope.message].receiver].inbox.push(envelope);
+/// What all agents share and nobody changes.
+struct Job {
+    p: Protocol,
+    plan: Plan,
+    keys: Vec<Vec<Value>>,
+}
+
+impl Job {
+    fn is_lost(&self, message: usize, n: u64) -> bool {
+        (379 * (message as u64 + 1) + 617 * (n % 1000)) % 1000 < self.plan.loss
+    }
+
+    /// Takes one envelope and emits one message at the number: whether it took or emitted, and what is to be delivered.
+    fn turn(&self, desk: &mut Desk, role: usize, n: u64, random: &mut u64) -> (bool, Option<Envelope>) {
+        let took = desk.take(&self.p, random);
+        let Some(mut envelope) = desk.emit(&self.p, role, n, &self.keys[n as usize - 1]) else {
+            return (took, None);
+        };
+        if self.is_lost(envelope.message, n) {
+            return (true, None);
+        }
+        envelope.copies += self.plan.repeat;
+        (true, Some(envelope))
+    }
+
+    fn receiver(&self, envelope: &Envelope) -> usize {
+        self.p.messages[envelope.message].receiver
+    }
+
+    /// All roles act in turn until nothing is left.
+    fn settle(&self, desks: &mut [Desk]) {
+        let (mut random, mut acted) = (1, true);
+        while acted {
+            acted = false;
+            for role in 0..desks.len() {
+                for n in 1..=self.plan.keys {
+                    let (did, sent) = self.turn(&mut desks[role], role, n, &mut random);
+                    acted |= did;
+                    if let Some(envelope) = sent {
+                        desks[self.receiver(&envelope)].inbox.push(envelope);
                     }
                 }
             }
         }
     }
-    let mut out = format!("world {}\n", plan.keys);
-    for (at, message) in p.messages.iter().enumerate() {
-        let count = |sent| desks.iter().flat_map(|d| &d.history).filter(|e| e.message == at && e.sent == sent).count();
-        out += &format!("message {} sent {} received {}\n", message.name, count(true), count(false));
-    }
-    for (n, key) in (1..).zip(&keys) {
-        out += &format!("row {n}");
-        for (param, name) in p.params.iter().enumerate() {
-            let known = desks.iter().find_map(|d| d.rows[d.row_of[key]].values[param].as_ref());
-            out += &match known {
-                Some(Value::Number(v)) => format!(" {name}={v}"),
-                Some(Value::Text(t)) => format!(" {name}=\"{t}\""),
-                None => format!(" {name}=-"),
-            };
+
+    /// One of a role's threads. It puts what it sends into a mailbox while it holds the lock of its role.
+    fn work(&self, lock: &Mutex<Desk>, role: usize, thread: u64, threads: u64, to: &[Sender<Envelope>]) {
+        let mut random = 8 * role as u64 + thread;
+        for _ in 0..=self.p.messages.len() {
+            for n in (1..=self.plan.keys).filter(|n| (n - 1) % threads == thread) {
+                let mut desk = lock.lock().unwrap();
+                desk.empty_mailbox();
+                if let (_, Some(envelope)) = self.turn(&mut desk, role, n, &mut random) {
+                    to[self.receiver(&envelope)].send(envelope).unwrap();
+                }
+            }
         }
-        out += "\n";
     }
-    out += "end\n";
-    std::io::stdout().write_all(out.as_bytes()).unwrap();
+
+    /// Each role acts in so many threads.
+    fn play(&self, desks: Vec<Desk>, threads: u64, to: &[Sender<Envelope>]) -> Vec<Desk> {
+        let locks: Vec<Mutex<Desk>> = desks.into_iter().map(Mutex::new).collect();
+        std::thread::scope(|scope| {
+            for (role, lock) in locks.iter().enumerate() {
+                for thread in 0..threads {
+                    let to = to.to_vec();
+                    scope.spawn(move || self.work(lock, role, thread, threads, &to));
+                }
+            }
+        });
+        let mut desks: Vec<Desk> = locks.into_iter().map(|lock| lock.into_inner().unwrap()).collect();
+        desks.iter_mut().for_each(Desk::empty_mailbox);
+        desks
+    }
+
+    fn text(&self, desks: &[Desk]) -> String {
+        let mut out = format!("world {}\n", self.plan.keys);
+        for (at, message) in self.p.messages.iter().enumerate() {
+            let count = |sent| desks.iter().flat_map(|d| &d.history).filter(|e| e.message == at && e.sent == sent).count();
+            out += &format!("message {} sent {} received {}\n", message.name, count(true), count(false));
+        }
+        for (n, key) in (1..).zip(&self.keys) {
+            out += &format!("row {n}");
+            for (param, name) in self.p.params.iter().enumerate() {
+                let known = desks.iter().find_map(|d| d.rows[d.row_of[key]].values[param].as_ref());
+                out += &match known {
+                    Some(Value::Number(v)) => format!(" {name}={v}"),
+                    Some(Value::Text(t)) => format!(" {name}=\"{t}\""),
+                    None => format!(" {name}=-"),
+                };
+            }
+            out += "\n";
+        }
+        out + "end\n"
+    }
+}
+
+fn main() {
+    let threads: u64 = std::env::args().nth(1).expect("a number of threads").parse().unwrap();
+    let mut input = String::new();
+    std::io::stdin().read_to_string(&mut input).unwrap();
+    let (text, agents) = input.split_once("%% agents\n").expect("a part `agents`");
+    let (p, plan) = (protocol_of(text), plan_of(agents));
+    let keys: Vec<Vec<Value>> = (1..=plan.keys).map(|n| vec![Value::Number(n); p.keys.len()]).collect();
+    let (to, mailboxes): (Vec<_>, Vec<_>) = p.roles.iter().map(|_| channel()).unzip();
+    let mut desks: Vec<Desk> = mailboxes.into_iter().map(|mailbox| Desk {
+        row_of: keys.iter().cloned().zip(0..).collect(),
+        rows: keys.iter().map(|_| Row { values: vec![None; p.params.len()], done: vec![false; p.messages.len()] }).collect(),
+        history: vec![],
+        clock: 0,
+        inbox: vec![],
+        mailbox,
+    }).collect();
+    let job = Job { p, plan, keys };
+    if threads > 0 {
+        desks = job.play(desks, threads, &to);
+    }
+    job.settle(&mut desks);
+    std::io::stdout().write_all(job.text(&desks).as_bytes()).unwrap();
 }
