@@ -15,9 +15,14 @@ pub fn args_given<R: Env + AllocGlobal>(rt: &R) -> io::Result<Vec<String>> {
     args_after_name(rt.alloc(), all_args(rt))
 }
 
-/// The program's name and its arguments.
+/// The program's name and its arguments. They are pushed one by one, since each push reports that
+/// memory is refused. `collect` asks for the room of all beforehand and goes on if it is refused.
 fn all_args<R: Env + AllocGlobal>(rt: &R) -> io::Result<Vec<String>> {
-    env::args(rt)?.collect(rt.alloc()).map_err(io::Error::from)
+    let mut all = Vec::new(rt.alloc());
+    for arg in env::args(rt)? {
+        all.push(arg)?;
+    }
+    Ok(all)
 }
 
 /// Drops the program's name. If an argument is not UTF-8, one empty argument takes the place of
