@@ -5,3 +5,4 @@ pub mod VariableLemmas
 pub mod NumberLemmas
 pub mod CycleLemmas
 pub mod EmptyLemmas
+pub mod MemberLemmas

@@ -55,19 +55,43 @@ comes_before order x y =
     if nat_lt x y then record { var = pair_variable order x y; positive = true }
     else record { var = pair_variable order y x; positive = false }
 
+-- the kinds are two of the order
+pub record AreTwoKinds (order : Order) (x y : ℕ) : Type 0 where
+  pub from_one : (0 < x) × (0 < y)
+  pub up_to : (x ≤ order.kinds) × (y ≤ order.kinds)
+  pub distinct : x ≢ y
+
 -- the kinds are three of the order
 pub record AreKinds (order : Order) (x y z : ℕ) : Type 0 where
   pub from_one : (0 < x) × (0 < y) × (0 < z)
   pub up_to : (x ≤ order.kinds) × (y ≤ order.kinds) × (z ≤ order.kinds)
   pub distinct : (x ≢ y) × (y ≢ z) × (z ≢ x)
 
+-- x does not come before y, or y not before z, or z not before x
+abbrev pub forbidden_cycle : Order → ℕ → ℕ → ℕ → List Lit
+forbidden_cycle order x y z =
+    negated (comes_before order x y) ∷ negated (comes_before order y z) ∷
+    negated (comes_before order z x) ∷ []
+
 -- the clause of the number forbids that x comes before y, y before z and z before x
 pub record ForbidsCycle (order : Order) (number x y z : ℕ) : Type 0 where
   pub clause : List Lit
   pub has_number : HasNumber (numbered (order_list order)) number clause
-  pub exactly : HasExactly clause
-      (negated (comes_before order x y) ∷ negated (comes_before order y z) ∷
-      negated (comes_before order z x) ∷ [])
+  pub exactly : HasExactly clause (forbidden_cycle order x y z)
+
+-- the clause forbids a cycle of three kinds
+pub record ForbidsSomeCycle (order : Order) (clause : List Lit) : Type 0 where
+  pub x : ℕ
+  pub y : ℕ
+  pub z : ℕ
+  pub kinds : AreKinds order x y z
+  pub exactly : HasExactly clause (forbidden_cycle order x y z)
+
+-- each clause of an order forbids a cycle of three kinds
+abbrev pub ClausesForbidCycles : Type 0
+ClausesForbidCycles =
+    (order : Order) (number : ℕ) (clause : List Lit) →
+    HasNumber (numbered (order_list order)) number clause → ForbidsSomeCycle order clause
 
 -- the literals of a clause that forbids a cycle ascend
 abbrev pub CycleClausesAscend : Type 0

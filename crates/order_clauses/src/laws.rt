@@ -1,6 +1,11 @@
-ghost use Rattle.order_clauses.specs.Order.{CycleClausesAscend};
+ghost use Rattle.order_clauses.specs.Order.{ClausesForbidCycles, CycleClausesAscend};
 
 /// A law: the literals of a clause that forbids a cycle ascend.
 pub fn cycle_clauses_ascend()
     ensures { CycleClausesAscend }
+{}
+
+/// A law: each clause of an order forbids a cycle of three kinds.
+pub fn clauses_forbid_cycles()
+    ensures { ClausesForbidCycles }
 {}

@@ -10,7 +10,7 @@ mod ordered_formula;
 mod starts;
 
 pub use formula_clauses::FormulaClauses;
-pub use laws::cycle_clauses_ascend;
+pub use laws::{clauses_forbid_cycles, cycle_clauses_ascend};
 pub use lent_clause::LentClause;
 pub use order::Order;
 pub use order_numbers::OrderNumbers;

@@ -15,7 +15,8 @@ pub struct Order {
 
 impl Order {
     ghost use Rattle.std.specs.Prelude.{◌≡◌, ◌<◌};
-    ghost use Rattle.order_clauses.specs.Order.{AreRising, cycle_clause, pair_variable};
+    ghost use Rattle.order_clauses.specs.Order.{AreRising, AreTwoKinds, comes_before};
+    ghost use Rattle.order_clauses.specs.Order.{cycle_clause, pair_variable};
 
     /// No kinds, and no variables of pairs.
     pub fn none() -> Order
@@ -35,6 +36,18 @@ impl Order {
             self.lit(!backward, i, k),
             self.lit(backward, j, k),
         ]
+    }
+
+    /// The literal that says that kind `x` comes before kind `y`.
+    pub fn comes_before(self, x: u32, y: u32) -> Lit
+        requires { AreTwoKinds self x y }
+        ensures { result ≡ comes_before self x y }
+    {
+        if x < y {
+            self.lit(true, x, y)
+        } else {
+            self.lit(false, y, x)
+        }
     }
 
     /// The literal of the variable that says whether kind `i` comes before the later kind `j`.

@@ -7,6 +7,7 @@ mod examination;
 mod flat_clauses;
 mod packed_lit;
 mod propagation;
+mod propagation_step;
 mod set_literals;
 mod span;
 mod trail;

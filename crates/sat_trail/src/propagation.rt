@@ -158,7 +158,7 @@ fn visit_clause(
 
 /// Visits the clauses that watch the literal that the entry at the position makes false, up to one
 /// that is false.
-fn propagate_entry(
+pub fn propagate_entry(
     store: &ClauseStore,
     lists: &mut WatchLists,
     set: &mut Entries,

@@ -9,6 +9,7 @@ ghost use Rattle.sat_trail.specs.Trail.{IsTrail, IsStart, Adds, HasTwoOpen, IsNo
 use super::clause_store::ClauseStore;
 use super::entry::Entry;
 use super::propagation::{examine_new, propagate_entries};
+use super::propagation_step::propagate_head;
 use super::set_literals::{Entries, backtrack};
 use super::watch_choice::{choose, watch_all};
 use super::watch_lists::WatchLists;
@@ -129,6 +130,35 @@ impl<'f> Trail<'f> {
         );
         self.ready = found.is_none();
         found
+    }
+
+    /// The next part of propagation: examines the clauses that are new or, if there are none,
+    /// propagates the next entry. Gives the number of a clause that turned out false.
+    pub fn propagate_next(&mut self) -> Option<u32>
+        ensures grows { Propagates self.old self.new }
+        ensures ready { self.new.ready ≡ false }
+        ensures falsified { let values = values_of self.new.entries in
+            IfSome result (IsFalsified (numbering_of self.new) values) }
+        ensures sound { IsTrail self.new }
+    {
+        self.ready = false;
+        if self.examined < self.store.len() {
+            return examine_new(
+                &self.store,
+                &self.lists,
+                &mut self.set,
+                &mut self.examined,
+                self.head,
+                self.level,
+            );
+        }
+        propagate_head(
+            &self.store,
+            &mut self.lists,
+            &mut self.set,
+            &mut self.head,
+            self.level,
+        )
     }
 
     /// Whether the last propagation found nothing false, and nothing changed since.
