@@ -1,5 +1,5 @@
 -- What a role's state keeps when an envelope is put into its receiver's mailbox and then emitted.
-use Rattle.std.proofs.Common.{◌≡◌, ◌≢◌, inl, inr, ℕ, ◌-◌, ◌<◌, true, false, List, [], ◌∷◌, ◌++◌, length, Option, Some, slice_get, get_or, refl, sym, ◌∙◌, ap, subst, arith, All}
+use Rattle.std.proofs.Common.{◌≡◌, ◌≢◌, inl, inr, ℕ, ◌-◌, ◌<◌, true, false, List, [], ◌∷◌, ◌++◌, length, Some, slice_get, get_or, refl, sym, ◌∙◌, ap, subst, arith, All}
 use Rattle.std.specs.Prelude.{◌==◌, slice_set}
 use Rattle.std.proofs.lemmas.Bool.{cases_eq}
 use Rattle.std.proofs.lemmas.Bool.Decides.{nat_tests}
@@ -18,12 +18,12 @@ use Rattle.reorder_net.specs.Pass.{BoxId, IsSender, PassState}
 use Rattle.reorder_net.specs.Passes.{ArePasses, with_put}
 use Rattle.adapter.specs.Desk.{DeskState}
 use Rattle.adapter.specs.Kept.{IsKept}
-use Rattle.adapter.specs.Laws.{IsOrderly, NextEnvelopesAreOne}
+use Rattle.adapter.specs.Laws.{IsOrderly}
 use Rattle.adapter.specs.Posted.{arriving, key_number, posted_by}
 use Rattle.adapter.specs.Rules.{key_of}
 use Rattle.adapter.specs.State.{HasTakenMessage, IsOfTaken, IsStateKept, StateView, taken_of}
 use Rattle.adapter.specs.StateSteps.{EmitsNext, IsStateAtWork}
-use Rattle.adapter.specs.Steps.{IsNextEnvelope, IsPlanned, after_emission}
+use Rattle.adapter.specs.Steps.{IsPlanned, after_emission}
 use Rattle.adapter.proofs.PostedLemmas.{number_is, posted_emission, posted_more}
 use Rattle.adapter.proofs.StateLemmas.{AreOfTaken, receipts_more, same_posts}
 
@@ -137,17 +137,16 @@ emitted_keeps equal job boxes s n e d p orderly work plan new changed are =
       });
     }
 
--- the same of the desk's emission, which is the planned one, and of what it leaves
-pub step_keeps : NextEnvelopesAreOne → EqualValuesAreOne → (job : Job) (boxes : List BoxId) (s : StateView) (n : ℕ) (e : Envelope) (o : Option Envelope) (d : DeskState) (p : RolePasses) → IsOrderly job → IsStateAtWork job boxes s n
-    → IsPlanned job s.desk.store n e → IsNextEnvelope job s.desk.store n o → IsKept job s.desk.store.role d → d ≡ after_emission s.desk o
+-- and the desk emits its next envelope
+pub step_keeps : EqualValuesAreOne → (job : Job) (boxes : List BoxId) (s : StateView) (n : ℕ) (e : Envelope) (d : DeskState) (p : RolePasses) → IsOrderly job → IsStateAtWork job boxes s n
+    → IsPlanned job s.desk.store n e → IsKept job s.desk.store.role d → d ≡ after_emission s.desk (Some e)
     → ((sent : ℕ → List Envelope) (taken : List Envelope) → ArePasses boxes e.from sent taken s.passes → ArePasses boxes e.from (λ q. sent q ++ arriving q e) taken p)
-    → IsStateKept job s.desk.store.role boxes (record { desk = d; passes = p }) × EmitsNext job n s o (record { desk = d; passes = p })
-step_keeps one_next equal job boxes s n e o d p orderly work plan next new changed put =
+    → IsStateKept job s.desk.store.role boxes (record { desk = d; passes = p }) × EmitsNext job n s (Some e) (record { desk = d; passes = p })
+step_keeps equal job boxes s n e d p orderly work plan new changed put =
     let role : ℕ = s.desk.store.role in
     let sent = λ (q : ℕ). posted_by job role q s.desk.store.entries in
-    let one : o ≡ Some e = one_next job role s.desk n o (Some e) work.kept.desk next plan in
     let old : ArePasses boxes e.from sent (taken_of s) s.passes = subst (λ r. ArePasses boxes r sent (taken_of s) s.passes) (sym plan.from) work.kept.passes in
     let are = subst (λ r. ArePasses boxes r (λ q. sent q ++ arriving q e) (taken_of s) p) plan.from (put sent (taken_of s) old) in (
-      emitted_keeps equal job boxes s n e d p orderly work plan new (changed ∙ ap (after_emission s.desk) one) are,
-      record { next = next; desk = changed; taken = same_taken boxes role _ (taken_of s) p work.kept.known are },
+      emitted_keeps equal job boxes s n e d p orderly work plan new changed are,
+      record { next = plan; desk = changed; taken = same_taken boxes role _ (taken_of s) p work.kept.known are },
     )

@@ -29,25 +29,25 @@ use Rattle.agent_scripts.specs.Statement.{IsSentBy}
 use Rattle.enactment_model.specs.Liveness.{IsEmitted}
 use Rattle.local_store.specs.Consistent.{IsConsistent}
 use Rattle.bspl_types.specs.Choice.{chosen_params}
-use Rattle.local_store.specs.Emission.{chosen_values, IsEmission}
+use Rattle.local_store.specs.Emission.{chosen_values, IsEmission, IsPlannedAt}
 use Rattle.local_store.specs.State.{acts_of}
 use Rattle.stamped_history.specs.PlayedLaws.{PlayedGrows}
 use Rattle.stamped_history.specs.Played.{IsChosen, IsPassed}
 use Rattle.stamped_history.specs.Rules.{IsNumber, TriesBefore}
 use Rattle.reorder_net.specs.Losses.{copies_of}
 use Rattle.reorder_net.specs.Mail.{IsPosted}
+use Rattle.adapter.specs.declared.step.Planned.{Planned}
 use Rattle.adapter.specs.declared.step.Step.{Step}
 use Rattle.adapter.specs.Desk.{DeskState}
-use Rattle.adapter.specs.Kept.{IsFor, IsKept}
-use Rattle.adapter.specs.Next.{IsNext, IsPassedOver, IsWorkload}
+use Rattle.adapter.specs.Kept.{IsKept}
+use Rattle.adapter.specs.Next.{IsAtWork, IsNext, IsPassedOver, IsWorkload}
 use Rattle.adapter.specs.Rules.{key_of, rules_of}
 use Rattle.adapter.specs.Steps.{IsPlanned, with_emission}
 use Rattle.adapter.specs.Laws.{IsOrderly}
 use Rattle.adapter.specs.Posted.{envelope_of}
-use Rattle.adapter.specs.inner.NextStep.{IsNextStep, IsPossible}
+use Rattle.adapter.specs.inner.NextStep.{IsNextStep, IsPlan, IsPossible}
 use Rattle.adapter.proofs.EventLemmas.{none_if_not_emitted, with_event}
 use Rattle.adapter.proofs.NextLemmas.{has_order, key_held, order_sent}
-use Rattle.adapter.proofs.PostedLemmas.{is_for}
 use Rattle.adapter.proofs.ValueLemmas.{given_value}
 
 -- the order of the desk's role
@@ -89,6 +89,7 @@ possible job d n t orderly kept number step =
         own = own.1;
         spare = omega (arith, kept.room);
       };
+      row_is = step.row_is;
       can = subst (λ (key : List Value). CanEmit d.store.protocol (acts_of d.store) t.message key) (sym step.key_is) step.next.ready.can;
     }
 
@@ -225,7 +226,27 @@ pub mailed_as : (job : Job) (d : DeskState) (n role : ℕ) (t : Step) (m : Stamp
 mailed_as job d n role t m e orderly kept number step emission role_is is =
     subst (λ (f : Envelope). 0 < f.copies → IsPosted job d.store.role f.to f) (sym (is ∙ ap (λ r. envelope_of job r n m) role_is)) (mailed job d n t m orderly kept number step emission)
 
--- so it is for its receiver
-pub posted_as : (job : Job) (d : DeskState) (n role : ℕ) (t : Step) (m : Stamped) (e : Envelope) → IsOrderly job → IsKept job d.store.role d → IsWorkload job n → IsNextStep job d.store n t → IsEmission d.store t.message t.key t.outs m → role ≡ d.store.role → e ≡ envelope_of job role n m → 0 < e.copies → IsFor job e.to e
-posted_as job d n role t m e orderly kept number step emission role_is is some =
-    is_for job d.store.role e.to e (mailed_as job d n role t m e orderly kept number step emission role_is is some)
+-- and it can be emitted under the step's row
+pub plan_is : (job : Job) (d : DeskState) (n role : ℕ) (t : Step) (m : Stamped) (e : Envelope) → IsOrderly job → IsKept job d.store.role d → IsWorkload job n → IsNextStep job d.store n t → IsEmission d.store t.message t.key t.outs m → role ≡ d.store.role → e ≡ envelope_of job role n m → IsPlan job d.store n (record { row = t.row; envelope = e })
+plan_is job d n role t m e orderly kept number step emission role_is is =
+    let can = possible job d n t orderly kept number step in
+    record {
+      next = planned_as job d n role t m e orderly kept number step emission role_is is;
+      possible = subst (λ (f : Envelope). IsPlannedAt d.store t.row f.message) (sym is)
+          (record { message = t.message; key = t.key; outs = t.outs; attempt = can.attempt; can = can.can; row_is = step.row_is; emission = emission });
+      mailed = mailed_as job d n role t m e orderly kept number step emission role_is is;
+    }
+
+-- a desk that emits what was planned is kept
+pub plan_kept : PlayedGrows → EqualValuesAreOne → (job : Job) (d new : DeskState) (n : ℕ) (p : Planned) → IsOrderly job → IsAtWork job d n → IsPlan job d.store n p → new ≡ with_emission d p.envelope.message → IsConsistent new.store → IsKept job d.store.role new
+plan_kept grows equal job d new n p orderly work plan changed consistent =
+    let m = p.envelope.message in
+    let step : Step = record { message = m.instance.message; row = p.row; key = key_of job n; outs = values_of job.protocol job.script m.instance.message n } in
+    let is : IsNextStep job d.store n step = record {
+      clock = plan.next.clock;
+      next = plan.next.next;
+      key_is = refl;
+      row_is = plan.possible.row_is ∙ ap (λ (k : List Value). Some k) (sym plan.possible.emission.key_is ∙ plan.next.emission.key_is);
+      outs_are = refl;
+    } in
+    emitted_kept grows equal job d new n step m orderly work.kept work.number is plan.next.emission changed consistent

@@ -30,7 +30,9 @@ use Rattle.reorder_net.specs.Inbox.{Inbox, after_spending}
 use Rattle.adapter.specs.Desk.{DeskState}
 use Rattle.adapter.specs.Kept.{IsFor, IsKept}
 use Rattle.adapter.specs.Steps.{IsSpent}
+use Rattle.adapter.specs.inner.Received.{IsAwaited, Receives}
 use Rattle.adapter.proofs.EventLemmas.{two_roles, with_event}
+use Rattle.adapter.proofs.InboxLemmas.{with_inbox}
 use Rattle.adapter.proofs.PendingLemmas.{HasNone}
 
 -- with a copy less an envelope is still for the role
@@ -102,3 +104,21 @@ after_receipt grows equal job role d e Repeat store kept is receipt consistent =
     subst (λ (s : StoreState). IsKept job role (record d { store = s })) (sym receipt.1) kept
 after_receipt grows equal job role d e (Differs p known arrived) store kept is receipt consistent =
     subst (λ (s : StoreState). IsKept job role (record d { store = s })) (sym receipt.2) kept
+
+-- the message of an envelope for the role is awaited
+pub awaited : (job : Job) (role : ℕ) (d : DeskState) (e : Envelope) → IsKept job role d → IsFor job role e → IsAwaited d.store e.message
+awaited job role d e kept is clock stamp = record {
+  fits = subst (λ (x : Expanded). Fits x e.message.instance) (sym kept.protocol_is) is.fits;
+  own = ap (λ (x : Expanded). (message_of x e.message.instance.message).receiver) kept.protocol_is ∙ is.own ∙ sym kept.role_is;
+  held = All-contains (Contains d.store.keys) job.script.keys e.message.instance.key kept.held is.workload;
+  spare = omega (arith, kept.room);
+  clock = clock;
+  stamp = stamp;
+}
+
+-- once it is received and a copy is spent, the desk is kept
+pub taken_kept : PlayedGrows → EqualValuesAreOne → (job : Job) (role : ℕ) (d : DeskState) (i : ℕ) (e : Envelope) (r : Receipt) (store : StoreState) (inbox : Inbox) → IsKept job role d → slice_get d.inbox.envelopes i ≡ Some e → Receives d.store e.message (Some r) store → IsConsistent store → IsSpent r d.inbox i e inbox → IsKept job role (record { store = store; inbox = inbox })
+taken_kept grows equal job role d i e r store inbox kept at receives consistent spent =
+    let is : IsFor job role e = All-contains (IsFor job role) d.inbox.envelopes e kept.inbox (member_at d.inbox.envelopes i e at) in
+    with_inbox job role (record d { store = store }) inbox (after_receipt grows equal job role d e r store kept is receives.2 consistent)
+    (left_held job role d.inbox inbox i e r kept.inbox at spent)

@@ -1,17 +1,16 @@
 ghost use Rattle.std.specs.Prelude.{◌≡◌, ◌<◌, length, None, IfSome, MatchOption};
-ghost use Rattle.local_store.specs.Consistent.{IsConsistent};
 ghost use Rattle.local_store.specs.Emission.{IsEmission};
 ghost use Rattle.reorder_net.specs.Mail.{IsPosted};
 ghost use Rattle.adapter.specs.Kept.{IsFor, IsKept};
 ghost use Rattle.adapter.specs.Next.{IsAtWork};
 ghost use Rattle.adapter.specs.Posted.{envelope_of};
 ghost use Rattle.adapter.specs.Steps.{IsNextEnvelope, after_emission, with_emission};
-ghost use Rattle.adapter.specs.inner.NextStep.{IsPossible, IsNextStep};
+ghost use Rattle.adapter.specs.inner.NextStep.{IsNextStep, IsPlan, IsPossible};
 
 use super::desk::Desk;
 use super::laws::is_orderly;
-use super::next::next_message;
-use super::step::Step;
+use super::next::{next_at, row_of};
+use super::step::{Planned, Step};
 use agent_scripts::Job;
 use bspl_types::{Envelope, Stamped, equal_values_are_one};
 use local_store::Store;
@@ -28,14 +27,9 @@ pub fn desk_emit(desk: &mut Desk, job: &Job, n: u64) -> Option<Envelope>
     ensures changed { desk.new ≡ after_emission desk.old result }
     ensures posted { IfSome result (λ e. 0 < e.copies → IsFor job.now e.to e) }
 {
-    // laws: of the script; a played event leaves the events played; equal keys are one key
-    is_orderly(job);
-    played_grows();
-    equal_values_are_one();
-    let step = next_step(desk, job, n)?;
-    let role = desk.store.role();
-    let message = emit_step(desk, &step);
-    Some(envelope_of(job, role, message, n))
+    let planned = plan(desk, job, n)?;
+    emit_planned(desk, job, n, &planned);
+    Some(planned.envelope)
 }
 
 /// The envelope that `desk_emit` would answer: there is one at most, as `next_envelopes_are_one`
@@ -47,11 +41,42 @@ pub fn desk_plan(desk: &Desk, job: &Job, n: u64) -> Option<Envelope>
     ensures mailed { IfSome result
         (λ e. 0 < e.copies → IsPosted job.now desk.now.store.role e.to e) }
 {
+    let planned = plan(desk, job, n)?;
+    Some(planned.envelope)
+}
+
+/// The emission of the agent's next step at the workload number, if it has one.
+pub(crate) fn plan(desk: &Desk, job: &Job, n: u64) -> Option<Planned>
+    requires { IsAtWork job.now desk.now n }
+    ensures { MatchOption result
+        (IsNextEnvelope job.now desk.now.store n None)
+        (IsPlan job.now desk.now.store n) }
+{
     // law: the script fits its protocol
     is_orderly(job);
     let step = next_step(desk, job, n)?;
     let message = plan_step(&desk.store, &step);
-    Some(envelope_of(job, desk.store.role(), message, n))
+    Some(Planned {
+        row: step.row,
+        envelope: envelope_of(job, desk.store.role(), message, n),
+    })
+}
+
+/// The store emits what was planned.
+pub(crate) fn emit_planned(desk: &mut Desk, job: &Job, n: u64, planned: &Planned)
+    requires at_work { IsAtWork job.now desk.old n }
+    requires plan { IsPlan job.now desk.old.store n planned.now }
+    ensures kept { IsKept job.now desk.old.store.role desk.new }
+    ensures changed { desk.new ≡ with_emission desk.old planned.now.envelope.message }
+{
+    // laws: of the script; a played event leaves the events played; equal keys are one key
+    is_orderly(job);
+    played_grows();
+    equal_values_are_one();
+    desk.store
+        .append_planned(planned.row, &planned.envelope.message);
+    // law: each store is consistent
+    desk.store.is_consistent();
 }
 
 /// The agent's step at the workload number, if it has one and the clock can go on.
@@ -64,10 +89,12 @@ fn next_step(desk: &Desk, job: &Job, n: u64) -> Option<Step>
     if desk.store.clock() == u64::MAX {
         return None;
     }
-    let message = next_message(desk, job, n)?;
+    let row = row_of(desk, job, n);
+    let message = next_at(desk, job, row, n)?;
     let script = job.script();
     Some(Step {
         message,
+        row,
         key: script.key(n),
         outs: script.values(job.admitted(), message, n),
     })
@@ -88,24 +115,10 @@ fn envelope_of(job: &Job, role: u32, message: Stamped, n: u64) -> Envelope
     }
 }
 
-/// The store emits the step's message.
-fn emit_step(desk: &mut Desk, step: &Step) -> Stamped
-    requires { IsPossible desk.old.store step.now }
-    ensures sent { IsEmission desk.old.store step.now.message step.now.key step.now.outs result }
-    ensures changed { desk.new ≡ with_emission desk.old result }
-    ensures consistent { IsConsistent desk.new.store }
-{
-    let outs = step.outs.as_slice();
-    let message = desk.store.emit(step.message, &step.key, outs).unwrap();
-    // law: each store is consistent
-    desk.store.is_consistent();
-    message
-}
-
 /// What the store would emit at the step.
 fn plan_step(store: &Store, step: &Step) -> Stamped
     requires { IsPossible store.now step.now }
     ensures { IsEmission store.now step.now.message step.now.key step.now.outs result }
 {
-    store.planned(step.message, &step.key, step.outs.as_slice())
+    store.planned(step.row, step.message, &step.key, step.outs.as_slice())
 }

@@ -1,12 +1,12 @@
-ghost use Rattle.std.specs.Prelude.{◌≡◌, MatchOption, true, false};
-ghost use Rattle.std.specs.List.{All, Contains};
+ghost use Rattle.std.specs.Prelude.{◌≡◌, ◌<◌, length, slice_get, Some, MatchOption, true, false};
+ghost use Rattle.std.specs.List.{All};
 ghost use Rattle.agent_scripts.specs.Statement.{IsSentBy};
 ghost use Rattle.local_store.specs.State.{AreIndices, key_at};
 ghost use Rattle.adapter.specs.Next.{CanEmitNext, IsAtWork, IsFirstToEmit, IsNext, IsPassedOver};
+ghost use Rattle.adapter.specs.Rules.{key_of};
 
 use super::desk::Desk;
 use agent_scripts::{Job, Script, scripts_fit};
-use bspl_types::Key;
 use local_store::Store;
 
 /// The message that the role's agent emits next at the workload number: the first one of its order
@@ -15,22 +15,40 @@ pub fn next_message(desk: &Desk, job: &Job, n: u64) -> Option<u32>
     requires { IsAtWork job.now desk.now n }
     ensures { IsNext job.now desk.now.store n result }
 {
+    next_at(desk, job, row_of(desk, job, n), n)
+}
+
+/// The row of the workload number's key. Keys are held in the order of their numbers, unless others
+/// were added before, so the row is looked for at the number.
+pub(crate) fn row_of(desk: &Desk, job: &Job, n: u64) -> usize
+    requires { IsAtWork job.now desk.now n }
+    ensures { slice_get desk.now.store.keys result ≡ Some (key_of job.now n) }
+{
+    desk.store().row_near(&job.script().key(n), n as usize - 1)
+}
+
+/// The message that is next at the number, whose key has the row.
+pub(crate) fn next_at(desk: &Desk, job: &Job, row: usize, n: u64) -> Option<u32>
+    requires at_work { IsAtWork job.now desk.now n }
+    requires row { slice_get desk.now.store.keys row ≡ Some (key_of job.now n) }
+    ensures { IsNext job.now desk.now.store n result }
+{
     // law: an order has messages alone that its role sends
     scripts_fit();
     let script = job.script();
     let order = script.order(desk.store().role());
-    first_to_emit(desk.store(), script, order.as_slice(), &script.key(n), n)
+    first_to_emit(desk.store(), script, order.as_slice(), row, n)
 }
 
-/// The first message of the order that can be emitted next at the number.
-fn first_to_emit(store: &Store, script: &Script, order: &[u32], key: &Key, n: u64) -> Option<u32>
+/// The first message of the order that can be emitted next at the number, which is that of the
+/// row's key.
+fn first_to_emit(store: &Store, script: &Script, order: &[u32], row: usize, n: u64) -> Option<u32>
     requires sent { All (IsSentBy store.now.protocol store.now.role) order.now }
-    requires held { Contains store.now.keys key.now }
+    requires held { row < length store.now.keys }
     ensures { MatchOption result
-        (All (IsPassedOver script.now store.now n key.now) order.now)
-        (IsFirstToEmit script.now store.now n key.now order.now) }
+        (All (IsPassedOver script.now store.now n (key_at store.now row)) order.now)
+        (IsFirstToEmit script.now store.now n (key_at store.now row) order.now) }
 {
-    let row = store.row(key);
     for m in order {
         if can_emit_next(store, script, *m, row, n) {
             return Some(*m);

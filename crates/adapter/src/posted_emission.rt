@@ -6,8 +6,8 @@ ghost use Rattle.adapter.specs.Posted.{arriving};
 ghost use Rattle.adapter.specs.State.{IsStateKept};
 ghost use Rattle.adapter.specs.StateSteps.{EmitsNext, IsStateAtWork};
 
-use super::emission::{desk_emit, desk_plan};
-use super::laws::{is_orderly, next_envelopes_are_one};
+use super::emission::{emit_planned, plan};
+use super::laws::is_orderly;
 use super::role_state::RoleState;
 use agent_scripts::{Job, Scene};
 use bspl_types::{Envelope, equal_values_are_one};
@@ -31,15 +31,15 @@ pub fn step_emit<N: Scene, W: Wait>(
     ensures ok { IfOk result (λ e. EmitsNext job.now n state.old e state.new) }
     ensures err { OnErr result (state.new ≡ state.old) }
 {
-    // laws: of the script; the desk emits what it planned; equal keys are one key
+    // laws: of the script; equal keys are one key
     is_orderly(job);
-    next_envelopes_are_one();
     equal_values_are_one();
-    let Some(planned) = desk_plan(&state.desk, job, n) else {
+    let Some(planned) = plan(&state.desk, job, n) else {
         return Ok(None);
     };
-    post_planned(rt, post, &mut state.passes, planned)?;
-    Ok(desk_emit(&mut state.desk, job, n))
+    post_planned(rt, post, &mut state.passes, &planned.envelope)?;
+    emit_planned(&mut state.desk, job, n, &planned);
+    Ok(Some(planned.envelope))
 }
 
 /// Puts the envelope into its receiver's mailbox, unless it is lost.
@@ -47,19 +47,19 @@ fn post_planned<N: Scene, W: Wait>(
     rt: &W,
     post: &Post<N>,
     passes: &mut RolePasses,
-    e: Envelope,
+    e: &Envelope,
 ) -> Result<(), NoMemory>
     requires passes { (sent : ℕ → List Envelope) × (taken : List Envelope) ×
-        ArePasses post.now e.from sent taken passes.old }
-    requires known { 0 < e.copies → e.to < length post.now }
-    requires posted { 0 < e.copies → IsPosted N.job e.from e.to e }
+        ArePasses post.now e.now.from sent taken passes.old }
+    requires known { 0 < e.now.copies → e.now.to < length post.now }
+    requires posted { 0 < e.now.copies → IsPosted N.job e.now.from e.now.to e.now }
     ensures ok { OnOk result ((sent : ℕ → List Envelope) (taken : List Envelope) →
-        ArePasses post.now e.from sent taken passes.old →
-        ArePasses post.now e.from (λ q. sent q ++ arriving q e) taken passes.new) }
+        ArePasses post.now e.now.from sent taken passes.old →
+        ArePasses post.now e.now.from (λ q. sent q ++ arriving q e.now) taken passes.new) }
     ensures err { OnErr result (passes.new ≡ passes.old) }
 {
     if e.copies == 0 {
         return Ok(());
     }
-    post.put(rt, passes, e)
+    post.put(rt, passes, *e)
 }

@@ -1,17 +1,18 @@
 ghost use Rattle.std.specs.Prelude.{◌≡◌, ◌<◌, List, length, slice_get, Some};
 ghost use Rattle.bspl_types.specs.declared.envelope.Envelope.{Envelope};
-ghost use Rattle.stamped_history.specs.Entries.{clock_limit, last_stamp};
+ghost use Rattle.local_store.specs.Consistent.{IsConsistent};
 ghost use Rattle.reorder_net.specs.Pass.{BoxId};
 ghost use Rattle.adapter.specs.Kept.{IsKept};
 ghost use Rattle.adapter.specs.State.{IsStateKept};
 ghost use Rattle.adapter.specs.StateSteps.{TakesOne};
-ghost use Rattle.adapter.specs.Steps.{IsSpent, IsTaken, IsTaking, after_pick};
+ghost use Rattle.adapter.specs.Steps.{IsSpent, IsTaking, after_pick};
+ghost use Rattle.adapter.specs.inner.Received.{IsAwaited, Receives, TakesAt};
 
 use super::desk::Desk;
 use super::role_state::RoleState;
 use agent_scripts::Job;
-use bspl_types::equal_values_are_one;
-use local_store::Receipt;
+use bspl_types::{Stamped, equal_values_are_one};
+use local_store::{Receipt, Store};
 use rand_pcg::Pcg32;
 use reorder_net::{Inbox, pick};
 use stamped_history::played_grows;
@@ -29,11 +30,7 @@ pub fn desk_take(desk: &mut Desk, job: &Job, rng: &mut Pcg32) -> Option<Receipt>
     if held == 0 {
         return None;
     }
-    let index = pick(rng, held);
-    if desk.store.clock() == u64::MAX || desk.inbox.at(index).message.stamp == u64::MAX {
-        return None;
-    }
-    Some(take_at(desk, job, index))
+    take_at(desk, job, pick(rng, held))
 }
 
 /// The state's desk takes as `desk_take` does. It waits for nobody and takes no memory.
@@ -48,25 +45,37 @@ pub fn step_take(state: &mut RoleState, job: &Job, rng: &mut Pcg32) -> Option<Re
     desk_take(&mut state.desk, job, rng)
 }
 
-/// Takes the envelope at the index.
-fn take_at(desk: &mut Desk, job: &Job, index: usize) -> Receipt
+/// Takes the envelope at the index, unless the clock or its message's stamp is at its last value.
+/// It is looked up once: the store receives the message where it stands.
+fn take_at(desk: &mut Desk, job: &Job, index: usize) -> Option<Receipt>
     requires kept { IsKept job.now desk.old.store.role desk.old }
     requires index { index < length desk.old.inbox.envelopes }
-    requires clock { last_stamp desk.old.store.entries < clock_limit }
-    requires stamp { (e : Envelope) → slice_get desk.old.inbox.envelopes index ≡ Some e →
-        e.message.stamp < clock_limit }
     ensures kept { IsKept job.now desk.old.store.role desk.new }
-    ensures taken { IsTaken index desk.old result desk.new }
+    ensures taken { TakesAt index desk.old result desk.new }
 {
     // laws: a played event leaves the events played, and equal keys are one key
     played_grows();
     equal_values_are_one();
-    let envelope = *desk.inbox.at(index);
-    let receipt = desk.store.receive(&envelope.message);
-    // law: each store is consistent
-    desk.store.is_consistent();
+    let envelope = desk.inbox.at(index);
+    let receipt = receive(&mut desk.store, &envelope.message)?;
     spend(&mut desk.inbox, index, &receipt);
-    receipt
+    Some(receipt)
+}
+
+/// The store receives the message, unless its clock or the message's stamp is at its last value.
+fn receive(store: &mut Store, m: &Stamped) -> Option<Receipt>
+    requires { IsAwaited store.old m.now }
+    ensures received { Receives store.old m.now result store.new }
+    ensures consistent { IsConsistent store.new }
+{
+    // law: each store is consistent
+    store.is_consistent();
+    if store.clock() == u64::MAX || m.stamp == u64::MAX {
+        return None;
+    }
+    let receipt = store.receive(m);
+    store.is_consistent();
+    Some(receipt)
 }
 
 /// Spends a copy of the envelope at the index, unless it differs.

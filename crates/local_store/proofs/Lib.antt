@@ -10,6 +10,7 @@ pub mod BlockLemmas
 pub mod SoundLemmas
 pub mod DifferenceLemmas
 pub mod ReceiptLemmas
+pub mod NextLemmas
 pub mod EmissionLemmas
 pub mod FillingLemmas
 pub mod KeyOrderLemmas

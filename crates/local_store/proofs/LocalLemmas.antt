@@ -2,7 +2,8 @@
 use Rattle.std.proofs.Common.{◌≡◌, ℕ, ◌⊎◌, List, [], ◌∷◌, ◌++◌, length, get_or, drop, inl, inr, refl, sym, ap, ◌∙◌, subst, arith}
 use Rattle.std.specs.List.{All, Contains}
 use Rattle.std.proofs.lemmas.List.{map_push}
-use Rattle.std.proofs.lemmas.List.Elements.{All-contains, All-push}
+use Rattle.std.proofs.lemmas.List.Elements.{All-contains, All-push, Contains-append_right, Contains-get_or}
+use Rattle.list_base.proofs.Members.{here}
 use Rattle.bspl_types.specs.declared.event.Event.{Event}
 use Rattle.bspl_types.specs.declared.expanded.Expanded.{Expanded}
 use Rattle.bspl_types.specs.declared.protocol.Carried.{Carried}
@@ -16,7 +17,7 @@ use Rattle.stamped_history.specs.declared.entry.Entry.{Entry}
 use Rattle.stamped_history.specs.Entries.{events_of, last_stamp}
 use Rattle.stamped_history.specs.Local.{EachFollows, IsLocal, KnowsOneValue, MayFollowAs}
 use Rattle.local_store.specs.Reception.{AllAgree, Agrees}
-use Rattle.local_store.proofs.InstanceLemmas.{knows_cases, one_pair}
+use Rattle.local_store.proofs.InstanceLemmas.{knows_cases, knows_more, knows_own, one_pair}
 
 -- the events, with one more
 pub events_more : (entries : List Entry) (e : Entry) → events_of (entries ++ e ∷ []) ≡ events_of entries ++ e.event ∷ []
@@ -76,4 +77,31 @@ local_more law x role entries e admitted local fits own next agree =
       own = subst (All (λ f. role_of x f ≡ role)) more (All-push (λ f. role_of x f ≡ role) (events_of entries) e.event local.own own);
       follows = follows_more x entries e local.follows next;
       one_value = subst (KnowsOneValue x) more (one_value_more law x admitted (events_of entries) e.event local.one_value agree);
+    }
+
+-- the event is the last one
+last_among : (events : List Event) (e : Event) → Contains (events ++ e ∷ []) e
+last_among events e = Contains-append_right events (e ∷ []) e (here e [])
+
+-- what is known after an event agrees with its values
+agree_last : (x : Expanded) (history : List Event) (e : Event) → KnowsOneValue x (history ++ e ∷ []) → AllAgree x history (instance_of e)
+agree_last x history e one k d within v known =
+    let pair = get_or (pairs x (instance_of e)) k d in
+    let own = knows_own x (history ++ e ∷ []) e (instance_of e).key pair.0 pair.1 (last_among history e) refl (Contains-get_or (pairs x (instance_of e)) k d within) in
+    one (instance_of e).key pair.0.param v pair.1 (knows_more x history e (instance_of e).key pair.0.param v known) own
+
+-- the last entry of a local history is the role's, may follow the others, and agrees with what they know
+pub record MayComeLast (x : Expanded) (role : ℕ) (entries : List Entry) (e : Entry) : Type 0 where
+  pub fits : Fits x (instance_of e.event)
+  pub own : role_of x e.event ≡ role
+  pub follows : MayFollowAs x entries e.event e.stamp e.number
+  pub agree : AllAgree x (events_of entries) (instance_of e.event)
+
+pub local_last : (x : Expanded) (role : ℕ) (entries : List Entry) (e : Entry) → IsLocal x role (entries ++ e ∷ []) → MayComeLast x role entries e
+local_last x role entries e local =
+    let more = events_more entries e in record {
+      fits = All-contains (λ f. Fits x (instance_of f)) (events_of entries ++ e.event ∷ []) e.event (subst (IsRun x) more local.fits) (last_among (events_of entries) e.event);
+      own = All-contains (λ f. role_of x f ≡ role) (events_of entries ++ e.event ∷ []) e.event (subst (All (λ f. role_of x f ≡ role)) more local.own) (last_among (events_of entries) e.event);
+      follows = local.follows entries [] e refl;
+      agree = agree_last x (events_of entries) e.event (subst (KnowsOneValue x) more local.one_value);
     }

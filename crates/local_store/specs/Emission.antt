@@ -1,5 +1,5 @@
 -- Which instance a store emits, and with which stamp and number.
-use Rattle.std.specs.Prelude.{◌≡◌, ℕ, ◌+◌, ◌<◌, List, map, length}
+use Rattle.std.specs.Prelude.{◌≡◌, ℕ, ◌+◌, ◌<◌, Some, List, map, length, slice_get}
 use Rattle.std.specs.List.{Contains, filter}
 use Rattle.bspl_types.specs.declared.envelope.Stamped.{Stamped}
 use Rattle.bspl_types.specs.declared.event.Instance.{Instance}
@@ -9,7 +9,7 @@ use Rattle.bspl_types.specs.declared.value.Value.{Value}
 use Rattle.bspl_types.specs.Choice.{chosen_params, is_chosen}
 use Rattle.bspl_types.specs.Expansion.{message_of}
 use Rattle.bspl_types.specs.Instance.{Carries, Fits, pairs}
-use Rattle.bspl_types.specs.Knowledge.{Knows}
+use Rattle.bspl_types.specs.Knowledge.{CanEmit, Knows}
 use Rattle.stamped_history.specs.Entries.{clock_limit, last_stamp}
 use Rattle.local_store.specs.State.{StoreState, acts_of}
 
@@ -43,3 +43,13 @@ pub record IsEmission (s : StoreState) (message : ℕ) (key outs : List Value) (
   pub outs_are : chosen_values s.protocol m.instance ≡ outs
   pub stamp_is : m.stamp ≡ last_stamp s.entries + 1
   pub number_is : m.number ≡ length s.entries
+
+-- what was planned under the row's key can be emitted now: it is the emission of an attempt
+pub record IsPlannedAt (s : StoreState) (row : ℕ) (m : Stamped) : Type 0 where
+  pub message : ℕ
+  pub key : List Value
+  pub outs : List Value
+  pub attempt : IsAttempt s message key outs
+  pub can : CanEmit s.protocol (acts_of s) message key
+  pub row_is : slice_get s.keys row ≡ Some key
+  pub emission : IsEmission s message key outs m

@@ -3,4 +3,5 @@ pub mod State
 pub mod Consistent
 pub mod Emission
 pub mod Reception
+pub mod Laws
 pub mod inner

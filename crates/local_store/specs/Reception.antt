@@ -64,3 +64,12 @@ IsReceipt old m (Differs param kept arrived) new =
     IsFirstDifference old.protocol (acts_of old) m.instance param kept arrived × (new ≡ old)
 IsReceipt old m Fresh new =
     (¬ WasReceived old m) × AllAgree old.protocol (acts_of old) m.instance × (new ≡ received old m)
+
+-- the answer that the store gives to the message if it comes next
+abbrev pub IsForeseen : StoreState → Stamped → Receipt → Type 0
+IsForeseen s m Repeat = WasReceived s m
+IsForeseen s m (Differs param kept arrived) =
+    (¬ WasReceived s m) ×
+    IsFirstDifference s.protocol (acts_of s) m.instance param kept arrived
+IsForeseen s m Fresh =
+    (¬ WasReceived s m) × AllAgree s.protocol (acts_of s) m.instance

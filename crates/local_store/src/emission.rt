@@ -1,11 +1,11 @@
-ghost use Rattle.std.specs.Prelude.{◌≡◌, ◌↔◌, ◌<◌, length, IfErr, IfOk, IsOk};
+ghost use Rattle.std.specs.Prelude.{◌≡◌, ◌↔◌, ◌<◌, length, slice_get, Some, IfErr, IfOk, IsOk};
 ghost use Rattle.std.specs.Prelude.{OnErr};
 ghost use Rattle.std.specs.List.{Contains};
 ghost use Rattle.bspl_types.specs.declared.event.Event.TheVariants.{Emit};
 ghost use Rattle.bspl_types.specs.Expansion.{message_of};
 ghost use Rattle.bspl_types.specs.Knowledge.{CanEmit};
 ghost use Rattle.role_knowledge.specs.Blocked.{IsFirstBlock};
-ghost use Rattle.local_store.specs.Emission.{IsAttempt, IsEmission, IsProposal};
+ghost use Rattle.local_store.specs.Emission.{IsAttempt, IsEmission, IsPlannedAt, IsProposal};
 ghost use Rattle.local_store.specs.State.{acts_of, with_entry};
 
 use super::act::Kind;
@@ -36,13 +36,25 @@ impl Store {
         Ok(m)
     }
 
-    /// What `emit` answers of a message that can be emitted. Nothing changes.
-    pub fn planned(&self, message: u32, key: &Key, outs: &[Value]) -> Stamped
+    /// What `emit` answers of a message that can be emitted under the row's key. Nothing changes.
+    pub fn planned(&self, row: usize, message: u32, key: &Key, outs: &[Value]) -> Stamped
+        requires row { slice_get self.now.keys row ≡ Some key.now }
         requires proposal { IsProposal self.now message key.now outs.now }
         requires can { CanEmit self.now.protocol (acts_of self.now) message key.now }
         ensures { IsEmission self.now message key.now outs.now result }
     {
-        self.emission(self.held_row(key), message, key, outs)
+        self.emission(row, message, key, outs)
+    }
+
+    /// Emits what was planned under the row's key. It asks nothing again, and takes no memory.
+    pub fn append_planned(&mut self, row: usize, m: &Stamped)
+        requires { IsPlannedAt self.old row m.now }
+        ensures { self.new ≡
+            with_entry self.old (Emit m.now.instance) m.now.stamp m.now.number }
+    {
+        // law: each store is consistent
+        self.is_consistent();
+        self.append(Kind::Emitted, row, &m.instance, m.stamp, m.number);
     }
 
     /// Whether the message can be emitted under the key, as `emit` answers it.

@@ -1,4 +1,4 @@
-ghost use Rattle.std.specs.Prelude.{◌≡◌, ◌↔◌, ◌<◌, length, IsTrue, MatchOption};
+ghost use Rattle.std.specs.Prelude.{◌≡◌, ◌↔◌, ◌<◌, length, slice_get, Some, IsTrue, MatchOption};
 ghost use Rattle.std.specs.List.{Contains};
 ghost use Rattle.bspl_types.specs.Knowledge.{CanEmit, IsKnown, Knows};
 ghost use Rattle.enactment_model.specs.Liveness.{IsEmitted};
@@ -33,12 +33,17 @@ impl Store {
         self.is_of_role(Kind::Emitted, message) && self.happened(message, key)
     }
 
-    /// The index of a held key, from 0: the row by which other calls know it.
-    pub fn row(&self, key: &Key) -> usize
+    /// The index of a held key, from 0: the row by which other calls know it. The guess is looked at
+    /// first, so a right one saves the search.
+    pub fn row_near(&self, key: &Key, guess: usize) -> usize
         requires { Contains self.now.keys key.now }
+        ensures row { slice_get self.now.keys result ≡ Some key.now }
         ensures within { result < length self.now.keys }
         ensures key { key_at self.now result ≡ key.now }
     {
+        if guess < self.keys.len() && self.keys.at(guess).same(key) {
+            return guess;
+        }
         self.held_row(key)
     }
 

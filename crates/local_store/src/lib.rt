@@ -12,11 +12,14 @@ mod filled_values;
 mod grid;
 mod history;
 mod knowledge;
+mod laws;
 mod lookup;
+mod next_entry;
 mod receipt;
 mod reception;
 mod row_values;
 mod store;
 
+pub use laws::next_stays_local;
 pub use receipt::Receipt;
 pub use store::Store;

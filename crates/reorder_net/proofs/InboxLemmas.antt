@@ -1,16 +1,18 @@
 -- What an inbox holds and counts, as an envelope comes and as copies leave.
-use Rattle.std.proofs.Common.{◌≡◌, ℕ, ◌+◌, ◌-◌, ◌/◌, ◌<◌, true, false, cond, List, [], ◌∷◌, ◌++◌, length, get_or, take, slice_get, slice_set, remove, Some, ⊎_elim, sym, ap, ◌∙◌, subst, arith, eq-eqb}
+use Rattle.std.proofs.Common.{◌≡◌, ℕ, ◌+◌, ◌-◌, ◌/◌, ◌<◌, Bool, true, false, cond, List, [], ◌∷◌, ◌++◌, length, map, get_or, take, slice_get, slice_set, remove, Some, ⊎_elim, refl, sym, ap, ◌∙◌, subst, arith, eq-eqb}
 use Rattle.std.specs.Prelude.{◌==◌}
-use Rattle.std.specs.List.{count_by}
+use Rattle.std.specs.List.{count_by, fold}
 use Rattle.std.proofs.lemmas.Bool.{cases_Bool, eqb-true}
 use Rattle.std.proofs.lemmas.Bool.Decides.{nat_tests}
+use Rattle.std.proofs.Math.Seq.{map-set_same}
+use Rattle.std.proofs.lemmas.List.{get_or-map, length-map, map-append, map-set, take-map}
 use Rattle.std.proofs.lemmas.List.Sums.{length-filter, sum_by-set, sum_by_push}
 use Rattle.std.proofs.lemmas.Option.{get_or_from_slice_get, same_Some, slice_get-get_or}
 use Rattle.bspl_types.specs.declared.envelope.Envelope.{Envelope}
 use Rattle.reorder_net.specs.Inbox.{after_spending}
-use Rattle.reorder_net.specs.inner.Slots.{has_copies, held, no_envelope}
+use Rattle.reorder_net.specs.inner.Slots.{has_copies, held, is_held, marks_of, no_envelope}
 use Rattle.reorder_net.specs.inner.Counts.{AreTallied, IsHeldSlot, lowered, raised}
-use Rattle.reorder_net.proofs.CountLemmas.{IsBlockOf, counts_kept, counts_lowered, counts_raised, next_block}
+use Rattle.reorder_net.proofs.CountLemmas.{IsBlockOf, counts_lowered, counts_raised, next_block}
 use Rattle.reorder_net.proofs.SlotLemmas.{passes_at, passes_no_more, passes_still}
 
 -- the blocks and groups of a slot
@@ -31,56 +33,83 @@ fails e none = grind (arith, nat_tests)
 pub item_is : {X : Type 0} (xs : List X) (i : ℕ) (x d : X) → i < length xs → x ≡ get_or xs i x → get_or xs i d ≡ x
 item_is xs i x d less at = get_or_from_slice_get xs i x d (slice_get-get_or xs i x less ∙ ap Some (sym at))
 
--- one more is counted in the next slot
-pub tallied_more : (slots : List Envelope) (blocks groups : List ℕ) (all n : ℕ) (e : Envelope) → n ≡ length slots → 0 < e.copies → AreTallied slots blocks groups all → AreTallied (slots ++ e ∷ []) (raised blocks (n / 64)) (raised groups (n / 64 / 64)) (all + 1)
-tallied_more slots blocks groups all n e number some are =
+-- as many slots are marked as have copies, after any number
+marks_after : (slots : List Envelope) (n : ℕ) → fold (λ a mark. a + cond (is_held mark) 1 0) n (map has_copies slots) ≡ fold (λ a e. a + cond (has_copies e) 1 0) n slots
+marks_after [] n = refl
+marks_after (e ∷ slots) n = marks_after slots (n + cond (has_copies e) 1 0)
+
+count_marks : (slots : List Envelope) → count_by is_held (map has_copies slots) ≡ count_by has_copies slots
+count_marks slots = marks_after slots 0
+
+-- one more is marked and counted in the next slot
+pub tallied_more : (slots : List Envelope) (marks : List Bool) (blocks groups : List ℕ) (all n : ℕ) (e : Envelope) → n ≡ length slots → 0 < e.copies → AreTallied slots marks blocks groups all → AreTallied (slots ++ e ∷ []) (marks ++ true ∷ []) (raised blocks (n / 64)) (raised groups (n / 64 / 64)) (all + 1)
+tallied_more slots marks blocks groups all n e number some are =
     let test = passes e some in
-    let block : IsBlockOf 64 (n / 64) (length slots) = subst (IsBlockOf 64 (n / 64)) number (block_of n) in
-    let group : IsBlockOf 4096 (n / 64 / 64) (length slots) = subst (IsBlockOf 4096 (n / 64 / 64)) number (group_of n) in
+    let long : n ≡ length marks = number ∙ sym (ap length are.marks_are ∙ length-map slots has_copies) in
+    let block : IsBlockOf 64 (n / 64) (length marks) = subst (IsBlockOf 64 (n / 64)) long (block_of n) in
+    let group : IsBlockOf 4096 (n / 64 / 64) (length marks) = subst (IsBlockOf 4096 (n / 64 / 64)) long (group_of n) in
     record {
-      all_is = ap (λ k. k + 1) are.all_is ∙ sym (sum_by_push (λ x. cond (has_copies x) 1 0) slots e ∙ ap (λ b. count_by has_copies slots + cond b 1 0) test);
-      blocks_are = counts_raised 64 slots blocks (n / 64) e are.blocks_are block (next_block 64 slots blocks (n / 64) are.blocks_are block) test;
-      groups_are = counts_raised 4096 slots groups (n / 64 / 64) e are.groups_are group (next_block 4096 slots groups (n / 64 / 64) are.groups_are group) test;
+      marks_are = ap (λ l. l ++ true ∷ []) are.marks_are ∙ ap (λ mark. map has_copies slots ++ mark ∷ []) (sym test) ∙ sym (map-append has_copies slots (e ∷ []));
+      all_is = ap (λ k. k + 1) are.all_is ∙ sym (sum_by_push (λ x. cond (is_held x) 1 0) marks true);
+      blocks_are = counts_raised 64 marks blocks (n / 64) true are.blocks_are block (next_block 64 marks blocks (n / 64) are.blocks_are block) refl;
+      groups_are = counts_raised 4096 marks groups (n / 64 / 64) true are.groups_are group (next_block 4096 marks groups (n / 64 / 64) are.groups_are group) refl;
     }
 
--- one less is counted in a slot that loses its last copy
-pub tallied_less : (slots : List Envelope) (blocks groups : List ℕ) (all i s : ℕ) (e : Envelope) → IsHeldSlot slots i s → e.copies ≡ 0 → AreTallied slots blocks groups all → AreTallied (slice_set slots s e) (lowered blocks (s / 64)) (lowered groups (s / 64 / 64)) (all - 1)
-tallied_less slots blocks groups all i s e is none are =
-    let test = passes (get_or slots s no_envelope) is.some in
-    let weight : Envelope → ℕ = λ x. cond (has_copies x) 1 0 in
-    let was : weight (get_or slots s no_envelope) ≡ 1 = ap (λ p. cond p 1 0) test in
-    let now : weight e ≡ 0 = ap (λ p. cond p 1 0) (fails e none) in
-    let changed : count_by has_copies (slice_set slots s e) + weight (get_or slots s no_envelope) ≡ count_by has_copies slots + weight e = sum_by-set weight slots s e no_envelope is.within in
+-- one less is marked and counted, as a slot loses its last copy
+pub tallied_less : (slots : List Envelope) (marks : List Bool) (blocks groups : List ℕ) (all i s : ℕ) (e : Envelope) → IsHeldSlot marks i s → e.copies ≡ 0 → AreTallied slots marks blocks groups all → AreTallied (slice_set slots s e) (slice_set marks s false) (lowered blocks (s / 64)) (lowered groups (s / 64 / 64)) (all - 1)
+tallied_less slots marks blocks groups all i s e is none are =
+    let weight : Bool → ℕ = λ mark. cond (is_held mark) 1 0 in
+    let was : weight (get_or marks s false) ≡ 1 = ap (λ p. cond p 1 0) is.held in
+    let changed : count_by is_held (slice_set marks s false) + weight (get_or marks s false) ≡ count_by is_held marks + 0 = sum_by-set weight marks s false false is.within in
     record {
-      all_is = omega (arith, changed, was, now, are.all_is);
-      blocks_are = counts_lowered 64 slots blocks (s / 64) s e are.blocks_are (block_of s) is.within test (fails e none);
-      groups_are = counts_lowered 4096 slots groups (s / 64 / 64) s e are.groups_are (group_of s) is.within test (fails e none);
-    }
-
--- as many are counted where a slot keeps copies
-pub tallied_kept : (slots : List Envelope) (blocks groups : List ℕ) (all i s : ℕ) (e : Envelope) → IsHeldSlot slots i s → 0 < e.copies → AreTallied slots blocks groups all → AreTallied (slice_set slots s e) blocks groups all
-tallied_kept slots blocks groups all i s e is some are =
-    let test = passes (get_or slots s no_envelope) is.some in
-    let weight : Envelope → ℕ = λ x. cond (has_copies x) 1 0 in
-    let was : weight (get_or slots s no_envelope) ≡ 1 = ap (λ p. cond p 1 0) test in
-    let now : weight e ≡ 1 = ap (λ p. cond p 1 0) (passes e some) in
-    let changed : count_by has_copies (slice_set slots s e) + weight (get_or slots s no_envelope) ≡ count_by has_copies slots + weight e = sum_by-set weight slots s e no_envelope is.within in
-    record {
-      all_is = omega (arith, changed, was, now, are.all_is);
-      blocks_are = counts_kept 64 slots blocks s e are.blocks_are is.within test (passes e some);
-      groups_are = counts_kept 4096 slots groups s e are.groups_are is.within test (passes e some);
+      marks_are = ap (λ l. slice_set l s false) are.marks_are ∙ ap (slice_set (map has_copies slots) s) (sym (fails e none)) ∙ sym (map-set has_copies slots s e);
+      all_is = omega (arith, changed, was, are.all_is);
+      blocks_are = counts_lowered 64 marks blocks (s / 64) s false are.blocks_are (block_of s) is.within is.held refl;
+      groups_are = counts_lowered 4096 marks groups (s / 64 / 64) s false are.groups_are (group_of s) is.within is.held refl;
     }
 
 -- an index below the number of envelopes is counted
-pub index_counted : (slots : List Envelope) (i : ℕ) → i < length (held slots) → i < count_by has_copies slots
-index_counted slots i within = subst (λ n. i < n) (length-filter has_copies slots) within
+pub index_counted : (slots : List Envelope) (marks : List Bool) (i : ℕ) → marks ≡ marks_of slots → i < length (held slots) → i < count_by is_held marks
+index_counted slots marks i are within = subst (λ n. i < n) (length-filter has_copies slots ∙ sym (ap (count_by is_held) are ∙ count_marks slots)) within
+
+-- all that are held are counted
+pub all_counted : (slots : List Envelope) (marks : List Bool) (blocks groups : List ℕ) (all : ℕ) → AreTallied slots marks blocks groups all → all ≡ length (held slots)
+all_counted slots marks blocks groups all are = are.all_is ∙ ap (count_by is_held) are.marks_are ∙ count_marks slots ∙ sym (length-filter has_copies slots)
+
+-- the slot's envelope has copies, and as many have some in the slots before it
+pub record HasCopiesAt (slots : List Envelope) (many slot : ℕ) : Type 0 where
+  pub within : slot < length slots
+  pub some : 0 < (get_or slots slot no_envelope).copies
+  pub before : many ≡ count_by has_copies (take slot slots)
+
+-- so it is where a slot is marked
+pub copies_at : (slots : List Envelope) (marks : List Bool) (i s : ℕ) → marks ≡ marks_of slots → IsHeldSlot marks i s → HasCopiesAt slots i s
+copies_at slots marks i s are is =
+    let within : s < length slots = subst (λ n. s < n) (ap length are ∙ length-map slots has_copies) is.within in
+    let test : has_copies (get_or slots s no_envelope) ≡ true = sym (get_or-map has_copies slots s no_envelope false within) ∙ ap (λ l. get_or l s false) (sym are) ∙ is.held in
+    record {
+      within = within;
+      some = grind (arith, nat_tests, test);
+      before = is.before ∙ ap (λ l. count_by is_held (take s l)) are ∙ ap (count_by is_held) (take-map has_copies s slots) ∙ count_marks (take s slots);
+    }
+
+-- nothing changes in the tally where a slot keeps copies
+pub tallied_kept : (slots : List Envelope) (marks : List Bool) (blocks groups : List ℕ) (all i s : ℕ) (e : Envelope) → IsHeldSlot marks i s → 0 < e.copies → AreTallied slots marks blocks groups all → AreTallied (slice_set slots s e) marks blocks groups all
+tallied_kept slots marks blocks groups all i s e is some are =
+    let was = passes (get_or slots s no_envelope) (copies_at slots marks i s are.marks_are is).some in
+    record {
+      marks_are = are.marks_are ∙ sym (map-set_same has_copies slots s e no_envelope (passes e some ∙ sym was));
+      all_is = are.all_is;
+      blocks_are = are.blocks_are;
+      groups_are = are.groups_are;
+    }
 
 -- as many pass before the slot as its index says
-before_is : (slots : List Envelope) (i s : ℕ) → IsHeldSlot slots i s → length (held (take s slots)) ≡ i
+before_is : (slots : List Envelope) (i s : ℕ) → HasCopiesAt slots i s → length (held (take s slots)) ≡ i
 before_is slots i s is = length-filter has_copies (take s slots) ∙ sym is.before
 
 -- the slot's envelope is held at the index
-pub held_at : (slots : List Envelope) (i s : ℕ) (m : Envelope) → IsHeldSlot slots i s → m ≡ get_or slots s m → i < length (held slots) → slice_get (held slots) i ≡ Some m
+pub held_at : (slots : List Envelope) (i s : ℕ) (m : Envelope) → HasCopiesAt slots i s → m ≡ get_or slots s m → i < length (held slots) → slice_get (held slots) i ≡ Some m
 held_at slots i s m is at within =
     let there : get_or (held slots) i no_envelope ≡ m =
     subst (λ n. get_or (held slots) n no_envelope ≡ get_or slots s no_envelope) (before_is slots i s is) (passes_at has_copies slots s no_envelope is.within (passes (get_or slots s no_envelope) is.some))
@@ -88,7 +117,7 @@ held_at slots i s m is at within =
     slice_get-get_or (held slots) i no_envelope within ∙ ap Some there
 
 -- with a copy left the envelope stays
-pub spent_still : (slots : List Envelope) (i s : ℕ) (m less e : Envelope) → IsHeldSlot slots i s → m ≡ get_or slots s m → less ≡ record m { copies = m.copies - 1 } → 0 < less.copies → i < length (held slots) → slice_get (held slots) i ≡ Some e → held (slice_set slots s less) ≡ after_spending (held slots) i e
+pub spent_still : (slots : List Envelope) (i s : ℕ) (m less e : Envelope) → HasCopiesAt slots i s → m ≡ get_or slots s m → less ≡ record m { copies = m.copies - 1 } → 0 < less.copies → i < length (held slots) → slice_get (held slots) i ≡ Some e → held (slice_set slots s less) ≡ after_spending (held slots) i e
 spent_still slots i s m less e is at lessened some within there =
     let test = passes (get_or slots s no_envelope) is.some in
     let same : e ≡ m = same_Some e m (sym there ∙ held_at slots i s m is at within) in
@@ -98,7 +127,7 @@ spent_still slots i s m less e is at lessened some within there =
     rw more (still ∙ ap (slice_set (held slots) i) (lessened ∙ ap {A = Envelope} {B = Envelope} (λ x. record x { copies = x.copies - 1 }) (sym same)))
 
 -- with its last copy it leaves
-pub spent_last : (slots : List Envelope) (i s : ℕ) (m less e : Envelope) → IsHeldSlot slots i s → m ≡ get_or slots s m → less ≡ record m { copies = m.copies - 1 } → less.copies ≡ 0 → i < length (held slots) → slice_get (held slots) i ≡ Some e → held (slice_set slots s less) ≡ after_spending (held slots) i e
+pub spent_last : (slots : List Envelope) (i s : ℕ) (m less e : Envelope) → HasCopiesAt slots i s → m ≡ get_or slots s m → less ≡ record m { copies = m.copies - 1 } → less.copies ≡ 0 → i < length (held slots) → slice_get (held slots) i ≡ Some e → held (slice_set slots s less) ≡ after_spending (held slots) i e
 spent_last slots i s m less e is at lessened none within there =
     let test = passes (get_or slots s no_envelope) is.some in
     let same : e ≡ m = same_Some e m (sym there ∙ held_at slots i s m is at within) in

@@ -1,10 +1,8 @@
 ghost use Rattle.std.specs.Prelude.{◌≡◌, ◌+◌, ◌^◌, ◌<◌, ◌≤◌, length, take, drop};
 ghost use Rattle.std.specs.Prelude.{slice_index_or, vec_len, vec_capacity};
 ghost use Rattle.std.specs.List.{sum, count_by};
-ghost use Rattle.reorder_net.specs.inner.Slots.{has_copies};
+ghost use Rattle.reorder_net.specs.inner.Slots.{is_held};
 ghost use Rattle.reorder_net.specs.inner.Counts.{IsAbove, IsHeldSlot, lowered, raised};
-
-use bspl_types::Envelope;
 
 /// Counts one more at the index, which begins a count if it is that after the last.
 pub(crate) fn raise(counts: &mut Vec<usize>, index: usize)
@@ -45,15 +43,15 @@ pub(crate) fn first_above(counts: &[usize], from: usize, many: usize) -> (usize,
     (index, left)
 }
 
-/// The slot from one on whose envelope has copies, after as many whose envelopes have some.
-pub(crate) fn slot_after(slots: &[Envelope], from: usize, many: usize) -> usize
-    requires { many < count_by has_copies (drop from slots.now) }
-    ensures { IsHeldSlot slots.now (count_by has_copies (take from slots.now) + many) result }
+/// The slot from one on whose envelope is held, after as many that are held.
+pub(crate) fn slot_after(marks: &[bool], from: usize, many: usize) -> usize
+    requires { many < count_by is_held (drop from marks.now) }
+    ensures { IsHeldSlot marks.now (count_by is_held (take from marks.now) + many) result }
 {
     let mut slot = from;
     let mut left = many;
-    while slots[slot].copies == 0 || left > 0 {
-        if slots[slot].copies > 0 {
+    while !marks[slot] || left > 0 {
+        if marks[slot] {
             left -= 1;
         }
         slot += 1;

@@ -3,7 +3,7 @@ ghost use Rattle.std.specs.Prelude.{[]};
 ghost use Rattle.bspl_types.specs.declared.envelope.Envelope.{Envelope};
 ghost use Rattle.std.specs.List.{count_by};
 ghost use Rattle.reorder_net.specs.Inbox.{put_last, after_spending};
-ghost use Rattle.reorder_net.specs.inner.Slots.{has_copies};
+ghost use Rattle.reorder_net.specs.inner.Slots.{is_held};
 ghost use Rattle.reorder_net.specs.inner.Counts.{AreCounts, IsHeldSlot};
 
 use super::counts::{first_above, lower, raise, slot_after};
@@ -20,10 +20,12 @@ const WIDTH: usize = 64;
 ///
 /// Each envelope stays in its slot, and a slot without copies is free. How many are held is counted
 /// for blocks of slots and for groups of blocks, so an envelope is found by its index in some
-/// hundred steps, and none moves when another leaves.
+/// hundred steps, and none moves when another leaves. The steps go over marks of one byte, and not
+/// over envelopes, which are hundreds of bytes apart.
 #[derive(Drop)]
 pub struct Inbox {
     slots: Vec<Envelope>,
+    marks: Vec<bool>,
     blocks: Vec<usize>,
     groups: Vec<usize>,
     all: usize,
@@ -40,9 +42,9 @@ impl Model for Inbox {
 
     ghost view = { λ a. record { envelopes = held a.slots.items; spare = a.spare } };
 
-    ghost invariant = { λ a. AreTallied a.slots.items a.blocks.items a.groups.items a.all
-        × HaveRoom (vec_len a.slots) a.spare (vec_capacity a.slots) (vec_capacity a.blocks)
-        (vec_capacity a.groups) };
+    ghost invariant = { λ a. AreTallied a.slots.items a.marks.items a.blocks.items a.groups.items a.all
+        × HaveRoom (vec_len a.slots) a.spare (vec_capacity a.slots) (vec_capacity a.marks)
+        (vec_capacity a.blocks) (vec_capacity a.groups) };
 }
 
 impl Inbox {
@@ -52,6 +54,7 @@ impl Inbox {
     {
         Inbox {
             slots: Vec::new(alloc),
+            marks: Vec::new(alloc),
             blocks: Vec::new(alloc),
             groups: Vec::new(alloc),
             all: 0,
@@ -67,6 +70,7 @@ impl Inbox {
         ensures err { OnErr result (self.new ≡ self.old) }
     {
         self.slots.reserve(n)?;
+        self.marks.reserve(n)?;
         self.blocks.reserve(n / WIDTH + 1)?;
         self.groups.reserve(n / WIDTH / WIDTH + 1)?;
         self.spare = self.spare.max(n);
@@ -89,6 +93,7 @@ impl Inbox {
         raise(&mut self.blocks, block);
         raise(&mut self.groups, block / WIDTH);
         self.slots.push_reserved(envelope);
+        self.marks.push_reserved(true);
         self.all += 1;
         self.spare -= 1;
         Ok(())
@@ -107,7 +112,7 @@ impl Inbox {
         ensures item { slice_get self.now.envelopes i ≡ Some result.now }
         ensures some { 0 < result.now.copies }
     {
-        let slot = slot_of(&self.slots, &self.blocks, &self.groups, i);
+        let slot = slot_of(&self.marks, &self.blocks, &self.groups, i);
         &self.slots[slot]
     }
 
@@ -118,11 +123,12 @@ impl Inbox {
             self.new.envelopes ≡ after_spending self.old.envelopes i e }
         ensures spare { self.old.spare ≤ self.new.spare }
     {
-        let slot = slot_of(&self.slots, &self.blocks, &self.groups, i);
+        let slot = slot_of(&self.marks, &self.blocks, &self.groups, i);
         self.slots[slot].copies -= 1;
         if self.slots[slot].copies > 0 {
             return;
         }
+        self.marks[slot] = false;
         lower(&mut self.blocks, slot / WIDTH);
         lower(&mut self.groups, slot / WIDTH / WIDTH);
         self.all -= 1;
@@ -137,6 +143,7 @@ impl Inbox {
         if self.all == 0 {
             self.spare += self.slots.len();
             self.slots.clear();
+            self.marks.clear();
             self.blocks.clear();
             self.groups.clear();
         }
@@ -158,13 +165,13 @@ impl Inbox {
 }
 
 /// The slot of the envelope that is held at the index.
-fn slot_of(slots: &[Envelope], blocks: &[usize], groups: &[usize], i: usize) -> usize
-    requires blocks { AreCounts 64 slots.now blocks.now }
-    requires groups { AreCounts 4096 slots.now groups.now }
-    requires within { i < count_by has_copies slots.now }
-    ensures { IsHeldSlot slots.now i result }
+fn slot_of(marks: &[bool], blocks: &[usize], groups: &[usize], i: usize) -> usize
+    requires blocks { AreCounts 64 marks.now blocks.now }
+    requires groups { AreCounts 4096 marks.now groups.now }
+    requires within { i < count_by is_held marks.now }
+    ensures { IsHeldSlot marks.now i result }
 {
     let (group, left) = first_above(groups, 0, i);
     let (block, left) = first_above(blocks, group * WIDTH, left);
-    slot_after(slots, block * WIDTH, left)
+    slot_after(marks, block * WIDTH, left)
 }

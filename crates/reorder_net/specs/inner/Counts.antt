@@ -1,15 +1,15 @@
 -- How many envelopes are held in blocks and in groups of slots, so that one is found by its index.
 use Rattle.std.specs.Prelude.{◌≡◌, ℕ, ◌+◌, ◌-◌, ◌*◌, ◌<◌, ◌≤◌, ◌==◌, if◌then◌else◌}
-use Rattle.std.specs.Prelude.{List, [], ◌∷◌, ◌++◌, length, take, slice_index_or, slice_set}
+use Rattle.std.specs.Prelude.{Bool, true, false, List, [], ◌∷◌, ◌++◌, length, take, slice_index_or, slice_set}
 use Rattle.std.specs.List.{count_by, sum}
 use Rattle.bspl_types.specs.declared.envelope.Envelope.{Envelope}
-use Rattle.reorder_net.specs.inner.Slots.{has_copies, no_envelope}
+use Rattle.reorder_net.specs.inner.Slots.{is_held, marks_of}
 
 -- the counts are those of the envelopes held in each run of as many slots, and of what is left
-pub record AreCounts (width : ℕ) (slots : List Envelope) (counts : List ℕ) : Type 0 where
-  pub all : length slots ≤ width * length counts
-  pub few : width * length counts < length slots + width
-  pub sums : (b : ℕ) → sum (take b counts) ≡ count_by has_copies (take (width * b) slots)
+pub record AreCounts (width : ℕ) (marks : List Bool) (counts : List ℕ) : Type 0 where
+  pub all : length marks ≤ width * length counts
+  pub few : width * length counts < length marks + width
+  pub sums : (b : ℕ) → sum (take b counts) ≡ count_by is_held (take (width * b) marks)
 
 -- one more at the index, which may be that after the last
 abbrev pub raised : List ℕ → ℕ → List ℕ
@@ -28,19 +28,23 @@ pub record IsAbove (counts : List ℕ) (many index left : ℕ) : Type 0 where
   pub above : left < slice_index_or counts index 0
 
 -- the slot's envelope is held, and as many are held in the slots before it
-pub record IsHeldSlot (slots : List Envelope) (many slot : ℕ) : Type 0 where
-  pub within : slot < length slots
-  pub some : 0 < (slice_index_or slots slot no_envelope).copies
-  pub before : many ≡ count_by has_copies (take slot slots)
+pub record IsHeldSlot (marks : List Bool) (many slot : ℕ) : Type 0 where
+  pub within : slot < length marks
+  pub held : slice_index_or marks slot false ≡ true
+  pub before : many ≡ count_by is_held (take slot marks)
 
--- the counts of an inbox: of all slots, of blocks of 64, and of groups of 64 blocks
-pub record AreTallied (slots : List Envelope) (blocks groups : List ℕ) (all : ℕ) : Type 0 where
-  pub all_is : all ≡ count_by has_copies slots
-  pub blocks_are : AreCounts 64 slots blocks
-  pub groups_are : AreCounts 4096 slots groups
+-- the marks of the slots; the counts of an inbox: of all slots, of blocks of 64, and of groups of
+-- 64 blocks
+pub record AreTallied (slots : List Envelope) (marks : List Bool) (blocks groups : List ℕ)
+    (all : ℕ) : Type 0 where
+  pub marks_are : marks ≡ marks_of slots
+  pub all_is : all ≡ count_by is_held marks
+  pub blocks_are : AreCounts 64 marks blocks
+  pub groups_are : AreCounts 4096 marks groups
 
 -- there is room for as many more slots
-pub record HaveRoom (used spare slots blocks groups : ℕ) : Type 0 where
+pub record HaveRoom (used spare slots marks blocks groups : ℕ) : Type 0 where
   pub slot_room : used + spare ≤ slots
+  pub mark_room : used + spare ≤ marks
   pub block_room : used + spare ≤ 64 * blocks
   pub group_room : used + spare ≤ 4096 * groups

@@ -1,5 +1,5 @@
 -- How an inbox keeps its envelopes: each in a slot, which is free once it has no copies.
-use Rattle.std.specs.Prelude.{Bool, nat_lt, List, []}
+use Rattle.std.specs.Prelude.{Bool, nat_lt, List, [], map}
 use Rattle.std.specs.List.{filter}
 use Rattle.bspl_types.specs.declared.envelope.Envelope.{Envelope}
 
@@ -23,3 +23,11 @@ has_copies e = nat_lt 0 e.copies
 -- the envelopes that are held, in the order of their slots
 abbrev pub held : List Envelope → List Envelope
 held slots = filter has_copies slots
+
+-- for each slot whether its envelope is held
+abbrev pub marks_of : List Envelope → List Bool
+marks_of slots = map has_copies slots
+
+-- what a mark says
+abbrev pub is_held : Bool → Bool
+is_held mark = mark

@@ -1,36 +1,8 @@
--- What the store would emit is what the rules ask for.
-use Rattle.std.proofs.Common.{◌≡◌, ◌∙◌, ap, subst, sym}
-use Rattle.local_store.specs.Emission.{IsEmission}
-use Rattle.adapter.specs.Desk.{DeskState}
-use Rattle.adapter.specs.inner.NextStep.{IsPossible}
-use Rattle.adapter.proofs.StepLemmas.{mailed_as, planned_as, possible, posted_as}
+-- The planned envelope is the next one, and is for its receiver.
+use Rattle.adapter.proofs.PostedLemmas.{is_for}
 use Rattle.adapter.proofs.emission.desk_plan.Goals as goal
 
-pub plan_step-message-requires : goal.plan_step-message-requires
-plan_step-message-requires c =
-    subst (λ (d : DeskState). IsPossible d.store c.in_ok-step.step) (sym c.desk.view_is)
-    (possible c.args.job.now c.args.desk.now c.args.n c.in_ok-step.step c.is_orderly.ensures c.requires.kept c.requires.number c.in_ok-step.ensures)
-
-pub returns-clause-plan : goal.returns-clause-plan
-returns-clause-plan c =
-    let step = c.in_ok-step.step in
-    let role_is : c.role.result ≡ c.args.desk.now.store.role = c.role.ensures ∙ ap (λ (d : DeskState). d.store.role) c.desk.view_is in
-    let emission = subst (λ (d : DeskState). IsEmission d.store step.message step.key step.outs c.plan_step-message.result) c.desk.view_is c.plan_step-message.ensures in
-    planned_as c.args.job.now c.args.desk.now c.args.n c.role.result step c.plan_step-message.result c.envelope_of.result
-    c.is_orderly.ensures c.requires.kept c.requires.number c.in_ok-step.ensures emission role_is c.envelope_of.ensures
-
 pub returns-clause-posted : goal.returns-clause-posted
-returns-clause-posted c =
-    let step = c.in_ok-step.step in
-    let role_is : c.role.result ≡ c.args.desk.now.store.role = c.role.ensures ∙ ap (λ (d : DeskState). d.store.role) c.desk.view_is in
-    let emission = subst (λ (d : DeskState). IsEmission d.store step.message step.key step.outs c.plan_step-message.result) c.desk.view_is c.plan_step-message.ensures in
-    posted_as c.args.job.now c.args.desk.now c.args.n c.role.result step c.plan_step-message.result c.envelope_of.result
-    c.is_orderly.ensures c.requires.kept c.requires.number c.in_ok-step.ensures emission role_is c.envelope_of.ensures
-
-pub returns-clause-mailed : goal.returns-clause-mailed
-returns-clause-mailed c =
-    let step = c.in_ok-step.step in
-    let role_is : c.role.result ≡ c.args.desk.now.store.role = c.role.ensures ∙ ap (λ (d : DeskState). d.store.role) c.desk.view_is in
-    let emission = subst (λ (d : DeskState). IsEmission d.store step.message step.key step.outs c.plan_step-message.result) c.desk.view_is c.plan_step-message.ensures in
-    mailed_as c.args.job.now c.args.desk.now c.args.n c.role.result step c.plan_step-message.result c.envelope_of.result
-    c.is_orderly.ensures c.requires.kept c.requires.number c.in_ok-step.ensures emission role_is c.envelope_of.ensures
+returns-clause-posted c some =
+    let e = c.in_ok-planned.planned.envelope in
+    is_for c.args.job.now c.args.desk.now.store.role e.to e (c.in_ok-planned.ensures.mailed some)

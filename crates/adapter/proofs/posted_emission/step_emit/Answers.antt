@@ -1,5 +1,5 @@
 -- The desk emits the planned envelope, which was put first.
-use Rattle.std.proofs.Common.{None, subst, sym, refl}
+use Rattle.std.proofs.Common.{None, Some, subst, sym, refl}
 use Rattle.adapter.specs.State.{IsStateKept, StateView}
 use Rattle.adapter.specs.StateSteps.{EmitsNext, IsStateAtWork}
 use Rattle.adapter.specs.Steps.{IsNextEnvelope}
@@ -8,7 +8,7 @@ use Rattle.adapter.proofs.posted_emission.step_emit.Goals as goal
 
 pub returns-in_default-clause-ok : goal.returns-in_default-clause-ok
 returns-in_default-clause-ok g c = record {
-  next = subst (λ (x : StateView). IsNextEnvelope c.args.job.now x.desk.store c.args.n None) c.state.view_is c.in_default.ensures.plan;
+  next = subst (λ (x : StateView). IsNextEnvelope c.args.job.now x.desk.store c.args.n None) c.state.view_is c.in_default.ensures;
   desk = refl;
   taken = refl;
 }
@@ -17,20 +17,20 @@ pub returns-clause-kept : goal.returns-clause-kept
 returns-clause-kept g c =
     let job = c.args.job.now in
     let boxes = c.args.post.now in
-    let desk = c.desk_emit.new.desk in
+    let desk = c.emit_planned.new.desk in
     let s : StateView = record { desk = c.state.inside.desk; passes = c.state.inside.passes } in
     let work : IsStateAtWork job boxes s c.args.n = subst (λ (x : StateView). IsStateAtWork job boxes x c.args.n) (sym c.state.view_is) c.requires.at_work in
-    let keeps = step_keeps c.next_envelopes_are_one.ensures c.equal_values_are_one.ensures.lists job boxes s c.args.n c.in-Some.planned c.desk_emit.result desk c.post_planned.new.passes c.is_orderly.ensures work
-    c.in-Some.ensures.plan c.desk_emit.ensures.plan c.desk_emit.ensures.kept c.desk_emit.ensures.changed c.in_ok-post_planned.ensures.ok in
+    let keeps = step_keeps c.equal_values_are_one.ensures.lists job boxes s c.args.n c.in-Some.planned.envelope desk c.post_planned.new.passes c.is_orderly.ensures work
+    c.in-Some.ensures.next c.emit_planned.ensures.kept c.emit_planned.ensures.changed c.in_ok-post_planned.ensures.ok in
     subst (λ (x : StateView). IsStateKept job x.desk.store.role boxes (record { desk = desk; passes = c.post_planned.new.passes })) c.state.view_is keeps.0
 
 pub returns-clause-ok : goal.returns-clause-ok
 returns-clause-ok g c =
     let job = c.args.job.now in
     let boxes = c.args.post.now in
-    let desk = c.desk_emit.new.desk in
+    let desk = c.emit_planned.new.desk in
     let s : StateView = record { desk = c.state.inside.desk; passes = c.state.inside.passes } in
     let work : IsStateAtWork job boxes s c.args.n = subst (λ (x : StateView). IsStateAtWork job boxes x c.args.n) (sym c.state.view_is) c.requires.at_work in
-    let keeps = step_keeps c.next_envelopes_are_one.ensures c.equal_values_are_one.ensures.lists job boxes s c.args.n c.in-Some.planned c.desk_emit.result desk c.post_planned.new.passes c.is_orderly.ensures work
-    c.in-Some.ensures.plan c.desk_emit.ensures.plan c.desk_emit.ensures.kept c.desk_emit.ensures.changed c.in_ok-post_planned.ensures.ok in
-    subst (λ (x : StateView). EmitsNext job c.args.n x c.desk_emit.result (record { desk = desk; passes = c.post_planned.new.passes })) c.state.view_is keeps.1
+    let keeps = step_keeps c.equal_values_are_one.ensures.lists job boxes s c.args.n c.in-Some.planned.envelope desk c.post_planned.new.passes c.is_orderly.ensures work
+    c.in-Some.ensures.next c.emit_planned.ensures.kept c.emit_planned.ensures.changed c.in_ok-post_planned.ensures.ok in
+    subst (λ (x : StateView). EmitsNext job c.args.n x (Some c.in-Some.planned.envelope) (record { desk = desk; passes = c.post_planned.new.passes })) c.state.view_is keeps.1
