@@ -4,4 +4,5 @@ pub mod ChainLemmas
 pub mod WalkLemmas
 pub mod FailureLemmas
 pub mod LegalLemmas
+pub mod EmissionLemmas
 pub mod ConflictLemmas

@@ -82,3 +82,5 @@ unrivalled_from x e events others agree none (k, earlier, within, is, rival) =
 pub meets_from : (x : Expanded) (demand : Demand) (e : Event) (events others : List Event) → AgreeUnder (instance_of e).key events others → Meets x demand events e → Meets x demand others e
 meets_from x demands.MayFollow e events others agree meets = follows_from x e events others agree meets
 meets_from x demands.Unrivalled e events others agree meets = unrivalled_from x e events others agree meets
+meets_from x demands.Enabled (Emit i) events others agree meets = follows_from x (Emit i) events others agree meets
+meets_from x demands.Enabled (Receive i) events others agree meets = tt

@@ -1,5 +1,8 @@
--- The event that is the first of its key comes first; what private functions cite follows.
+-- The first event of a key, the first emission that is not enabled and the first of an instance;
+-- what private functions cite follows.
 pub mod FirstOfKey
+pub mod FirstDisabled
+pub mod FirstEmission
 pub mod inner
 pub use Rattle.enactment_model.specs.BadEvent
 pub use Rattle.enactment_model.specs.FirstLoose

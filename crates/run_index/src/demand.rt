@@ -2,6 +2,7 @@ ghost use Rattle.std.specs.Prelude.{◌↔◌, IsTrue};
 ghost use Rattle.std.specs.List.{Any};
 ghost use Rattle.bspl_types.specs.History.{instance_of, IsRun};
 ghost use Rattle.bspl_types.specs.Instance.{Fits};
+ghost use Rattle.run_index.specs.FirstDisabled.{IsEnabledAfter};
 ghost use Rattle.run_index.specs.inner.Demands.{IsRivalOf, Meets};
 
 use bspl_types::{Event, Expanded};
@@ -14,6 +15,8 @@ pub(crate) enum Demand {
     MayFollow,
     /// None of them is in conflict with it.
     Unrivalled,
+    /// If it is an emission, it is enabled.
+    Enabled,
 }
 
 /// Whether the event meets the demand after these events.
@@ -25,6 +28,19 @@ pub(crate) fn meets(x: &Expanded, demand: Demand, before: &[Event], event: &Even
     match demand {
         Demand::MayFollow => may_follow(x, before, event).is_ok(),
         Demand::Unrivalled => !has_rival(x, before, event),
+        Demand::Enabled => is_enabled(x, before, event),
+    }
+}
+
+/// Whether the event is a receipt, or an emission that is enabled in its sender's history.
+fn is_enabled(x: &Expanded, before: &[Event], event: &Event) -> bool
+    requires run { IsRun x.now before.now }
+    requires fits { Fits x.now (instance_of event.now) }
+    ensures { IsTrue result ↔ IsEnabledAfter x.now before.now event.now }
+{
+    match event {
+        Event::Emit(_) => may_follow(x, before, event).is_ok(),
+        Event::Receive(_) => true,
     }
 }
 

@@ -1,12 +1,14 @@
 ghost use Rattle.std.specs.Prelude.{◌≡◌, ◌+◌, ◌<◌, length, IfOk, MatchBool, slice_get, Some};
 ghost use Rattle.bspl_types.specs.declared.event.Event.{Event};
 ghost use Rattle.bspl_types.specs.History.{instance_of};
+ghost use Rattle.run_index.specs.FirstEmission.{IsFirstEmission};
 ghost use Rattle.run_index.specs.FirstOfKey.{IsFirstOfKey, IsRepeatOfKey};
 ghost use Rattle.run_index.specs.inner.Chain.{IsNextUnder};
 ghost use Rattle.run_index.specs.inner.Enactment.{HasEventsUnder};
 
 use super::enactment::add_event;
-use bspl_types::{Event, Key, Run};
+use super::occurrence::is_emission;
+use bspl_types::{Event, Instance, Key, Run};
 use key_table::{SortedKey, tied_keys_are_one};
 use list_base::{NoMemory, NumberList, Seq};
 use std::alloc::Global;
@@ -74,6 +76,21 @@ impl<'a> RunIndex<'a> {
     {
         let run = self.events();
         self.first(&run[position].instance().key) == position
+    }
+
+    /// The position of the first emission of the instance, from 0, or the length of the run.
+    pub fn first_emission(&self, instance: &Instance) -> usize
+        ensures { IsFirstEmission self.now instance.now result }
+    {
+        let run = self.events();
+        let mut position = self.first(&instance.key);
+        while position < run.len() {
+            if is_emission(&run[position], instance) {
+                return position;
+            }
+            position = self.next(position);
+        }
+        position
     }
 
     /// The position of the first event under the key, or the length of the run.

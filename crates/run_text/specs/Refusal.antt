@@ -66,6 +66,12 @@ RunIsNotRefused =
     (x : Expanded) (text : List ℕ) (run : List Event) (refusal : RunRefusal) →
     refusal ≢ NoMemory → IsRunText x text run → ¬ IsRefusedRun x text refusal
 
+-- a line is that of one event of an admitted protocol
+abbrev pub LineHasOneEvent : Type 0
+LineHasOneEvent =
+    (x : Expanded) (event other : Event) → IsAdmitted x → IsFitting x (instance_of event) →
+    IsFitting x (instance_of other) → event_line x event ≡ event_line x other → event ≡ other
+
 -- a run has no more events than its text has bytes
 abbrev pub EventsAreFewerThanBytes : Type 0
 EventsAreFewerThanBytes =

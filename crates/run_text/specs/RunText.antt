@@ -1,6 +1,6 @@
 -- The text of a run: a head, a line for each event, and `end`.
 use Rattle.std.specs.Prelude.{◌≡◌, ℕ, List, [], ◌∷◌, ◌++◌, codes, map, slice_index_or}
-use Rattle.std.specs.List.{All, flat_map}
+use Rattle.std.specs.List.{All, flat_map, join_with_byte}
 use Rattle.bspl_types.specs.declared.event.Event.{Event}
 use Rattle.bspl_types.specs.declared.event.Event.TheVariants.{Emit, Receive}
 use Rattle.bspl_types.specs.declared.event.Instance.{Instance}
@@ -29,6 +29,10 @@ instance_fields x i = (message_of x i.message).name ∷ map (value_field x.param
 abbrev pub act_word : Event → List ℕ
 act_word (Emit i) = codes "send"
 act_word (Receive i) = codes "receive"
+
+-- the line of an event without its LF: its word and the fields of its instance, one space apart
+abbrev pub event_body : Expanded → Event → List ℕ
+event_body x event = join_with_byte 32 (act_word event ∷ instance_fields x (instance_of event))
 
 -- the line of an event: its word, and the fields of its instance
 abbrev pub event_line : Expanded → Event → List ℕ

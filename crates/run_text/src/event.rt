@@ -3,8 +3,8 @@ ghost use Rattle.bspl_types.specs.declared.event.Event.{Event};
 ghost use Rattle.bspl_types.specs.declared.event.Instance.{Instance};
 ghost use Rattle.bspl_types.specs.Admission.{IsAdmitted};
 ghost use Rattle.bspl_types.specs.History.{instance_of};
-ghost use Rattle.run_text.specs.RunText.{IsFitting};
-ghost use Rattle.run_text.specs.inner.LineFields.{event_body, instance_body};
+ghost use Rattle.run_text.specs.RunText.{event_body, IsFitting};
+ghost use Rattle.run_text.specs.inner.LineFields.{instance_body};
 
 use super::fields::values_of;
 use super::key::key_of;

@@ -1,15 +1,16 @@
 ghost use Rattle.run_text.specs.Names.{NamesAreFields};
-ghost use Rattle.run_text.specs.Refusal.{EventsAreFewerThanBytes, RunIsNotRefused};
-ghost use Rattle.run_text.specs.Refusal.{TextHasOneBadLine, TextHasOneRun};
+ghost use Rattle.run_text.specs.Refusal.{EventsAreFewerThanBytes, LineHasOneEvent};
+ghost use Rattle.run_text.specs.Refusal.{RunIsNotRefused, TextHasOneBadLine, TextHasOneRun};
 
 use bspl_types::spells_once;
 
 /// A law: a text is that of one run of an admitted protocol at most, or refused for one line, and
-/// not both.
+/// not both; and a line is that of one event at most.
 pub fn reads_once()
     ensures runs { TextHasOneRun }
     ensures refusals { TextHasOneBadLine }
     ensures exclusive { RunIsNotRefused }
+    ensures events { LineHasOneEvent }
 {
     spells_once(); // law: a field spells one value at most
 }

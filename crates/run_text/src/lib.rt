@@ -9,6 +9,7 @@ mod reader;
 mod refusal;
 mod writer;
 
+pub use event::event_of;
 pub use laws::{events_are_fewer_than_bytes, names_are_fields, reads_once};
 pub use reader::read_run;
 pub use refusal::RunRefusal;

@@ -8,6 +8,7 @@ use Rattle.bspl_types.specs.declared.expanded.Expanded.{Expanded}
 use Rattle.bspl_types.specs.Expansion.{message_of}
 use Rattle.enactment_model.specs.Legal.{MayFollow}
 use Rattle.enactment_model.specs.Producers.{SharesOut}
+use Rattle.run_index.specs.FirstDisabled.{IsEnabledAfter}
 use Rattle.run_index.specs.declared.demand.Demand.{Demand}
 use Rattle.run_index.specs.declared.demand.Demand.TheVariants as demands
 
@@ -20,7 +21,9 @@ pub record IsRivalOf (x : Expanded) (event earlier : Event) : Type 0 where
   pub under : other.key ≡ instance.key
   pub shared : SharesOut (message_of x other.message) (message_of x instance.message)
 
--- the event may follow them; or none of them is in conflict with it
+-- the event may follow them; none of them is in conflict with it; or it is no emission that is not
+-- enabled
 abbrev pub Meets : Expanded → Demand → List Event → Event → Type 0
 Meets x demands.MayFollow before event = MayFollow x before event
 Meets x demands.Unrivalled before event = ¬ Any (IsRivalOf x event) before
+Meets x demands.Enabled before event = IsEnabledAfter x before event

@@ -2,7 +2,6 @@
 use Rattle.std.specs.Prelude.{◌≡◌, ℕ, ◌==◌, if◌then◌else◌, List, [], ◌∷◌, length, map}
 use Rattle.std.specs.Prelude.{Option, Some, None}
 use Rattle.std.specs.List.{All, flat_map, join_with_byte, zip}
-use Rattle.bspl_types.specs.declared.event.Event.{Event}
 use Rattle.bspl_types.specs.declared.event.Instance.{Instance}
 use Rattle.bspl_types.specs.declared.expanded.Expanded.{Expanded}
 use Rattle.bspl_types.specs.declared.protocol.Carried.{Carried}
@@ -10,8 +9,8 @@ use Rattle.bspl_types.specs.declared.protocol.ParamInfo.{ParamInfo}
 use Rattle.bspl_types.specs.declared.value.Value.{Value}
 use Rattle.bspl_types.specs.declared.value.Value.TheVariants.{Number}
 use Rattle.bspl_types.specs.Value.{IsValue}
-use Rattle.bspl_types.specs.History.{instance_of}
-use Rattle.run_text.specs.RunText.{act_word, value_field, instance_fields}
+use Rattle.run_text.specs.RunText.{value_field, instance_fields}
+pub use Rattle.run_text.specs.RunText.{event_body}
 
 -- the fields, each after a space
 abbrev pub spaced_fields : List (List ℕ) → List ℕ
@@ -37,10 +36,6 @@ pub record SpellsValues
 -- the fields of an instance, with one space between them
 abbrev pub instance_body : Expanded → Instance → List ℕ
 instance_body x i = join_with_byte 32 (instance_fields x i)
-
--- the line of an event without its LF
-abbrev pub event_body : Expanded → Event → List ℕ
-event_body x event = join_with_byte 32 (act_word event ∷ instance_fields x (instance_of event))
 
 -- the value of the parameter in these pairs, or 0
 abbrev pub value_at : ℕ → List (Carried × Value) → Value
