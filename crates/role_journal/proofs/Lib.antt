@@ -1,0 +1,11 @@
+mod PatchLemmas
+mod RecordLemmas
+mod MomentLemmas
+mod PlaceLemmas
+mod AppendLemmas
+mod KeyLemmas
+mod InstanceLemmas
+mod BodyLemmas
+mod EntryLemmas
+mod StopLemmas
+mod OneBody
