@@ -1,5 +1,7 @@
 -- The output of a call, from what was read and decided.
-use Rattle.std.proofs.Common.{◌≡◌, ℕ, ◌<◌, ◌≤◌, List, length}
+use Rattle.std.proofs.Common.{◌≡◌, ℕ, ◌<◌, ◌≤◌, Bool, List, length, Option, Some, None, sym, ◌∙◌}
+use Rattle.std.specs.Prelude.{◌↔◌, IsTrue, is_some}
+use Rattle.std.proofs.lemmas.Bool.{false≢true}
 use Rattle.dimacs.specs.declared.status.Status.{Status}
 use Rattle.dimacs.specs.declared.status.Status.TheVariants as status
 use Rattle.dimacs.specs.declared.verdict.Verdict.{Verdict}
@@ -11,6 +13,7 @@ use Rattle.dimacs.specs.RefusedLine.{StopsAt}
 use Rattle.dimacs.specs.Output.{Decides, DimacsOutput, decided, dimacs_input_limit, dimacs_usage, no_formula, read, refused_length, refused_line, too_long, usage}
 use Rattle.dimacs.specs.Status.{status_of}
 use Rattle.dimacs.specs.Verdict.{IsRightVerdict}
+use Rattle.dimacs.specs.inner.Request.{IsRequest}
 
 -- a verdict is written with its lines and its status
 pub verdict_decides : (budget : ℕ) (input : List ℕ) (verdict : Verdict) (out : List ℕ) (end : Status) → length input ≤ dimacs_input_limit → IsRightVerdict input budget verdict → out ≡ answer_text verdict → end ≡ status_of verdict → Decides budget input out end
@@ -28,3 +31,13 @@ usage_output args input out end invalid text_is status_is = rw (text_is, status_
 -- an input that is too long is refused
 pub long_output : (args : List (List ℕ)) (input out : List ℕ) (end : Status) → AsksForInput args → dimacs_input_limit < length input → out ≡ refused_length → end ≡ status.Refused → DimacsOutput args input out end
 long_output args input out end (budget, has) long text_is status_is = rw (text_is, status_is) (read budget refused_length status.Refused has (too_long long))
+
+-- what is answered to arguments that ask for no input is right for each input
+pub unasked_output : (args : List (List ℕ)) → ¬ AsksForInput args → (bytes other out : List ℕ) (end : Status) → DimacsOutput args bytes out end → DimacsOutput args other out end
+unasked_output args none bytes other _ _ (usage invalid) = usage invalid
+unasked_output args none bytes other _ _ (read budget out end has decides) = absurd (none (budget, has))
+
+-- arguments ask for the input exactly if they give a budget
+pub asks_with_budget : (args : List (List ℕ)) (budget : Option ℕ) (asked : Bool) → asked ≡ is_some budget → IsRequest args budget → IsTrue asked ↔ AsksForInput args
+asks_with_budget args None asked is invalid = (λ on. absurd (false≢true (sym is ∙ on)), λ asks. absurd (invalid asks.0 asks.1))
+asks_with_budget args (Some budget) asked is has = (λ on. (budget, has.0), λ asks. is)

@@ -36,14 +36,11 @@ impl<'a> Program<'a> for Request {
         536_870_912
     }
 
-    fn unread(&self, alloc: Global) -> Result<Option<Reply<Status>>, NoMemory> {
-        match self.budget {
-            Some(_) => Ok(None),
-            None => Ok(Some(usage(alloc)?)),
-        }
+    fn asks_input(&self) -> bool {
+        self.budget.is_some()
     }
 
-    fn read(&self, alloc: Global, input: &[u8]) -> Result<Reply<Status>, NoMemory> {
+    fn reply_to(&self, alloc: Global, input: &[u8]) -> Result<Reply<Status>, NoMemory> {
         match self.budget {
             Some(budget) => decided(alloc, budget, input),
             None => usage(alloc),

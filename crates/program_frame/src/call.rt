@@ -36,7 +36,7 @@ pub fn serve<'a, P: Program<'a>, R: Source, W: Sink>(
     match prepare::<P, R>(alloc, args, input) {
         Prepared::Replied(reply) => write_reply(Ok(reply), output),
         Prepared::Read { request, input } => {
-            write_reply(request.read(alloc, input.as_slice()), output)
+            write_reply(request.reply_to(alloc, input.as_slice()), output)
         }
         Prepared::Ended(ending) => ending,
     }

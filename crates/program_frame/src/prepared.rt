@@ -11,9 +11,9 @@ use std::alloc::Global;
 /// What a call knows before it writes anything.
 #[derive(Drop)]
 pub enum Prepared<X, S> {
-    /// The reply: it needs no input, or the input is too long.
+    /// The reply to an input that is too long.
     Replied(Reply<S>),
-    /// What the arguments request, and the whole input.
+    /// What the arguments request, and the whole input, or no bytes if they ask for none.
     Read { request: X, input: Bytes },
     /// The call ends here.
     Ended(Ending<S>),
@@ -33,10 +33,11 @@ pub fn prepare<'a, P: Program<'a>, R: Source>(
     let Ok(request) = P::request(alloc, args) else {
         return Prepared::Ended(Ending::NoMemory);
     };
-    match request.unread(alloc) {
-        Ok(None) => {}
-        Ok(Some(reply)) => return Prepared::Replied(reply),
-        Err(_) => return Prepared::Ended(Ending::NoMemory),
+    if !request.asks_input() {
+        return Prepared::Read {
+            request,
+            input: Bytes::new(alloc),
+        };
     }
     match read_all(alloc, input, request.input_limit()) {
         Ok(input) => Prepared::Read { request, input },

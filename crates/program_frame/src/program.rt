@@ -1,5 +1,5 @@
-ghost use Rattle.std.specs.Prelude.{◌≡◌, List, ℕ, ◌≤◌, ◌<◌, length, map, string_bytes, IfOk, MatchOption};
-ghost use Rattle.program_frame.specs.Program.{IsRequested};
+ghost use Rattle.std.specs.Prelude.{◌≡◌, ◌↔◌, List, ℕ, ◌≤◌, ◌<◌, length, map, string_bytes, IfOk, IsTrue};
+ghost use Rattle.program_frame.specs.Program.{IsRequested, NeedsNoInput};
 
 use super::ending::ExitStatus;
 use super::reply::Reply;
@@ -33,18 +33,18 @@ pub trait Program<'a>: Drop {
     fn input_limit(&self) -> u64
         ensures { result ≡ limit };
 
-    /// The reply that needs no input, if the arguments ask for none.
-    fn unread(&self, alloc: Global) -> Result<Option<Reply<Self::Status>>, NoMemory>
+    /// Whether the arguments ask for the input.
+    fn asks_input(&self) -> bool
         requires known { IsRequested requests self.now }
-        ensures { (args : List (List ℕ)) → requests args self.now → IfOk result (λ found.
-            MatchOption found (asks args) (λ reply. (¬ asks args)
-            × ((bytes : List ℕ) → answers args bytes reply.text reply.status))) };
+        ensures exact { (args : List (List ℕ)) → requests args self.now →
+            (IsTrue result ↔ asks args) }
+        ensures unasked { (args : List (List ℕ)) → NeedsNoInput (asks args) (answers args) };
 
-    /// The reply to the whole input.
-    fn read(&self, alloc: Global, input: &[u8]) -> Result<Reply<Self::Status>, NoMemory>
+    /// The reply to the whole input, or to no bytes if the arguments ask for none.
+    fn reply_to(&self, alloc: Global, input: &[u8]) -> Result<Reply<Self::Status>, NoMemory>
         requires known { IsRequested requests self.now }
         requires short { length input.now ≤ limit }
-        ensures { (args : List (List ℕ)) → requests args self.now → asks args →
+        ensures { (args : List (List ℕ)) → requests args self.now →
             IfOk result (λ reply. answers args input.now reply.text reply.status) };
 
     /// The reply to an input that is too long.
