@@ -6,19 +6,17 @@ use Rattle.std.proofs.lemmas.Bool.{cond-true, lt-ltb}
 use Rattle.std.proofs.lemmas.List.{map-append}
 use Rattle.std.proofs.lemmas.Nat.{mul-le}
 use Rattle.bspl_types.specs.declared.expanded.Expanded.{Expanded}
-use Rattle.clause_core.specs.declared.formula.Formula.{Formula}
 use Rattle.clause_core.specs.Literal.{negated}
 use Rattle.clause_encoding.specs.declared.rivals.Rivals.{Rivals}
 use Rattle.clause_encoding.specs.declared.variables.Variables.{Variables}
 use Rattle.clause_encoding.specs.declared.wants.Want.{Want}
-use Rattle.clause_encoding.specs.Formula.{liveness_variables, safety_variables}
+use Rattle.clause_encoding.specs.Formula.{liveness_variables, safety_variables, variables_of}
 use Rattle.clause_encoding.specs.Rest.{public_values, unbound_variables, want_variables, wants_of}
 use Rattle.clause_encoding.specs.Rivals.{rivals_of}
 use Rattle.clause_encoding.specs.Variables.{kind_count, order_variable, positive, variable_count}
 use Rattle.bspl_types.specs.declared.property.Property.{Property}
 use Rattle.bspl_types.specs.declared.property.Property.TheVariants.{Liveness, Safety}
 use Rattle.formula_text.specs.Legend.{Meaning, lack, legend, occurrence, occurrences, order, orders, orders_of, own_meanings, selection, unbound}
-use Rattle.clause_encoding.specs.Formula.{IsFormula}
 
 -- the variables of meanings
 abbrev number : Meaning → ℕ
@@ -130,9 +128,9 @@ all_numbered x vars between n base own =
     let front : numbers (events ++ between) ≡ range_with_len 1 (many + n) = map-append number events between ∙ (λ k. kinds k ++ own k) ∙ first in
     map-append number (events ++ between) (orders x vars) ∙ (λ k. front k ++ pairs k) ∙ all ∙ ap (λ (k : ℕ). range_with_len 1 (k + many * (many - 1) / 2)) count
 
--- so it is with a formula's
-pub legend_numbered : (property : Property) (x : Expanded) (f : Formula) → IsFormula property x f → numbers (legend property x) ≡ range_with_len 1 f.vars
-legend_numbered Safety x f is =
-    all_numbered x (safety_variables x) (own_meanings Safety x) (length (rivals_of x)) refl (selectors_numbered x (kind_count x + 1) (rivals_of x)) ∙ ap (range_with_len 1) (sym is.vars)
-legend_numbered Liveness x f is =
-    all_numbered x (liveness_variables x) (own_meanings Liveness x) (length (public_values x) + length (wants_of x)) (omega arith) (own_numbered x) ∙ ap (range_with_len 1) (sym is.vars)
+-- so it is with a legend's
+pub legend_numbered : (property : Property) (x : Expanded) (n : ℕ) → n ≡ variable_count (variables_of property x) → numbers (legend property x) ≡ range_with_len 1 n
+legend_numbered Safety x n is =
+    all_numbered x (safety_variables x) (own_meanings Safety x) (length (rivals_of x)) refl (selectors_numbered x (kind_count x + 1) (rivals_of x)) ∙ ap (range_with_len 1) (sym is)
+legend_numbered Liveness x n is =
+    all_numbered x (liveness_variables x) (own_meanings Liveness x) (length (public_values x) + length (wants_of x)) (omega arith) (own_numbered x) ∙ ap (range_with_len 1) (sym is)

@@ -1,5 +1,5 @@
 -- The text of a formula: a comment line for each variable, the header, and a line for each clause.
-use Rattle.std.specs.Prelude.{◌≡◌, ℕ, List, ◌∷◌, ◌++◌, length, codes}
+use Rattle.std.specs.Prelude.{◌≡◌, ℕ, List, [], ◌∷◌, ◌++◌, length, codes}
 use Rattle.std.specs.List.{flat_map}
 use Rattle.bspl_types.specs.declared.expanded.Expanded.{Expanded}
 use Rattle.clause_core.specs.declared.formula.Formula.{Formula}
@@ -8,8 +8,12 @@ use Rattle.dimacs.specs.Dimacs.{clause_words, header_words}
 use Rattle.list_base.specs.Lines.{line_of}
 use Rattle.list_base.specs.Numeral.{numeral}
 use Rattle.bspl_types.specs.declared.property.Property.{Property}
+use Rattle.bspl_types.specs.declared.property.Property.TheVariants.{Safety}
 use Rattle.clause_encoding.specs.Formula.{IsFormula}
+use Rattle.enactability.specs.EnactFormula.{IsEnactFormula}
+use Rattle.tool_input.specs.MessageName.{IsMessageNamed}
 use Rattle.formula_text.specs.Legend.{Meaning, legend}
+use Rattle.formula_text.specs.Request.{Subject, Dead, Whole}
 
 -- `c`, the variable's number, and the words
 abbrev pub meaning_line : Meaning → List ℕ
@@ -36,3 +40,20 @@ pub record IsFormulaText (property : Property) (x : Expanded) (text : List ℕ) 
   pub formula : Formula
   pub is_formula : IsFormula property x formula
   pub printed : text ≡ text_of property x formula
+
+-- the text is that of the formula in which the message is sent, which has the variables of safety
+pub record IsEnactText (x : Expanded) (message : ℕ) (text : List ℕ) : Type 0 where
+  pub formula : Formula
+  pub is_formula : IsEnactFormula x (message ∷ []) formula
+  pub printed : text ≡ text_of Safety x formula
+
+-- so it is with the message of the name
+pub record IsNamedText (x : Expanded) (name text : List ℕ) : Type 0 where
+  pub message : ℕ
+  pub named : IsMessageNamed x name message
+  pub text_is : IsEnactText x message text
+
+-- the text is that of the formula that is wanted
+abbrev pub IsTextFor : Subject → Expanded → List ℕ → Type 0
+IsTextFor (Whole property) x text = IsFormulaText property x text
+IsTextFor (Dead name) x text = IsNamedText x name text

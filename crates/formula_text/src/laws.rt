@@ -1,30 +1,36 @@
-ghost use Rattle.formula_text.specs.Laws.{NamesEachVariable, OneOutput, OneText, ReadsBack};
+ghost use Rattle.formula_text.specs.Laws.{EnactReadsBack, NamesEachEnactVariable, NamesEachVariable};
+ghost use Rattle.formula_text.specs.Laws.{OneEnactText, OneOutput, OneText, ReadsBack};
 
 use clause_encoding::{
     clauses_are_as_many, clauses_are_determined, clauses_are_few, variables_are_small,
 };
-use tool_input::texts_are_judged_once;
+use enactability::enact_clauses_are_few;
+use tool_input::{messages_are_named_once, texts_are_judged_once};
 
 /// A law: the text is in DIMACS form, with exactly the clauses of the formula.
 pub fn reads_back()
-    ensures { ReadsBack }
+    ensures property { ReadsBack }
+    ensures message { EnactReadsBack }
 {
     // law: there is a clause for each that is written
     clauses_are_as_many();
-    // law: a formula of a protocol has few clauses
+    // laws: a formula of a protocol has few clauses
     clauses_are_few();
+    enact_clauses_are_few();
     // law: it has few variables
     variables_are_small();
 }
 
 /// A law: the legend has a line for each variable, in the order of their numbers.
 pub fn names_each_variable()
-    ensures { NamesEachVariable }
+    ensures property { NamesEachVariable }
+    ensures message { NamesEachEnactVariable }
 {}
 
-/// A law: a protocol has one text for a property.
+/// A law: a protocol has one text for a property, and one for a message.
 pub fn one_text()
-    ensures { OneText }
+    ensures property { OneText }
+    ensures message { OneEnactText }
 {
     // law: what is written has one list of clauses
     clauses_are_determined();
@@ -36,6 +42,8 @@ pub fn one_output()
 {
     // law: a text declares one protocol for a name, or is refused for one reason
     texts_are_judged_once();
+    // law: a name is that of one message
+    messages_are_named_once();
     // law: a protocol has one text of its formula
     one_text();
 }

@@ -16,4 +16,4 @@ mod text;
 pub use call::bspl_formula;
 pub use laws::{names_each_variable, one_output, one_text, reads_back};
 pub use request::Request;
-pub use text::formula_text;
+pub use text::{enact_formula_text, formula_text};

@@ -1,9 +1,9 @@
 ghost use Rattle.bspl_types.specs.Limits.{input_limit};
 ghost use Rattle.formula_text.specs.Call.{AsksForInput};
 ghost use Rattle.formula_text.specs.Output.{FormulaOutput};
-ghost use Rattle.formula_text.specs.Request.{IsUsage, Requests};
-ghost use Rattle.formula_text.specs.inner.Request.{IsRequest};
-ghost use Rattle.std.specs.Prelude.{map, string_bytes, MatchOption};
+ghost use Rattle.formula_text.specs.Request.{IsSubject, IsUsage, Requests, Subject};
+ghost use Rattle.formula_text.specs.inner.Request.{IsRequest, subject_of};
+ghost use Rattle.std.specs.Prelude.{[], ◌∷◌, map, string_bytes, MatchOption};
 
 use super::property::property_of;
 use super::reply::{formula_reply, too_long, usage};
@@ -13,11 +13,20 @@ use program_frame::{Program, Reply};
 use std::alloc::Global;
 use tool_input::{INPUT_LIMIT, Status};
 
-/// The formula of the property of the protocol of the name.
+/// Which formula of a protocol.
+#[derive(Clone, Copy)]
+pub(crate) enum Asked<'a> {
+    /// That of the property.
+    Property(Property),
+    /// That of the message of the name.
+    Message(&'a [u8]),
+}
+
+/// The formula of the protocol of the name.
 #[derive(Clone, Copy)]
 pub(crate) struct Wanted<'a> {
     pub name: &'a [u8],
-    pub property: Property,
+    pub asked: Asked<'a>,
 }
 
 /// What the arguments request: a formula. Invalid ones request none.
@@ -47,14 +56,11 @@ impl<'a> Program<'a> for Request<'a> {
         INPUT_LIMIT
     }
 
-    fn unread(&self, alloc: Global) -> Result<Option<Reply<Status>>, NoMemory> {
-        match self.wanted {
-            Some(_) => Ok(None),
-            None => Ok(Some(usage(alloc)?)),
-        }
+    fn asks_input(&self) -> bool {
+        self.wanted.is_some()
     }
 
-    fn read(&self, alloc: Global, input: &[u8]) -> Result<Reply<Status>, NoMemory> {
+    fn reply_to(&self, alloc: Global, input: &[u8]) -> Result<Reply<Status>, NoMemory> {
         match self.wanted {
             Some(wanted) => formula_reply(alloc, wanted, input),
             None => usage(alloc),
@@ -70,17 +76,40 @@ impl<'a> Program<'a> for Request<'a> {
 fn wanted_by(args: &[String]) -> Option<Wanted<'_>>
     ensures { MatchOption result
         (IsUsage (map string_bytes args.now))
-        (λ wanted. Requests (map string_bytes args.now) wanted.name.now wanted.property) }
+        (λ wanted. Requests (map string_bytes args.now) wanted.name.now (subject_of wanted.asked)) }
 {
-    let [name, word] = args else {
-        return None;
-    };
+    let (name, rest) = args.split_first()?;
     if !is_name(name.as_bytes()) {
         return None;
     }
-    let property = property_of(word.as_bytes())?;
     Some(Wanted {
         name: name.as_bytes(),
-        property,
+        asked: asked_by(rest)?,
     })
+}
+
+/// Which formula the words stand for.
+fn asked_by(words: &[String]) -> Option<Asked<'_>>
+    ensures { MatchOption result
+        ((subject : Subject) → ¬ IsSubject (map string_bytes words.now) subject)
+        (λ asked. IsSubject (map string_bytes words.now) (subject_of asked)) }
+{
+    match words {
+        [word] => Some(Asked::Property(property_of(word.as_bytes())?)),
+        [word, message] => message_asked(word.as_bytes(), message.as_bytes()),
+        _ => None,
+    }
+}
+
+/// The formula of a message, if the first word says so.
+fn message_asked<'a>(word: &[u8], message: &'a [u8]) -> Option<Asked<'a>>
+    ensures { MatchOption result
+        ((subject : Subject) → ¬ IsSubject (word.now ∷ message.now ∷ []) subject)
+        (λ asked. IsSubject (word.now ∷ message.now ∷ []) (subject_of asked)) }
+{
+    if word == b"dead".as_slice() && is_name(message) {
+        Some(Asked::Message(message))
+    } else {
+        None
+    }
 }

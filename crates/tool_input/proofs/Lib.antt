@@ -1,3 +1,4 @@
 pub mod PartLines
 pub mod FirstPart
 pub mod OneRefusal
+pub mod MessageNames

@@ -6,5 +6,6 @@ pub mod NeededPart
 pub mod Input
 pub mod TextRefusal
 pub mod Rejection
+pub mod MessageName
 pub mod Laws
 pub mod Status

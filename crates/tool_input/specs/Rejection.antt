@@ -7,7 +7,7 @@ use Rattle.bspl_types.specs.declared.refusals.What.{What}
 use Rattle.bspl_types.specs.declared.refusals.What.TheVariants as what
 use Rattle.tool_input.specs.declared.parts.Part.{Part}
 use Rattle.tool_input.specs.declared.rejection.Code.{Code}
-use Rattle.tool_input.specs.declared.rejection.Code.TheVariants.{E, L, N, P, S, W}
+use Rattle.tool_input.specs.declared.rejection.Code.TheVariants.{E, L, P, S, W}
 use Rattle.tool_input.specs.declared.rejection.Field.{Field}
 use Rattle.tool_input.specs.declared.rejection.Field.TheVariants as field
 use Rattle.tool_input.specs.declared.rejection.Rejection.{Rejection}
@@ -23,7 +23,6 @@ code_text (E n) = codes "E" ++ decimal n
 code_text (L n) = codes "L" ++ decimal n
 code_text (W n) = codes "W" ++ decimal n
 code_text (S n) = codes "S" ++ decimal n
-code_text (N n) = codes "N" ++ decimal n
 
 -- the word for what is counted against a limit
 abbrev pub what_word : What → List ℕ
@@ -84,18 +83,14 @@ text_rejection (RepeatedParam message param) =
     Some (with_two (E 14) (field.Name message) (field.Name param))
 text_rejection NoMemory = None
 
--- the part that an input lacks, an input over its limit, and a request that is not supported
+-- the part that an input lacks, and an input over its limit
 abbrev pub lacks_part : Part → Rejection
 lacks_part part = with_one (P 1) (field.Part part)
 
 abbrev pub over_limit : ℕ → Rejection
 over_limit limit = with_one (P 2) (field.Number limit)
 
-abbrev pub unsupported_request : Rejection
-unsupported_request = bare (N 1)
-
 -- a refusal of the input, by its code
 abbrev pub input_rejection : InputRefusal → Rejection
 input_rejection (input.NoPart part) = lacks_part part
 input_rejection (input.TooLong limit) = over_limit limit
-input_rejection input.Unsupported = unsupported_request

@@ -11,9 +11,6 @@ pub enum InputRefusal {
     /// The input has more bytes than may be read.
     #[error("the input has more than {limit} bytes")]
     TooLong { limit: u64 },
-    /// What is requested is not supported.
-    #[error("this is not supported")]
-    Unsupported,
 }
 
 impl Debug for InputRefusal {

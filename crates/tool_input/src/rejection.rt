@@ -20,8 +20,6 @@ pub enum Code {
     W(u8),
     /// The text of agents.
     S(u8),
-    /// What is not supported.
-    N(u8),
 }
 
 /// What a rejection names.
@@ -101,7 +99,6 @@ pub fn input_rejection(refusal: InputRefusal) -> Rejection
     match refusal {
         InputRefusal::NoPart { part } => Rejection::with_one(Code::P(1), Field::Part(part)),
         InputRefusal::TooLong { limit } => Rejection::with_one(Code::P(2), Field::Number(limit)),
-        InputRefusal::Unsupported => Rejection::bare(Code::N(1)),
     }
 }
 

@@ -40,7 +40,6 @@ fn push_code(alloc: Global, text: &mut Bytes, code: Code) -> Result<(), NoMemory
         Code::L(number) => (b'L', number),
         Code::W(number) => (b'W', number),
         Code::S(number) => (b'S', number),
-        Code::N(number) => (b'N', number),
     };
     text.push(letter)?;
     text.append(number.to_string(alloc)?.as_bytes())

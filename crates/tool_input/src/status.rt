@@ -12,7 +12,7 @@ pub enum Status {
     Undecided,
     /// The arguments are invalid; a usage line is printed.
     Usage,
-    /// The input is refused, or the command is not supported; the refusal is printed.
+    /// The input is refused; the refusal is printed.
     Refused,
 }
 

@@ -7,5 +7,7 @@ returns c = output_once (record {
   declared = c.texts_are_judged_once.ensures.declaration;
   refusal = c.texts_are_judged_once.ensures.refusal;
   exclusive = c.texts_are_judged_once.ensures.exclusive;
-  text = c.one_text.ensures;
+  message = c.messages_are_named_once.ensures;
+  text = c.one_text.ensures.property;
+  enact = c.one_text.ensures.message;
 })

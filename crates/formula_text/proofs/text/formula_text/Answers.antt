@@ -1,15 +1,12 @@
--- The legend, and then the formula.
-use Rattle.std.proofs.Common.{◌++◌, List, ℕ, ap, ◌∙◌}
-use Rattle.formula_text.specs.FormulaText.{formula_lines}
-use Rattle.formula_text.specs.Legend.{legend}
-use Rattle.formula_text.proofs.Written.{lines}
+-- The text of the formula of the property.
+use Rattle.std.proofs.Common.{◌≡◌, ℕ, List}
+use Rattle.std.proofs.lemmas.Result.{IfOk-weaker}
+use Rattle.formula_text.specs.FormulaText.{IsFormulaText, text_of}
 use Rattle.formula_text.proofs.text.formula_text.Goals as goal
 
 pub returns : goal.returns
 returns c =
-    let meanings = legend c.args.property c.args.a.now in
-    record {
-      formula = c.in_ok-formula.formula;
-      is_formula = c.in_ok-formula.ensures.exact;
-      printed = c.in_ok-push_formula.ensures ∙ ap (λ (text : List ℕ). text ++ formula_lines c.in_ok-formula.formula) (c.in_ok-push_legend.ensures ∙ ap (λ (text : List ℕ). text ++ lines meanings) c.new-text.ensures);
-    }
+    let formula = c.in_ok-formula.formula in
+    IfOk-weaker c.text_of.result (λ (text : List ℕ). text ≡ text_of c.args.property c.args.a.now formula) (IsFormulaText c.args.property c.args.a.now)
+    (λ text is. record { formula = formula; is_formula = c.in_ok-formula.ensures.exact; printed = is })
+    c.text_of.ensures

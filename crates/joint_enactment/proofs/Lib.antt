@@ -1,0 +1,4 @@
+pub mod ArgumentLemmas
+pub mod NameLemmas
+pub mod ReplyLemmas
+pub mod TruthLemmas
