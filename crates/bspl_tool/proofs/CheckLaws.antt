@@ -21,8 +21,8 @@ use Rattle.bspl_tool.specs.Laws.{IsOutput}
 use Rattle.bspl_tool.specs.CheckAnswer.{log_rejection}
 use Rattle.tool_input.specs.Lines.{line}
 use Rattle.bspl_tool.specs.Texts.{reject_text}
-use Rattle.bspl_tool.proofs.ClaimsNothing.{ClaimsNothing, line_claims_nothing, says_nothing}
-use Rattle.bspl_tool.proofs.CommandLaws.{CommandLaws, IsHonest, honest_if}
+use Rattle.bspl_tool.proofs.ClaimsNothing.{ClaimsNothing, line_claims_nothing}
+use Rattle.bspl_tool.proofs.CommandLaws.{CommandLaws, IsHonest, honest_if, honest_nothing}
 use Rattle.bspl_tool.proofs.RejectedNames.{HasNames}
 use Rattle.bspl_tool.proofs.Unbroken.{decimal_has_no_lf, has_lf, joined_has_none}
 
@@ -37,7 +37,7 @@ pub record OneCheck : Type 0 where
   pub live : AcceptedLivenessDoesNotFail
 
 -- a refusal that is written is not that memory ran out
-not_memory : (refusal : LogRefusal) (r : Rejection) → log_rejection refusal ≡ Some r → refusal ≢ log.NoMemory
+pub not_memory : (refusal : LogRefusal) (r : Rejection) → log_rejection refusal ≡ Some r → refusal ≢ log.NoMemory
 not_memory refusal r is out_of_memory = let none : None ≡ Some r = ap log_rejection (sym out_of_memory) ∙ is in absurd (cc)
 
 -- the text of a log is not refused
@@ -68,7 +68,7 @@ reject_has_no_lf NotEmpty = refl
 reject_has_no_lf NoMemory = refl
 
 -- and claims nothing
-reject_claims_nothing : (reject : Reject) → ClaimsNothing (line (reject_text reject))
+pub reject_claims_nothing : (reject : Reject) → ClaimsNothing (line (reject_text reject))
 reject_claims_nothing (NoClause step) = line_claims_nothing (reject_text (NoClause step)) (reject_has_no_lf (NoClause step)) refl
 reject_claims_nothing (NoPivot step link) = line_claims_nothing (reject_text (NoPivot step link)) (reject_has_no_lf (NoPivot step link)) refl
 reject_claims_nothing (NoDrop after item) = line_claims_nothing (reject_text (NoDrop after item)) (reject_has_no_lf (NoDrop after item)) refl
@@ -77,8 +77,8 @@ reject_claims_nothing NoMemory = line_claims_nothing (reject_text NoMemory) refl
 
 -- the line of an accepted log claims one property, which is true
 accepted_is_honest : (x : Expanded) (kind : Kind) (n : ℕ) → IsClaimTrue (claim_of kind) x → IsHonest x (take n (line (claim_line (claim_of kind))))
-accepted_is_honest x Safety n holds = honest_if x (line (claim_line (claim_of Safety))) n (inl holds) (inr (record { first = refl; later = refl }))
-accepted_is_honest x Liveness n holds = honest_if x (line (claim_line (claim_of Liveness))) n (inr (record { first = refl; later = refl })) (inl holds)
+accepted_is_honest x Safety n holds = honest_if x (line (claim_line (claim_of Safety))) n (inl holds) (inr (record { first = refl; later = refl })) (λ name field. record { first = refl; later = refl })
+accepted_is_honest x Liveness n holds = honest_if x (line (claim_line (claim_of Liveness))) n (inr (record { first = refl; later = refl })) (inl holds) (λ name field. record { first = refl; later = refl })
 
 -- an answer claims only what is true
 check_is_honest : (x : Expanded) (part out : List ℕ) (status : Status) (n : ℕ) → IsCheckAnswer x part out status → IsHonest x (take n out)
@@ -87,11 +87,11 @@ check_is_honest x part out status n answer =
       | inl says ↦
           let is : line (claim_line (claim_of answer.kind)) ≡ out = ap (λ claim. line (claim_line claim)) (sym says.accepted.claim_is) ∙ sym says.text in
           subst (λ text. IsHonest x (take n text)) is (accepted_is_honest x answer.kind n (subst (λ claim. IsClaimTrue claim x) says.accepted.claim_is says.accepted.claimed))
-      | inr rejected ↦ record { claimed = λ claim says. absurd (says_nothing claim out n (subst ClaimsNothing (sym rejected.text) (reject_claims_nothing rejected.reject)) says) }
+      | inr rejected ↦ honest_nothing x out n (subst ClaimsNothing (sym rejected.text) (reject_claims_nothing rejected.reject))
     ]
 
 -- a line of a text is no name
-line_names : (refusal : LogRefusal) → IfSome (log_rejection refusal) HasNames
+pub line_names : (refusal : LogRefusal) → IfSome (log_rejection refusal) HasNames
 line_names (log.Form number) = record { first = tt; second = tt }
 line_names (log.Number number) = record { first = tt; second = tt }
 line_names log.NoMemory = tt

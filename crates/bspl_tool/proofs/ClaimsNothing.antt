@@ -1,19 +1,19 @@
 -- Texts of which no prefix has one of some lines: a test on lines, kept by appending whole lines. Such are those that
--- claim nothing, of safety or of liveness or of both.
-use Rattle.std.proofs.Common.{◌≡◌, ℕ, ◌<◌, zero, suc, Bool, true, false, not, ◌&&◌, ◌||◌, List, [], ◌∷◌, ◌++◌, map, take, drop, length, slice_index_or, eqb, refl, sym, ◌∙◌, ap, ap₂, subst, arith, append-nil, append_assoc}
+-- claim nothing, of safety or of liveness, or of both and of messages.
+use Rattle.std.proofs.Common.{◌≡◌, ℕ, ◌<◌, zero, suc, Bool, true, false, not, ◌&&◌, ◌||◌, List, [], ◌∷◌, ◌++◌, codes, map, take, drop, length, slice_index_or, eqb, refl, sym, ◌∙◌, ap, ap₂, subst, arith, append-nil, append_assoc}
 use Rattle.std.specs.List.{list_any, join_with_byte}
-use Rattle.std.proofs.lemmas.Bool.{and_from, and_parts, both_ways, eqb-true, false≢true, or_parts}
+use Rattle.std.proofs.lemmas.Bool.{and_from, and_parts, both_ways, eq-eqb, eqb-true, false≢true, or_from, or_left, or_parts, or_right}
 use Rattle.std.proofs.lemmas.List.{take-append-drop}
 use Rattle.std.proofs.lemmas.List.Folds.{list_any-append}
 use Rattle.std.proofs.lemmas.List.Splits.{join_with_byte-slice_split}
 use Rattle.bspl_tool.specs.declared.claim.Claim.{Claim}
 use Rattle.bspl_tool.specs.declared.claim.Claim.TheVariants.{AcceptedLiveness, AcceptedSafety, LivenessLive, SafetySafe}
-use Rattle.bspl_tool.specs.Claims.{all_claims, claim_line}
-use Rattle.bspl_tool.specs.Texts.{SaysLine}
+use Rattle.bspl_tool.specs.Claims.{MessageClaim, SaysDead, SaysEnacted, all_claims, claim_line, message_claim_line}
+use Rattle.bspl_tool.specs.Texts.{SaysLine, dead_line, enacted_line}
 use Rattle.tool_input.specs.Lines.{line, lines}
-use Rattle.bspl_tool.proofs.Unbroken.{has_lf}
+use Rattle.bspl_tool.proofs.Unbroken.{has_byte, has_lf, joined_has_none}
 
--- the lines that claim something
+-- the lines that claim something of the protocol
 abbrev pub claim_lines : List (List ℕ)
 claim_lines = map claim_line all_claims
 
@@ -24,6 +24,20 @@ safety_lines = claim_line SafetySafe ∷ claim_line AcceptedSafety ∷ []
 -- and liveness
 abbrev pub liveness_lines : List (List ℕ)
 liveness_lines = claim_line LivenessLive ∷ claim_line AcceptedLiveness ∷ []
+
+-- those that claim something of the message of that name
+abbrev pub message_lines : List ℕ → List (List ℕ)
+message_lines name = dead_line name ∷ enacted_line name ∷ []
+
+-- what each of them begins with
+abbrev pub message_word : List ℕ
+message_word = codes "message "
+
+-- a name, as lines have it
+pub record IsField (name : List ℕ) : Type 0 where
+  pub no_lf : has_lf name ≡ false
+  pub no_space : has_byte 32 name ≡ false
+  pub no_brace : has_byte 123 name ≡ false
 
 -- the text begins with these bytes
 abbrev pub starts : List ℕ → List ℕ → Bool
@@ -45,13 +59,14 @@ pub record Avoids (saids : List (List ℕ)) (text : List ℕ) : Type 0 where
   pub first : begins saids text ≡ false
   pub later : is_calm saids text ≡ true
 
--- the text begins with a line that claims something
+-- the text begins with a line that claims something of the protocol, or as those that claim something of a message
 abbrev pub claims : List ℕ → Bool
-claims text = begins claim_lines text
+claims text = begins (message_word ∷ claim_lines) text
 
 -- none of its lines claims something
-abbrev pub ClaimsNothing : List ℕ → Type 0
-ClaimsNothing text = Avoids claim_lines text
+pub record ClaimsNothing (text : List ℕ) : Type 0 where
+  pub protocol : Avoids claim_lines text
+  pub messages : (name : List ℕ) → IsField name → Avoids (message_lines name) text
 
 -- bytes that begin a text are found
 pub starts_rest : (said text : List ℕ) → starts said text ≡ true → (rest : List ℕ) × (text ≡ said ++ rest)
@@ -114,26 +129,71 @@ says_none saids said text n found avoids says =
     ]
 
 -- the line of a claim is one that claims something
-claim_is_found : (claim : Claim) (rest : List ℕ) → claims (claim_line claim ++ rest) ≡ true
+claim_is_found : (claim : Claim) (rest : List ℕ) → begins claim_lines (claim_line claim ++ rest) ≡ true
 claim_is_found SafetySafe rest = refl
 claim_is_found AcceptedSafety rest = refl
 claim_is_found LivenessLive rest = refl
 claim_is_found AcceptedLiveness rest = refl
 
--- no prefix of a text that claims nothing has a line that claims something
+-- no prefix of a text that claims nothing of the protocol has a line that claims something of it
+pub says_no_claim : (claim : Claim) (text : List ℕ) (n : ℕ) → Avoids claim_lines text → SaysLine (take n text) (claim_line claim) → ⊥
+says_no_claim claim text n none says = says_none claim_lines (claim_line claim) text n (claim_is_found claim) none says
+
+-- so it is where a text claims nothing at all
 pub says_nothing : (claim : Claim) (text : List ℕ) (n : ℕ) → ClaimsNothing text → SaysLine (take n text) (claim_line claim) → ⊥
-says_nothing claim text n nothing says = says_none claim_lines (claim_line claim) text n (claim_is_found claim) nothing says
+says_nothing claim text n nothing says = says_no_claim claim text n nothing.protocol says
+
+-- a text begins with its own bytes
+pub starts_itself : (said rest : List ℕ) → starts said (said ++ rest) ≡ true
+starts_itself [] rest = refl
+starts_itself (c ∷ said) rest = and_from (eqb c c) (starts said (said ++ rest)) (eq-eqb c c refl) (starts_itself said rest)
+
+-- the line of a claim on a message is one that claims something of it
+message_is_found : (claim : MessageClaim) (name rest : List ℕ) → begins (message_lines name) (message_claim_line claim name ++ rest) ≡ true
+message_is_found SaysDead name rest = or_left (starts (dead_line name) (dead_line name ++ rest)) _ (starts_itself (dead_line name) rest)
+message_is_found SaysEnacted name rest = or_right (starts (dead_line name) (enacted_line name ++ rest)) _ (or_left (starts (enacted_line name) (enacted_line name ++ rest)) false (starts_itself (enacted_line name) rest))
+
+-- no prefix of a text without such lines has one
+pub says_no_message : (claim : MessageClaim) (name text : List ℕ) (n : ℕ) → Avoids (message_lines name) text → SaysLine (take n text) (message_claim_line claim name) → ⊥
+says_no_message claim name text n none says = says_none (message_lines name) (message_claim_line claim name) text n (message_is_found claim name) none says
 
 -- bytes without an LF, before calm ones
-pub calm_before : (body rest : List ℕ) → has_lf body ≡ false → is_calm claim_lines rest ≡ true → is_calm claim_lines (body ++ rest) ≡ true
-calm_before [] rest whole calm = calm
-calm_before (b ∷ body) rest whole calm =
+pub calm_before : (saids : List (List ℕ)) (body rest : List ℕ) → has_lf body ≡ false → is_calm saids rest ≡ true → is_calm saids (body ++ rest) ≡ true
+calm_before saids [] rest whole calm = calm
+calm_before saids (b ∷ body) rest whole calm =
     let parts = or_parts (eqb b 10) (has_lf body) whole in
-    rw (parts.0, calm_before body rest parts.1 calm) refl
+    rw (parts.0, calm_before saids body rest parts.1 calm) refl
+
+-- the last LF
+last_is_calm : (saids : List (List ℕ)) → begins saids [] ≡ false → is_calm saids (10 ∷ []) ≡ true
+last_is_calm saids some = rw some refl
+
+-- one line that is none of some lines
+pub line_avoids : (saids : List (List ℕ)) (body : List ℕ) → begins saids [] ≡ false → has_lf body ≡ false → begins saids (line body) ≡ false → Avoids saids (line body)
+line_avoids saids body some whole none = record { first = none; later = calm_before saids body (10 ∷ []) whole (last_is_calm saids some) }
+
+-- false if a weaker test is false
+still_false : (a b c : Bool) → (b ≡ false → c ≡ false) → (a && b) ≡ false → (a && c) ≡ false
+still_false true b c less none = less none
+still_false false b c less none = refl
+
+-- a text that does not begin with some bytes does not begin with more
+pub starts_more : (said more text : List ℕ) → starts said text ≡ false → starts (said ++ more) text ≡ false
+starts_more [] more text none = absurd (false≢true (sym none))
+starts_more (c ∷ said) more [] none = refl
+starts_more (c ∷ said) more (b ∷ text) none = still_false (eqb c b) (starts said text) (starts (said ++ more) text) (starts_more said more text) none
+
+-- so it begins with none of the lines on a message
+no_message_begins : (name text : List ℕ) → starts message_word text ≡ false → begins (message_lines name) text ≡ false
+no_message_begins name text none = or_from _ _ (starts_more message_word (name ++ codes " dead") text none) (or_from _ false (starts_more message_word (name ++ codes " enacted") text none) refl)
 
 -- one line that claims nothing
 pub line_claims_nothing : (body : List ℕ) → has_lf body ≡ false → claims (line body) ≡ false → ClaimsNothing (line body)
-line_claims_nothing body whole none = record { first = none; later = calm_before body (10 ∷ []) whole refl }
+line_claims_nothing body whole none =
+    let parts = or_parts (starts message_word (line body)) (begins claim_lines (line body)) none in record {
+      protocol = line_avoids claim_lines body refl whole parts.1;
+      messages = λ name field. line_avoids (message_lines name) body refl whole (no_message_begins name (line body) parts.0);
+    }
 
 -- whether a text begins with a line is settled at its first LF
 starts_cut : (said before rest : List ℕ) → has_lf said ≡ false → starts said (before ++ 10 ∷ rest) ≡ starts said (before ++ 10 ∷ [])
@@ -188,16 +248,44 @@ joined_without saids bare {one} {other} of_one of_other = record {
 }
 
 -- whole lines that claim nothing
-abbrev pub IsBlock : List ℕ → Type 0
-IsBlock text = IsBlockWithout claim_lines text
+pub record IsBlock (text : List ℕ) : Type 0 where
+  pub nothing : ClaimsNothing text
+  pub whole : AreWhole text
+
+-- the lines on a message have no LF
+pub message_lines_whole : (name : List ℕ) → IsField name → list_any has_lf (message_lines name) ≡ false
+message_lines_whole name field =
+    let front = joined_has_none 10 message_word name refl field.no_lf in
+    or_from (has_lf (dead_line name)) _ (joined_has_none 10 (message_word ++ name) (codes " dead") front refl) (or_from (has_lf (enacted_line name)) false (joined_has_none 10 (message_word ++ name) (codes " enacted") front refl) refl)
+
+-- they claim nothing of the protocol
+pub without_claims : {text : List ℕ} → IsBlock text → IsBlockWithout claim_lines text
+without_claims of = record { nothing = of.nothing.protocol; whole = of.whole }
+
+-- nor of a message
+pub without_message : {text : List ℕ} → IsBlock text → (name : List ℕ) → IsField name → IsBlockWithout (message_lines name) text
+without_message of name field = record { nothing = of.nothing.messages name field; whole = of.whole }
 
 -- such lines after such lines
 pub block_joined : {one other : List ℕ} → IsBlock one → IsBlock other → IsBlock (one ++ other)
-block_joined of_one of_other = joined_without claim_lines refl of_one of_other
+block_joined {one} {other} of_one of_other = record {
+  nothing = record {
+    protocol = (joined_without claim_lines refl (without_claims of_one) (without_claims of_other)).nothing;
+    messages = λ name field. (joined_without (message_lines name) (message_lines_whole name field) (without_message of_one name field) (without_message of_other name field)).nothing;
+  };
+  whole = whole_joined one other of_one.whole of_other.whole;
+}
 
 -- no lines
 pub no_lines : IsBlock []
-no_lines = record { nothing = record { first = refl; later = refl }; whole = empty refl }
+no_lines = record {
+  nothing = record { protocol = record { first = refl; later = refl }; messages = λ name field. record { first = refl; later = refl } };
+  whole = empty refl;
+}
+
+-- one line that is none of some lines
+pub whole_line_without : (saids : List (List ℕ)) (body : List ℕ) → begins saids [] ≡ false → has_lf body ≡ false → begins saids (line body) ≡ false → IsBlockWithout saids (line body)
+whole_line_without saids body some whole none = record { nothing = line_avoids saids body some whole none; whole = closed body refl }
 
 -- a test that is weaker is passed as well
 still_not : (lf all some : Bool) → (all ≡ false → some ≡ false) → not (lf && all) ≡ true → not (lf && some) ≡ true
@@ -205,27 +293,32 @@ still_not false all some less is = refl
 still_not true all some less is = rw (less (not_true all is)) refl
 
 -- so is that of fewer lines
-calm_without : (saids : List (List ℕ)) → ((text : List ℕ) → claims text ≡ false → begins saids text ≡ false) → (text : List ℕ) → is_calm claim_lines text ≡ true → is_calm saids text ≡ true
-calm_without saids less [] calm = refl
-calm_without saids less (b ∷ bytes) calm =
-    let parts = and_parts (not (eqb b 10 && claims bytes)) (is_calm claim_lines bytes) calm in
-    and_from (not (eqb b 10 && begins saids bytes)) (is_calm saids bytes) (still_not (eqb b 10) (claims bytes) (begins saids bytes) (less bytes) parts.0) (calm_without saids less bytes parts.1)
+calm_without : (all saids : List (List ℕ)) → ((text : List ℕ) → begins all text ≡ false → begins saids text ≡ false) → (text : List ℕ) → is_calm all text ≡ true → is_calm saids text ≡ true
+calm_without all saids less [] calm = refl
+calm_without all saids less (b ∷ bytes) calm =
+    let parts = and_parts (not (eqb b 10 && begins all bytes)) (is_calm all bytes) calm in
+    and_from (not (eqb b 10 && begins saids bytes)) (is_calm saids bytes) (still_not (eqb b 10) (begins all bytes) (begins saids bytes) (less bytes) parts.0) (calm_without all saids less bytes parts.1)
 
--- and a block of them
-block_without : (saids : List (List ℕ)) → ((text : List ℕ) → claims text ≡ false → begins saids text ≡ false) → {text : List ℕ} → IsBlock text → IsBlockWithout saids text
-block_without saids less {text} of = record {
-  nothing = record { first = less text of.nothing.first; later = calm_without saids less text of.nothing.later };
+-- and whole lines without them
+block_without : (all saids : List (List ℕ)) → ((text : List ℕ) → begins all text ≡ false → begins saids text ≡ false) → {text : List ℕ} → IsBlockWithout all text → IsBlockWithout saids text
+block_without all saids less {text} of = record {
+  nothing = record { first = less text of.nothing.first; later = calm_without all saids less text of.nothing.later };
   whole = of.whole;
 }
 
+-- as without the line of one claim
+pub without_claim : (claim : MessageClaim) (name : List ℕ) {text : List ℕ} → IsBlockWithout (message_lines name) text → IsBlockWithout (message_claim_line claim name ∷ []) text
+without_claim SaysDead name of = block_without (message_lines name) (dead_line name ∷ []) (λ text none. or_from _ false (or_parts _ _ none).0 refl) of
+without_claim SaysEnacted name of = block_without (message_lines name) (enacted_line name ∷ []) (λ text none. (or_parts _ _ none).1) of
+
 -- the lines of a claim are those of one property, then those of the other
-claimed_parts : (text : List ℕ) → claims text ≡ false → (begins safety_lines text ≡ false) × (begins liveness_lines text ≡ false)
+claimed_parts : (text : List ℕ) → begins claim_lines text ≡ false → (begins safety_lines text ≡ false) × (begins liveness_lines text ≡ false)
 claimed_parts text none = or_parts (begins safety_lines text) (begins liveness_lines text) (sym (list_any-append (λ said. starts said text) safety_lines liveness_lines) ∙ none)
 
 -- so what claims nothing claims no safety
 pub no_safety : {text : List ℕ} → IsBlock text → IsBlockWithout safety_lines text
-no_safety of = block_without safety_lines (λ text none. (claimed_parts text none).0) of
+no_safety of = block_without claim_lines safety_lines (λ text none. (claimed_parts text none).0) (without_claims of)
 
 -- and no liveness
 pub no_liveness : {text : List ℕ} → IsBlock text → IsBlockWithout liveness_lines text
-no_liveness of = block_without liveness_lines (λ text none. (claimed_parts text none).1) of
+no_liveness of = block_without claim_lines liveness_lines (λ text none. (claimed_parts text none).1) (without_claims of)

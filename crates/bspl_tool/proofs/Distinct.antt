@@ -17,10 +17,11 @@ use Rattle.bspl_tool.specs.Refusals.{IsRead, Refuses, RefusesInput}
 use Rattle.tool_input.specs.Laws.{DeclaredIsNotRefused, OneDeclaration, OneTextRefusal}
 use Rattle.tool_input.specs.TextRefusal.{RefusesText}
 use Rattle.tool_input.specs.Rejection.{lacks_part, rejection_line, text_rejection}
-use Rattle.bspl_tool.specs.Request.{HasCommandLine, Requests, RequestsInput, RequestsUnsupported}
-use Rattle.bspl_tool.specs.Task.{judged_text, rules_of}
+use Rattle.bspl_tool.specs.Request.{HasCommandLine, Requests, RequestsInput}
+use Rattle.tool_input.specs.Parts.{protocol_text}
+use Rattle.bspl_tool.specs.Task.{rules_of, task_bytes}
 use Rattle.bspl_tool.specs.Texts.{usage_text}
-use Rattle.bspl_tool.proofs.OneRequest.{one_name, one_task, task_or_unsupported}
+use Rattle.bspl_tool.proofs.OneRequest.{one_name, one_task}
 use Rattle.bspl_tool.proofs.TaskLaws.{OneEvidence, laws_of}
 
 -- a protocol text is judged once
@@ -51,12 +52,12 @@ part_or_missing : (task : Task) (input bytes : List ℕ) (part : Part) → HasPa
 part_or_missing task input bytes part has lacks = lacks.missing bytes (subst (λ o. HasPart o input bytes) lacks.is_needed has)
 
 -- an input has one judged protocol for a name
-judged_once : OneReading → (task : Task) (name input : List ℕ) (x y : Expanded) → Declares name (judged_text task input) x → Declares name (judged_text task input) y → x ≡ y
-judged_once law task name input x y one other = law.declaration name (judged_text task input) x y one other
+judged_once : OneReading → (name input : List ℕ) (x y : Expanded) → Declares name (protocol_text input) x → Declares name (protocol_text input) y → x ≡ y
+judged_once law name input x y one other = law.declaration name (protocol_text input) x y one other
 
 -- what is judged is not refused for its text
-judged_or_refused : OneReading → (task : Task) (name input : List ℕ) (x : Expanded) (q : Refusal) → Declares name (judged_text task input) x → RefusesText name (judged_text task input) q → ⊥
-judged_or_refused law task name input x q judged reason = law.exclusive name (judged_text task input) x q judged reason
+judged_or_refused : OneReading → (name input : List ℕ) (x : Expanded) (q : Refusal) → Declares name (protocol_text input) x → RefusesText name (protocol_text input) q → ⊥
+judged_or_refused law name input x q judged reason = law.exclusive name (protocol_text input) x q judged reason
 
 -- two rejections of one refusal are one
 same_rejection : (q p : Refusal) (r s : Rejection) → q ≡ p → text_rejection q ≡ Some r → text_rejection p ≡ Some s → r ≡ s
@@ -67,9 +68,9 @@ same_part : (task : Task) (input : List ℕ) (p q : Part) → LacksPart (rules_o
 same_part task input p q one other = let is : Some p ≡ Some q = sym one.is_needed ∙ other.is_needed in cc
 
 -- a command's refusals of an input are one
-same_part_refusal : OneEach → (task : Task) (name input : List ℕ) (part bytes : List ℕ) (x y : Expanded) (r s : Rejection) → HasPart (rules_of task).part input part → HasPart (rules_of task).part input bytes → Declares name (judged_text task input) x → Declares name (judged_text task input) y → (rules_of task).refuses x part r → (rules_of task).refuses y bytes s → r ≡ s
+same_part_refusal : OneEach → (task : Task) (name input : List ℕ) (part bytes : List ℕ) (x y : Expanded) (r s : Rejection) → HasPart (rules_of task).part input part → HasPart (rules_of task).part input bytes → Declares name (protocol_text input) x → Declares name (protocol_text input) y → (rules_of task).refuses x part r → (rules_of task).refuses y bytes s → r ≡ s
 same_part_refusal law task name input part bytes x y r s has has_too judged judged_too one other =
-    let same = judged_once law.reading task name input y x judged_too judged in
+    let same = judged_once law.reading name input y x judged_too judged in
     let bytes_same = one_part (rules_of task).part input bytes part has_too has in
     (laws_of task).one_refusal law.evidence x part r s judged.admitted one (subst (λ z. (rules_of task).refuses z part s) same (subst (λ b. (rules_of task).refuses y b s) bytes_same other))
 
@@ -80,10 +81,10 @@ one_input_rejection law task name input (RefusesInput.no_part p lacks) (RefusesI
 one_input_rejection law task name input (RefusesInput.no_part p lacks) (RefusesInput.part bytes y s has judged reason) = absurd (part_or_missing task input bytes p has lacks)
 one_input_rejection law task name input (RefusesInput.text part q r has reason is) (RefusesInput.no_part p lacks) = absurd (part_or_missing task input part p has lacks)
 one_input_rejection law task name input (RefusesInput.text part q r has reason is) (RefusesInput.text bytes p s has_too reason_too is_too) =
-    same_rejection q p r s (law.reading.refusal name (judged_text task input) q p reason reason_too) is is_too
-one_input_rejection law task name input (RefusesInput.text part q r has reason is) (RefusesInput.part bytes y s has_too judged other) = absurd (judged_or_refused law.reading task name input y q judged reason)
+    same_rejection q p r s (law.reading.refusal name (protocol_text input) q p reason reason_too) is is_too
+one_input_rejection law task name input (RefusesInput.text part q r has reason is) (RefusesInput.part bytes y s has_too judged other) = absurd (judged_or_refused law.reading name input y q judged reason)
 one_input_rejection law task name input (RefusesInput.part part x r has judged reason) (RefusesInput.no_part p lacks) = absurd (part_or_missing task input part p has lacks)
-one_input_rejection law task name input (RefusesInput.part part x r has judged reason) (RefusesInput.text bytes q s has_too other is) = absurd (judged_or_refused law.reading task name input x q judged other)
+one_input_rejection law task name input (RefusesInput.part part x r has judged reason) (RefusesInput.text bytes q s has_too other is) = absurd (judged_or_refused law.reading name input x q judged other)
 one_input_rejection law task name input (RefusesInput.part part x r has judged reason) (RefusesInput.part bytes y s has_too judged_too reason_too) =
     same_part_refusal law task name input part bytes x y r s has has_too judged judged_too reason reason_too
 
@@ -97,42 +98,31 @@ as_requested line P args task other name again requests requests_too holds =
 long_or_read : (args : List (List ℕ)) (bytes : List ℕ) (task : Task) (name : List ℕ) → RequestsInput args → input_limit < length bytes → IsRead args bytes task name → ⊥
 long_or_read args bytes task name asks long read = let short = read.short asks in omega arith
 
--- a command that is not supported asks for no input
-input_or_unsupported : OneLine → (args : List (List ℕ)) → RequestsInput args → RequestsUnsupported args → ⊥
-input_or_unsupported line args asks other = task_or_unsupported line args asks.task asks.name asks.requested other
-
 -- arguments and bytes have one rejection
 one_rejection : OneEach → (args : List (List ℕ)) (bytes : List ℕ) {r s : Rejection} → Refuses args bytes r → Refuses args bytes s → r ≡ s
-one_rejection law args bytes (Refuses.unsupported one) (Refuses.unsupported other) = refl
-one_rejection law args bytes (Refuses.unsupported one) (Refuses.too_long asks long) = absurd (input_or_unsupported law.line args asks one)
-one_rejection law args bytes (Refuses.unsupported one) (Refuses.read task name s read reason) = absurd (task_or_unsupported law.line args task name read.requested one)
-one_rejection law args bytes (Refuses.too_long asks long) (Refuses.unsupported other) = absurd (input_or_unsupported law.line args asks other)
 one_rejection law args bytes (Refuses.too_long asks long) (Refuses.too_long asks_too long_too) = refl
 one_rejection law args bytes (Refuses.too_long asks long) (Refuses.read other again s read reason) = absurd (long_or_read args bytes other again asks long read)
-one_rejection law args bytes (Refuses.read task name r read reason) (Refuses.unsupported other) = absurd (task_or_unsupported law.line args task name read.requested other)
 one_rejection law args bytes (Refuses.read task name r read reason) (Refuses.too_long asks long) = absurd (long_or_read args bytes task name asks long read)
 one_rejection law args bytes (Refuses.read task name r read reason) (Refuses.read other again s read_too reason_too) =
-    one_input_rejection law task name bytes reason (as_requested law.line (λ t n. RefusesInput t n bytes s) args task other name again read.requested read_too.requested reason_too)
+    one_input_rejection law task name (task_bytes task bytes) reason (as_requested law.line (λ t n. RefusesInput t n (task_bytes t bytes) s) args task other name again read.requested read_too.requested reason_too)
 
 -- an input on which the task is done is not refused
 answered_or_refused : OneEach → (task : Task) (name input out : List ℕ) (status : Status) {r : Rejection} → AnswersInput task name input out status → RefusesInput task name input r → ⊥
 answered_or_refused law task name input out status answered (RefusesInput.no_part p lacks) = part_or_missing task input answered.part p answered.has_part lacks
-answered_or_refused law task name input out status answered (RefusesInput.text bytes q s has reason is) = judged_or_refused law.reading task name input answered.protocol q answered.judged reason
+answered_or_refused law task name input out status answered (RefusesInput.text bytes q s has reason is) = judged_or_refused law.reading name input answered.protocol q answered.judged reason
 answered_or_refused law task name input out status answered (RefusesInput.part bytes y s has judged reason) =
-    let same = judged_once law.reading task name input y answered.protocol judged answered.judged in
+    let same = judged_once law.reading name input y answered.protocol judged answered.judged in
     let bytes_same = one_part (rules_of task).part input bytes answered.part has answered.has_part in
     (laws_of task).distinct law.evidence answered.protocol answered.part out status s answered.judged.admitted answered.answer (subst (λ z. (rules_of task).refuses z answered.part s) same (subst (λ b. (rules_of task).refuses y b s) bytes_same reason))
 
 -- nor are the arguments
 done_or_refused : OneEach → (args : List (List ℕ)) (bytes out : List ℕ) (status : Status) {r : Rejection} → IsDone args bytes out status → Refuses args bytes r → ⊥
-done_or_refused law args bytes out status made (Refuses.unsupported other) = task_or_unsupported law.line args made.task made.name made.read.requested other
 done_or_refused law args bytes out status made (Refuses.too_long asks long) = long_or_read args bytes made.task made.name asks long made.read
 done_or_refused law args bytes out status made (Refuses.read task name r read reason) =
-    answered_or_refused law made.task made.name bytes out status made.answered (as_requested law.line (λ t n. RefusesInput t n bytes r) args made.task task made.name name made.read.requested read.requested reason)
+    answered_or_refused law made.task made.name (task_bytes made.task bytes) out status made.answered (as_requested law.line (λ t n. RefusesInput t n (task_bytes t bytes) r) args made.task task made.name name made.read.requested read.requested reason)
 
 -- what is refused is a command line
 refused_line : (args : List (List ℕ)) (bytes : List ℕ) {r : Rejection} → Refuses args bytes r → HasCommandLine args
-refused_line args bytes (Refuses.unsupported other) = (other.line, other.is_line)
 refused_line args bytes (Refuses.too_long asks long) = (asks.requested.line, asks.requested.is_line)
 refused_line args bytes (Refuses.read task name r read reason) = (read.requested.line, read.requested.is_line)
 
@@ -161,7 +151,7 @@ refusal_law law args bytes out r status refuses output = refusal_is_all law args
 -- two answers to a determined task are one
 same_answer : OneEach → (task : Task) (name input out out' : List ℕ) (status status' : Status) → (rules_of task).is_determined → AnswersInput task name input out status → AnswersInput task name input out' status' → IsOutput out status out' status'
 same_answer law task name input out out' status status' determined one other =
-    let same = judged_once law.reading task name input other.protocol one.protocol other.judged one.judged in
+    let same = judged_once law.reading name input other.protocol one.protocol other.judged one.judged in
     let bytes_same = one_part (rules_of task).part input other.part one.part other.has_part one.has_part in
     (laws_of task).one_answer law.evidence one.protocol one.part out out' status status' one.judged.admitted determined one.answer
     (subst (λ z. (rules_of task).answers z one.part out' status') same (subst (λ b. (rules_of task).answers other.protocol b out' status') bytes_same other.answer))
@@ -175,9 +165,9 @@ one_output law args bytes task name _ out' _ status' requests determined (refuse
 one_output law args bytes task name _ _ _ _ requests determined (done out status made) (usage none) = absurd (none (requests.line, requests.is_line))
 one_output law args bytes task name _ _ _ _ requests determined (done out status made) (refused r refuses) = absurd (done_or_refused law args bytes out status made refuses)
 one_output law args bytes task name _ _ _ _ requests determined (done out status made) (done out' status' made_too) =
-    same_answer law task name bytes out out' status status' determined
-    (as_requested law.line (λ t n. AnswersInput t n bytes out status) args task made.task name made.name requests made.read.requested made.answered)
-    (as_requested law.line (λ t n. AnswersInput t n bytes out' status') args task made_too.task name made_too.name requests made_too.read.requested made_too.answered)
+    same_answer law task name (task_bytes task bytes) out out' status status' determined
+    (as_requested law.line (λ t n. AnswersInput t n (task_bytes t bytes) out status) args task made.task name made.name requests made.read.requested made.answered)
+    (as_requested law.line (λ t n. AnswersInput t n (task_bytes t bytes) out' status') args task made_too.task name made_too.name requests made_too.read.requested made_too.answered)
 
 pub answer_law : OneEach → OneAnswer
 answer_law law args bytes task name out out' status status' requests determined one other =

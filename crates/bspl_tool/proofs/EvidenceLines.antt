@@ -22,8 +22,8 @@ use Rattle.refutation_log.specs.declared.refutation.Version.TheVariants.{One, Tw
 use Rattle.refutation_log.specs.Entries.{entries}
 use Rattle.refutation_log.specs.LogText.{drop_fields, entry_line, header_line, least_version, line_of, link_fields, log_text, numeral, pivot_text, step_fields, versioned_text}
 use Rattle.run_text.specs.RunText.{event_line, head_line, instance_fields, no_param, run_text, value_field}
-use Rattle.bspl_tool.proofs.ClaimsNothing.{IsBlock, block_joined, claims, no_lines}
-use Rattle.bspl_tool.proofs.FieldBytes.{fields_are_block, indexed_has_no_lf, numeral_has_no_lf, value_has_no_lf}
+use Rattle.bspl_tool.proofs.ClaimsNothing.{IsBlock, IsField, block_joined, claims, no_lines}
+use Rattle.bspl_tool.proofs.FieldBytes.{fields_are_block, indexed_has_no_lf, indexed_is_field, numeral_has_no_lf, value_has_no_lf}
 use Rattle.bspl_tool.proofs.Unbroken.{has_lf, joined_has_none}
 
 -- a block for each item
@@ -55,7 +55,7 @@ drop_is_no_claim [] = refl
 drop_is_no_claim (field ∷ fields) = refl
 
 -- the line of a step, or of a removal
-entry_is_block : (entry : Entry) → IsBlock (entry_line entry)
+pub entry_is_block : (entry : Entry) → IsBlock (entry_line entry)
 entry_is_block (Step step) = fields_are_block (step_fields step) (or_from (has_lf (numeral step.first)) _ (numeral_has_no_lf step.first) (links_have_no_lf step.links)) refl
 entry_is_block (Drop numbers) = fields_are_block (drop_fields numbers) (numbers_have_no_lf numbers) (drop_is_no_claim (map numeral numbers))
 
@@ -82,6 +82,10 @@ param_has_no_lf x p = indexed_has_no_lf (λ q. q.name) no_param refl x.params x.
 -- the name of a message
 pub message_has_no_lf : (x : Expanded) (m : ℕ) → has_lf (message_of x m).name ≡ false
 message_has_no_lf x m = indexed_has_no_lf (λ n. n.name) no_message refl x.messages x.shape.message_names.named m
+
+-- it is one field of a line
+pub message_is_field : (x : Expanded) (m : ℕ) → IsField (message_of x m).name
+message_is_field x m = indexed_is_field (λ n. n.name) no_message (record { no_lf = refl; no_space = refl; no_brace = refl }) x.messages x.shape.message_names.named m
 
 -- the fields of values
 values_have_no_lf : (x : Expanded) (values : List (Carried × Value)) → list_any has_lf (map (value_field x.params) values) ≡ false

@@ -12,8 +12,8 @@ use Rattle.bspl_types.specs.Name.{is_name}
 use Rattle.bspl_types.specs.ValueSpelling.{byte_spelling, is_plain, value_spelling}
 use Rattle.refutation_log.specs.LogText.{line_of}
 use Rattle.list_base.specs.Numeral.{numeral}
-use Rattle.bspl_tool.proofs.ClaimsNothing.{IsBlock, claims, closed, line_claims_nothing}
-use Rattle.bspl_tool.proofs.NameBytes.{name_has_no_lf, passes}
+use Rattle.bspl_tool.proofs.ClaimsNothing.{IsBlock, IsField, claims, closed, line_claims_nothing}
+use Rattle.bspl_tool.proofs.NameBytes.{name_has_no_lf, name_is_field, passes}
 use Rattle.bspl_tool.proofs.Unbroken.{decimal_has_no_lf, digit_is_no_lf, has_lf, joined_has_none}
 
 -- the glyphs of digits
@@ -51,8 +51,14 @@ indexed_has_no_lf name none bare [] named k = bare
 indexed_has_no_lf name none bare (x ∷ items) named zero = name_has_no_lf (name x) (All-head (λ y. IsTrue (is_name (name y))) x items named)
 indexed_has_no_lf name none bare (x ∷ items) named (suc k) = indexed_has_no_lf name none bare items (All-tail (λ y. IsTrue (is_name (name y))) x items named) k
 
+-- so it is one field of a line
+pub indexed_is_field : {X : Type 0} (name : X → List ℕ) (none : X) → IsField (name none) → (items : List X) → All (λ x. IsTrue (is_name (name x))) items → (k : ℕ) → IsField (name (slice_index_or items k none))
+indexed_is_field name none bare [] named k = bare
+indexed_is_field name none bare (x ∷ items) named zero = name_is_field (name x) (All-head (λ y. IsTrue (is_name (name y))) x items named)
+indexed_is_field name none bare (x ∷ items) named (suc k) = indexed_is_field name none bare items (All-tail (λ y. IsTrue (is_name (name y))) x items named) k
+
 -- fields without an LF, with a space between each two
-joined_fields : (fields : List (List ℕ)) → list_any has_lf fields ≡ false → has_lf (join_with_byte 32 fields) ≡ false
+pub joined_fields : (fields : List (List ℕ)) → list_any has_lf fields ≡ false → has_lf (join_with_byte 32 fields) ≡ false
 joined_fields [] none = refl
 joined_fields (field ∷ []) none = (or_parts (has_lf field) false none).0
 joined_fields (field ∷ next ∷ fields) none =

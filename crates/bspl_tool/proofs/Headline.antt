@@ -15,12 +15,14 @@ use Rattle.program_frame.specs.declared.ending.Ending.{Ending}
 use Rattle.program_frame.specs.declared.ending.Ending.TheVariants.{Answered, ReadFault, WriteFault, NoMemory}
 use Rattle.bspl_tool.specs.Call.{IsToolCall}
 use Rattle.bspl_tool.specs.Laws.{CallsAreTrue}
-use Rattle.bspl_tool.specs.Headline.{IsTrueOf, TrueWhereSaid}
+use Rattle.bspl_tool.specs.Headline.{IsJudged, IsTrueOf, TrueWhereSaid}
 use Rattle.bspl_tool.specs.Output.{IsDone, Output, usage, refused, done}
 use Rattle.bspl_tool.specs.Request.{RequestsInput}
-use Rattle.bspl_tool.specs.Task.{judged_text}
+use Rattle.tool_input.specs.Parts.{protocol_text}
+use Rattle.bspl_tool.specs.Task.{task_bytes}
 use Rattle.bspl_tool.specs.Refusals.{Refuses, RefusesInput}
-use Rattle.bspl_tool.proofs.ClaimsNothing.{ClaimsNothing, line_claims_nothing, says_nothing}
+use Rattle.bspl_tool.proofs.ClaimsNothing.{ClaimsNothing, line_claims_nothing, says_no_message, says_nothing}
+use Rattle.bspl_tool.proofs.NameBytes.{name_is_field}
 use Rattle.bspl_tool.proofs.RejectedNames.{HasNames, requested_is_name, text_rejection_names}
 use Rattle.bspl_tool.proofs.RejectionLines.{rejection_claims_nothing}
 use Rattle.bspl_tool.proofs.TaskLaws.{laws_of}
@@ -28,25 +30,29 @@ use Rattle.bspl_tool.proofs.TaskLaws.{laws_of}
 -- the names in a refusal of an input are names
 input_names : (task : Task) (name input : List ℕ) {r : Rejection} → IsTrue (is_name name) → RefusesInput task name input r → HasNames r
 input_names task name input named (RefusesInput.no_part part lacks) = record { first = tt; second = tt }
-input_names task name input named (RefusesInput.text part q r has reason is) = text_rejection_names name (judged_text task input) q r named reason is
+input_names task name input named (RefusesInput.text part q r has reason is) = text_rejection_names name (protocol_text input) q r named reason is
 input_names task name input named (RefusesInput.part part x r has judged reason) = (laws_of task).names x part r reason
 
 -- so are those in each refusal
 refused_names : (args : List (List ℕ)) (bytes : List ℕ) {r : Rejection} → Refuses args bytes r → HasNames r
-refused_names args bytes (Refuses.unsupported requests) = record { first = tt; second = tt }
 refused_names args bytes (Refuses.too_long asks long) = record { first = tt; second = tt }
-refused_names args bytes (Refuses.read task name r read refuses) = input_names task name bytes (requested_is_name args task name read.requested) refuses
+refused_names args bytes (Refuses.read task name r read refuses) = input_names task name (task_bytes task bytes) (requested_is_name args task name read.requested) refuses
 
 -- a prefix of a text that claims nothing
 nothing_said : (args : List (List ℕ)) (remaining : Option (List ℕ)) (text : List ℕ) (n : ℕ) → ClaimsNothing text → IsTrueOf args remaining (take n text)
-nothing_said args remaining text n nothing = record { claimed = λ claim says. absurd (says_nothing claim text n nothing says) }
+nothing_said args remaining text n nothing = record {
+  claimed = λ claim says. absurd (says_nothing claim text n nothing says);
+  messages = λ claim name named says. absurd (says_no_message claim name text n (nothing.messages name (name_is_field name named)) says);
+}
 
 -- a prefix of an answer
 truly_said : (args : List (List ℕ)) (remaining : Option (List ℕ)) (bytes out : List ℕ) (status : Status) (n : ℕ) → AreRemaining remaining bytes → IsDone args bytes out status → IsTrueOf args remaining (take n out)
 truly_said args remaining bytes out status n input made =
     let answered = made.answered in
+    let judged : IsJudged args remaining answered.protocol = record { task = made.task; name = made.name; requested = made.read.requested; bytes = bytes; input = input; judged = answered.judged } in
     let honest = (laws_of made.task).honest answered.protocol answered.part out status n answered.answer in record {
-      claimed = λ claim says. (answered.protocol, record { task = made.task; name = made.name; requested = made.read.requested; bytes = bytes; input = input; judged = answered.judged }, honest.claimed claim says);
+      claimed = λ claim says. (answered.protocol, judged, honest.claimed claim says);
+      messages = λ claim name named says. (answered.protocol, judged, honest.messages claim name named says);
     }
 
 -- a prefix of an output
@@ -72,7 +78,7 @@ true_after_text args remaining remaining_after old new bytes out status input ou
 true_after_nothing : (args : List (List ℕ)) (remaining remaining_after old new : Option (List ℕ)) → new ≡ old → TrueWhereSaid args (record { remaining = remaining; remaining_after = remaining_after; contents = old; contents_after = new })
 true_after_nothing args remaining remaining_after None new same = tt
 true_after_nothing args remaining remaining_after (Some before) new same = subst (λ after. IfSome after (λ bytes. (out : List ℕ) → bytes ≡ before ++ out → IsTrueOf args remaining out)) (sym same) (λ written is.
-    subst (IsTrueOf args remaining) (append_cancel_left before [] written (append-nil before ∙ is)) (nothing_said args remaining (codes "\n") 0 (record { first = refl; later = refl })))
+    subst (IsTrueOf args remaining) (append_cancel_left before [] written (append-nil before ∙ is)) (nothing_said args remaining (codes "\n") 0 (line_claims_nothing [] refl refl)))
 
 -- what was written of an output
 prefix_true : (args : List (List ℕ)) (t : Traffic) → WritesPrefix (RequestsInput args) input_limit (Output args) t → TrueWhereSaid args t

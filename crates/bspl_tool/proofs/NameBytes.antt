@@ -1,15 +1,16 @@
--- A name has neither a space nor an LF.
-use Rattle.std.proofs.Common.{◌≡◌, ◌≢◌, ℕ, Bool, true, false, not, ◌&&◌, List, [], ◌∷◌, ◌++◌, map, codes, get_or, eqb, one-add, add-one, inl, inr, refl, sym, ◌∙◌, ap}
+-- A name has neither a space, an LF nor a brace.
+use Rattle.std.proofs.Common.{◌≡◌, ◌≢◌, ℕ, Bool, true, false, not, ◌&&◌, List, [], ◌∷◌, ◌++◌, append_assoc, map, codes, drop, get_or, eqb, one-add, add-one, inl, inr, refl, sym, ◌∙◌, ap}
 use Rattle.std.specs.Prelude.{IsTrue}
 use Rattle.std.specs.Char.{is_ascii_digit}
 use Rattle.std.specs.List.{after_first, before_first, join_with_byte, list_all, list_any, slice_split}
-use Rattle.std.proofs.lemmas.Bool.{and_parts, cases_Bool, eqb-true, false_from_ne_true, false≢true, or_from, or_parts}
+use Rattle.std.proofs.lemmas.Bool.{and_parts, cases_Bool, eq-eqb, eqb-true, false_from_ne_true, false≢true, or_from, or_parts}
 use Rattle.std.proofs.lemmas.List.Splits.{join_with_byte-slice_split}
 use Rattle.bspl_types.specs.Name.{begins_name, goes_on, is_group, is_grouped, is_name, is_name_rest, is_plain_name, is_positive_number, is_reserved}
 use Rattle.bspl_tool.specs.declared.claim.Claim.{Claim}
 use Rattle.bspl_tool.specs.declared.claim.Claim.TheVariants.{AcceptedLiveness, AcceptedSafety, LivenessLive, SafetySafe}
 use Rattle.bspl_tool.specs.Claims.{all_claims, claim_line}
-use Rattle.bspl_tool.proofs.ClaimsNothing.{claims, starts, starts_rest}
+use Rattle.bspl_tool.specs.Texts.{dead_line, enacted_line}
+use Rattle.bspl_tool.proofs.ClaimsNothing.{IsField, begins, claim_lines, message_lines, starts, starts_rest}
 use Rattle.bspl_tool.proofs.Unbroken.{has_byte, has_lf, joined_has_none}
 
 -- no name has the byte
@@ -114,6 +115,19 @@ space_not_later (b ∷ rest) = refl
 name_has_no_space : (name : List ℕ) → IsTrue (is_name name) → has_byte 32 name ≡ false
 name_has_no_space name named = name_has_none 32 (record { not_first = refl; not_later = space_not_later; no_digit = refl; no_hash = refl; no_dot = refl }) name named
 
+-- nor a brace
+brace_not_later : (rest : List ℕ) → goes_on 123 rest ≡ false
+brace_not_later [] = refl
+brace_not_later (b ∷ rest) = refl
+
+-- so it is one field of a line
+pub name_is_field : (name : List ℕ) → IsTrue (is_name name) → IsField name
+name_is_field name named = record {
+  no_lf = name_has_no_lf name named;
+  no_space = name_has_no_space name named;
+  no_brace = name_has_none 123 (record { not_first = refl; not_later = brace_not_later; no_digit = refl; no_hash = refl; no_dot = refl }) name named;
+}
+
 -- what comes after the first space of two equal texts
 after_space_same : (one other x y : List ℕ) → has_byte 32 one ≡ false → has_byte 32 other ≡ false → one ++ 32 ∷ x ≡ other ++ 32 ∷ y → x ≡ y
 after_space_same [] [] x y none_in_one none_in_other same = cc
@@ -152,5 +166,56 @@ begins_none (claim ∷ some) name x named =
     (begins_none some name x named)
 
 -- so a text that begins with them begins with no such line
-pub name_claims_nothing : (name x : List ℕ) → IsTrue (is_name name) → claims (name ++ 32 ∷ 123 ∷ x) ≡ false
+pub name_claims_nothing : (name x : List ℕ) → IsTrue (is_name name) → begins claim_lines (name ++ 32 ∷ 123 ∷ x) ≡ false
 name_claims_nothing name x named = begins_none all_claims name x named
+
+-- a brace comes before no name that has a space after it
+brace_is_no_field : (said more x : List ℕ) → has_byte 123 said ≡ false → 123 ∷ x ≢ said ++ 32 ∷ more
+brace_is_no_field [] more x none same = false≢true (ap (λ t. eqb (get_or t 0 0) 123) (sym same))
+brace_is_no_field (b ∷ said) more x none same =
+    false≢true (sym (or_parts (eqb b 123) (has_byte 123 said) none).0 ∙ ap (λ t. eqb (get_or t 0 0) 123) (sym same))
+
+-- the word before a name of a message is that of no protocol
+name_is_no_message : (name x said word rest : List ℕ) → IsTrue (is_name name) → IsField said → name ++ 32 ∷ 123 ∷ x ≢ (codes "message " ++ said ++ 32 ∷ word) ++ rest
+name_is_no_message name x said word rest named field same =
+    let after = after_space_same name (codes "message") (123 ∷ x) ((said ++ 32 ∷ word) ++ rest) (name_has_no_space name named) refl same in
+    brace_is_no_field said (word ++ rest) x field.no_brace (after ∙ append_assoc said (32 ∷ word) rest)
+
+-- so a text that begins with them begins with no line on a message
+pub name_says_no_message : (name x said : List ℕ) → IsTrue (is_name name) → IsField said → begins (message_lines said) (name ++ 32 ∷ 123 ∷ x) ≡ false
+name_says_no_message name x said named field =
+    or_from _ _ (false_from_ne_true _ (λ is. let found = starts_rest (dead_line said) (name ++ 32 ∷ 123 ∷ x) is in name_is_no_message name x said (codes "dead") found.0 named field found.1))
+    (or_from _ false (false_from_ne_true _ (λ is. let found = starts_rest (enacted_line said) (name ++ 32 ∷ 123 ∷ x) is in name_is_no_message name x said (codes "enacted") found.0 named field found.1)) refl)
+
+-- what comes before the first space of two equal texts
+pub before_space_same : (one other x y : List ℕ) → has_byte 32 one ≡ false → has_byte 32 other ≡ false → one ++ 32 ∷ x ≡ other ++ 32 ∷ y → one ≡ other
+before_space_same [] [] x y none_in_one none_in_other same = refl
+before_space_same [] (b ∷ other) x y none_in_one none_in_other same =
+    absurd (false≢true (sym (or_parts (eqb b 32) (has_byte 32 other) none_in_other).0 ∙ ap (λ t. eqb (get_or t 0 0) 32) (sym same)))
+before_space_same (b ∷ one) [] x y none_in_one none_in_other same =
+    absurd (false≢true (sym (or_parts (eqb b 32) (has_byte 32 one) none_in_one).0 ∙ ap (λ t. eqb (get_or t 0 0) 32) same))
+before_space_same (b ∷ one) (c ∷ other) x y none_in_one none_in_other same =
+    let tails : one ++ 32 ∷ x ≡ other ++ 32 ∷ y = cc in
+    let heads : b ≡ c = cc in
+    cc (heads, before_space_same one other x y (or_parts (eqb b 32) (has_byte 32 one) none_in_one).1 (or_parts (eqb c 32) (has_byte 32 other) none_in_other).1 tails)
+
+-- two lines on messages with other words after the names
+pub other_word : (name said : List ℕ) (b c : ℕ) (rest end more : List ℕ) → has_byte 32 name ≡ false → has_byte 32 said ≡ false → eqb c b ≡ false → starts (codes "message " ++ said ++ 32 ∷ c ∷ more) (codes "message " ++ (name ++ 32 ∷ b ∷ rest) ++ end) ≡ false
+other_word name said b c rest end more none_in_name none_in_said differ = false_from_ne_true _ (λ is.
+    let found = starts_rest (codes "message " ++ said ++ 32 ∷ c ∷ more) (codes "message " ++ (name ++ 32 ∷ b ∷ rest) ++ end) is in
+    let tails : (name ++ 32 ∷ b ∷ rest) ++ end ≡ (said ++ 32 ∷ c ∷ more) ++ found.0 = ap (drop 8) found.1 in
+    let same = sym (append_assoc name (32 ∷ b ∷ rest) end) ∙ tails ∙ append_assoc said (32 ∷ c ∷ more) found.0 in
+    let words : b ∷ (rest ++ end) ≡ c ∷ (more ++ found.0) = after_space_same name said (b ∷ (rest ++ end)) (c ∷ (more ++ found.0)) none_in_name none_in_said same in
+    false≢true (sym differ ∙ eq-eqb c b (sym (ap (λ t. get_or t 0 0) words))))
+
+-- so a line with a word that is none of theirs begins with none of the lines on a message
+pub other_words : (name said : List ℕ) (b : ℕ) (rest end : List ℕ) → has_byte 32 name ≡ false → IsField said → eqb 100 b ≡ false → eqb 101 b ≡ false → begins (message_lines said) (codes "message " ++ (name ++ 32 ∷ b ∷ rest) ++ end) ≡ false
+other_words name said b rest end none field differ differ_too =
+    or_from _ _ (other_word name said b 100 rest end (codes "ead") none field.no_space differ) (or_from _ false (other_word name said b 101 rest end (codes "nacted") none field.no_space differ_too) refl)
+
+-- two lines with one word have one name
+pub same_word : (name said word end : List ℕ) → has_byte 32 name ≡ false → has_byte 32 said ≡ false → name ≢ said → starts (codes "message " ++ said ++ 32 ∷ word) (codes "message " ++ (name ++ 32 ∷ word) ++ end) ≡ false
+same_word name said word end none_in_name none_in_said differ = false_from_ne_true _ (λ is.
+    let found = starts_rest (codes "message " ++ said ++ 32 ∷ word) (codes "message " ++ (name ++ 32 ∷ word) ++ end) is in
+    let tails : (name ++ 32 ∷ word) ++ end ≡ (said ++ 32 ∷ word) ++ found.0 = ap (drop 8) found.1 in
+    differ (before_space_same name said (word ++ end) (word ++ found.0) none_in_name none_in_said (sym (append_assoc name (32 ∷ word) end) ∙ tails ∙ append_assoc said (32 ∷ word) found.0)))

@@ -1,5 +1,5 @@
 -- The text of an expansion claims nothing.
-use Rattle.std.proofs.Common.{◌≡◌, ℕ, false, List, [], ◌∷◌, ◌++◌, codes, Option, Some, None, refl, sym, subst, append-nil, append_assoc}
+use Rattle.std.proofs.Common.{◌≡◌, ℕ, false, List, [], ◌∷◌, ◌++◌, codes, Option, Some, None, refl, sym, ◌∙◌, ap, subst, append-nil, append_assoc}
 use Rattle.std.specs.List.{flat_map}
 use Rattle.bspl_parser.specs.declared.document.Adorn.{Adorn}
 use Rattle.bspl_parser.specs.declared.document.Adorn.TheVariants.{In, Out, Nil, Any, Opt}
@@ -13,8 +13,8 @@ use Rattle.bspl_parser.specs.declared.word.Word.{Word}
 use Rattle.bspl_parser.specs.Grammar.{symbol_of}
 use Rattle.bspl_parser.specs.Layout.{comma_prefixed, item_line, indented_line, printed, printed_declaration, printed_formal, printed_key, printed_message, printed_reference, printed_word, private_line, comma_separated}
 use Rattle.bspl_parser.specs.Symbol.{spelling}
-use Rattle.bspl_tool.proofs.ClaimsNothing.{ClaimsNothing, IsBlock, block_joined, calm_before, closed, no_lines}
-use Rattle.bspl_tool.proofs.NameBytes.{name_claims_nothing, name_has_no_lf}
+use Rattle.bspl_tool.proofs.ClaimsNothing.{ClaimsNothing, IsBlock, begins, block_joined, claim_lines, closed, line_avoids, line_claims_nothing, message_lines, no_lines}
+use Rattle.bspl_tool.proofs.NameBytes.{name_claims_nothing, name_has_no_lf, name_says_no_message}
 use Rattle.bspl_tool.proofs.Unbroken.{has_lf, joined_has_none}
 
 -- it has no LF
@@ -74,7 +74,7 @@ reference_unbroken r =
 -- a line of the layout
 line_is_block : {text : List ℕ} → IsUnbroken text → IsBlock (indented_line text)
 line_is_block {text} one = record {
-  nothing = record { first = refl; later = calm_before text (codes "\n") one.whole refl };
+  nothing = line_claims_nothing (codes "  " ++ text) one.whole refl;
   whole = closed (codes "  " ++ text) refl;
 }
 
@@ -95,13 +95,16 @@ private_is_block (w ∷ words) = line_is_block (unbroken {one = codes "private "
 
 -- the line with a protocol's name and a brace
 name_is_block : (w : Word) → IsBlock (w.text ++ codes " {\n")
-name_is_block w = record {
-  nothing = record {
-    first = name_claims_nothing w.text (codes "\n") w.named;
-    later = calm_before w.text (codes " {\n") (name_has_no_lf w.text w.named) refl;
-  };
-  whole = closed (w.text ++ codes " {") (sym (append_assoc w.text (codes " {") (10 ∷ [])));
-}
+name_is_block w =
+    let body = w.text ++ codes " {" in
+    let none = joined_has_none 10 w.text (codes " {") (name_has_no_lf w.text w.named) refl in
+    let as_one : body ++ codes "\n" ≡ w.text ++ codes " {\n" = append_assoc w.text (codes " {") (codes "\n") in record {
+      nothing = subst ClaimsNothing as_one (record {
+        protocol = line_avoids claim_lines body refl none (ap (begins claim_lines) as_one ∙ name_claims_nothing w.text (codes "\n") w.named);
+        messages = λ name field. line_avoids (message_lines name) body refl none (ap (begins (message_lines name)) as_one ∙ name_says_no_message w.text (codes "\n") name w.named field);
+      });
+      whole = closed body (sym as_one);
+    }
 
 -- the text of a protocol
 declaration_is_block : (d : Declaration) → IsBlock (printed_declaration d)
@@ -109,7 +112,7 @@ unfolding printed_declaration
 declaration_is_block d =
     let roles = line_is_block (unbroken {one = codes "roles "} (record { whole = refl }) (list_unbroken printed_word d.roles word_unbroken)) in
     let params = line_is_block (unbroken {one = codes "parameters "} (record { whole = refl }) (list_unbroken printed_formal d.public formal_unbroken)) in
-    let brace : IsBlock (codes "}\n") = record { nothing = record { first = refl; later = refl }; whole = closed (codes "}") refl } in
+    let brace : IsBlock (codes "}\n") = record { nothing = line_claims_nothing (codes "}") refl refl; whole = closed (codes "}") refl } in
     block_joined (block_joined (block_joined (block_joined (block_joined (name_is_block d.name) roles) params) (private_is_block d.private)) (body_is_block d.body)) brace
 
 -- also if it is alone in a document

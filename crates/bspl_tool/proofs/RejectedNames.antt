@@ -1,5 +1,5 @@
 -- The names in a rejection are names.
-use Rattle.std.proofs.Common.{◌≡◌, ◌≢◌, ℕ, Bool, true, false, List, Option, Some, slice_get, refl, sym, ◌∙◌, subst}
+use Rattle.std.proofs.Common.{◌≡◌, ◌≢◌, ℕ, Bool, true, false, List, codes, Option, Some, slice_get, refl, sym, ◌∙◌, subst}
 use Rattle.std.specs.Prelude.{IfSome, IsTrue, ⊤}
 use Rattle.std.specs.List.{All}
 use Rattle.std.proofs.lemmas.List.Elements.{All-get_or}
@@ -25,10 +25,15 @@ use Rattle.tool_input.specs.Rejection.{text_rejection}
 use Rattle.bspl_tool.specs.Request.{IsAbout, Requests}
 use Rattle.tool_input.specs.TextRefusal.{RefusesText, too_long, misspelled, not_expanded, not_admitted}
 
+-- the name of what is generated is a name
+stage_is_name : IsTrue (is_name (codes "Stage"))
+unfolding is_name
+stage_is_name = refl
+
 -- the name that the arguments have is a name
 subject_is_name : (size : Bool) (word : List ℕ) (subject : Subject) (name : List ℕ) → IsSubject size word subject → IsAbout subject name → IsTrue (is_name name)
 subject_is_name true word (Protocol said) name is about = absurd is
-subject_is_name true word (Size n) name is about = absurd about
+subject_is_name true word (Size n) name is about = subst (λ text. IsTrue (is_name text)) about stage_is_name
 subject_is_name false word (Protocol said) name is about = subst (λ text. IsTrue (is_name text)) (sym is.0 ∙ about) is.1
 subject_is_name false word (Size n) name is about = absurd is
 

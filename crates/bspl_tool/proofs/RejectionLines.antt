@@ -5,7 +5,7 @@ use Rattle.bspl_types.specs.declared.refusals.What.TheVariants as what
 use Rattle.tool_input.specs.declared.parts.Part.{Part}
 use Rattle.tool_input.specs.declared.parts.Part.TheVariants.{Agents, Log, Run}
 use Rattle.tool_input.specs.declared.rejection.Code.{Code}
-use Rattle.tool_input.specs.declared.rejection.Code.TheVariants.{E, L, N, P, S, W}
+use Rattle.tool_input.specs.declared.rejection.Code.TheVariants.{E, L, P, S, W}
 use Rattle.tool_input.specs.declared.rejection.Field.{Field}
 use Rattle.tool_input.specs.declared.rejection.Field.TheVariants as field
 use Rattle.tool_input.specs.declared.rejection.Rejection.{Rejection}
@@ -23,7 +23,6 @@ code_has_no_lf (E n) = decimal_has_no_lf n
 code_has_no_lf (L n) = decimal_has_no_lf n
 code_has_no_lf (W n) = decimal_has_no_lf n
 code_has_no_lf (S n) = decimal_has_no_lf n
-code_has_no_lf (N n) = decimal_has_no_lf n
 
 -- nor the word for what is counted
 what_has_no_lf : (counted : What) → has_lf (what_word counted) ≡ false

@@ -29,8 +29,8 @@ use Rattle.tool_input.specs.declared.status.Status.{Status}
 use Rattle.bspl_tool.specs.Laws.{IsOutput}
 use Rattle.bspl_tool.specs.ReplayAnswer.{run_rejection}
 use Rattle.bspl_tool.specs.ReplayAnswer.{IsReplayAnswer, IsReplayRefused, SaysLegal, replay_rules}
-use Rattle.bspl_tool.proofs.ClaimsNothing.{IsBlock, block_joined, claims, no_lines, says_nothing}
-use Rattle.bspl_tool.proofs.CommandLaws.{CommandLaws}
+use Rattle.bspl_tool.proofs.ClaimsNothing.{IsBlock, block_joined, claims, no_lines}
+use Rattle.bspl_tool.proofs.CommandLaws.{CommandLaws, honest_nothing}
 use Rattle.bspl_tool.proofs.EvidenceLines.{message_has_no_lf, param_has_no_lf}
 use Rattle.bspl_tool.proofs.FieldBytes.{fields_are_block, value_has_no_lf}
 use Rattle.bspl_tool.proofs.RejectedNames.{HasNames}
@@ -136,9 +136,7 @@ replayed_once once x part out out' status status' admitted one other =
 -- the laws of the command
 pub replay_laws : CommandLaws OneReplay replay_rules
 replay_laws = record {
-  honest = λ x part out status n answer. record {
-    claimed = λ claim says. absurd (says_nothing claim out n (report_is_block x answer.run out answer.text).nothing says);
-  };
+  honest = λ x part out status n answer. honest_nothing x out n (report_is_block x answer.run out answer.text).nothing;
   names = λ x part r refused. subst (λ o. IfSome o HasNames) refused.rejection_is (line_names refused.refusal);
   distinct = λ once x part out status r admitted answer refused. once.exclusive x part answer.run refused.refusal (not_memory refused.refusal r refused.rejection_is) answer.read refused.refused;
   one_refusal = λ once x part r s admitted one other. refused_once once x part r s one other;

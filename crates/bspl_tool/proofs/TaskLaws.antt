@@ -1,16 +1,22 @@
 -- The laws of each command.
 use Rattle.bspl_tool.specs.declared.task.Task.{Task}
-use Rattle.bspl_tool.specs.declared.task.Task.TheVariants.{Check, Expand, Replay, Run, Verify}
+use Rattle.bspl_tool.specs.declared.task.Task.TheVariants.{Check, CheckDead, Dead, Expand, Generate, Replay, Run, Verify}
 use Rattle.bspl_tool.specs.CheckAnswer.{check_rules}
+use Rattle.bspl_tool.specs.CheckDeadAnswer.{check_dead_rules}
 use Rattle.bspl_tool.specs.ExpandAnswer.{expand_rules}
+use Rattle.bspl_tool.specs.GenerateAnswer.{generate_rules}
 use Rattle.bspl_tool.specs.ReplayAnswer.{replay_rules}
 use Rattle.bspl_tool.specs.RunAnswer.{run_rules}
 use Rattle.bspl_tool.specs.Task.{rules_of}
+use Rattle.bspl_tool.proofs.CheckDeadLaws.{OneCheckDead, check_dead_laws}
 use Rattle.bspl_tool.proofs.CheckLaws.{OneCheck, check_laws}
 use Rattle.bspl_tool.proofs.CommandLaws.{CommandLaws, with_more}
+use Rattle.bspl_tool.proofs.AgentsLaws.{OneAgents}
+use Rattle.bspl_tool.proofs.DeadLaws.{dead_laws}
 use Rattle.bspl_tool.proofs.ExpandLaws.{OnePrinting, expand_laws}
+use Rattle.bspl_tool.proofs.GenerateLaws.{generate_laws}
 use Rattle.bspl_tool.proofs.ReplayLaws.{OneReplay, replay_laws}
-use Rattle.bspl_tool.proofs.RunLaws.{OneAgents, run_laws}
+use Rattle.bspl_tool.proofs.RunLaws.{run_laws}
 use Rattle.bspl_tool.proofs.VerifyLaws.{verify_laws}
 
 -- what is read and printed has one answer
@@ -19,6 +25,7 @@ pub record OneEvidence : Type 0 where
   pub check : OneCheck
   pub replay : OneReplay
   pub agents : OneAgents
+  pub dead : OneCheckDead
 
 -- one row for each command
 pub laws_of : (task : Task) → CommandLaws OneEvidence (rules_of task)
@@ -27,3 +34,6 @@ laws_of (Verify brief conflicts) = verify_laws brief conflicts
 laws_of Check = with_more check_rules (λ once. once.check) check_laws
 laws_of Replay = with_more replay_rules (λ once. once.replay) replay_laws
 laws_of (Run brief conflicts threads) = with_more (run_rules brief conflicts threads) (λ once. once.agents) (run_laws brief conflicts threads)
+laws_of (Dead brief conflicts) = dead_laws brief conflicts
+laws_of CheckDead = with_more check_dead_rules (λ once. once.dead) check_dead_laws
+laws_of (Generate stages conflicts threads) = with_more (generate_rules stages conflicts threads) (λ once. once.agents) (generate_laws stages conflicts threads)

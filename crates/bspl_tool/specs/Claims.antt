@@ -1,10 +1,13 @@
--- The lines that claim something of a protocol, and what they claim.
-use Rattle.std.specs.Prelude.{ℕ, List, [], ◌∷◌, codes}
+-- The lines that claim something of a protocol or of a message, and what they claim.
+use Rattle.std.specs.Prelude.{◌≡◌, ℕ, ◌<◌, List, [], ◌∷◌, codes, length}
 use Rattle.bspl_types.specs.declared.expanded.Expanded.{Expanded}
+use Rattle.bspl_types.specs.Expansion.{message_name}
+use Rattle.enactability.specs.Enactable.{Enactable}
 use Rattle.enactment_model.specs.Liveness.{LiveProtocol}
 use Rattle.enactment_model.specs.Safety.{SafeProtocol}
 use Rattle.bspl_tool.specs.declared.claim.Claim.{Claim}
 use Rattle.bspl_tool.specs.declared.claim.Claim.TheVariants.{AcceptedLiveness, AcceptedSafety, LivenessLive, SafetySafe}
+use Rattle.bspl_tool.specs.Texts.{dead_line, enacted_line}
 
 -- the line of each claim
 abbrev pub claim_line : Claim → List ℕ
@@ -24,3 +27,25 @@ IsClaimTrue AcceptedLiveness x = LiveProtocol x
 -- all claims
 abbrev pub all_claims : List Claim
 all_claims = SafetySafe ∷ AcceptedSafety ∷ LivenessLive ∷ AcceptedLiveness ∷ []
+
+-- what a line may claim of the message that it names
+pub data MessageClaim : Type 0 where
+  SaysDead : MessageClaim
+  SaysEnacted : MessageClaim
+
+-- the line of each such claim on the message of that name
+abbrev pub message_claim_line : MessageClaim → List ℕ → List ℕ
+message_claim_line SaysDead name = dead_line name
+message_claim_line SaysEnacted name = enacted_line name
+
+-- what it says of the message: no legal run emits it, or some legal run does
+abbrev pub IsMessageClaimTrue : MessageClaim → Expanded → ℕ → Type 0
+IsMessageClaimTrue SaysDead x m = ¬ Enactable x m
+IsMessageClaimTrue SaysEnacted x m = Enactable x m
+
+-- the protocol has a message of that name, and the claim is true of it
+pub record IsTrueOfMessage (claim : MessageClaim) (x : Expanded) (name : List ℕ) : Type 0 where
+  pub message : ℕ
+  pub known : message < length x.messages
+  pub named : message_name x message ≡ name
+  pub holds : IsMessageClaimTrue claim x message

@@ -10,7 +10,12 @@ pub mod ExpandAnswer
 pub mod CheckAnswer
 pub mod VerifyAnswer
 pub mod ReplayAnswer
+pub mod PlayedText
 pub mod RunAnswer
+pub mod GenerateAnswer
+pub mod DeadAnswer
+pub mod CheckDeadAnswer
+pub mod StageCount
 pub mod Refusals
 pub mod Texts
 pub mod Laws

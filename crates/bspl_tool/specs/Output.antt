@@ -6,27 +6,30 @@ use Rattle.tool_input.specs.declared.status.Status.{Status}
 use Rattle.tool_input.specs.declared.status.Status.TheVariants.{Usage, Refused}
 use Rattle.tool_input.specs.Input.{Declares}
 use Rattle.tool_input.specs.NeededPart.{HasPart}
+use Rattle.tool_input.specs.Parts.{protocol_text}
 use Rattle.tool_input.specs.Rejection.{rejection_line}
 use Rattle.bspl_tool.specs.declared.task.Task.{Task}
 use Rattle.bspl_tool.specs.Refusals.{IsRead, Refuses}
 use Rattle.bspl_tool.specs.Request.{HasCommandLine}
-use Rattle.bspl_tool.specs.Task.{judged_text, rules_of}
+use Rattle.bspl_tool.specs.Task.{rules_of, task_bytes}
 use Rattle.bspl_tool.specs.Texts.{usage_text}
 
--- a right answer to the task on the protocol that it judges, with the part that it needs
+-- a right answer to the task on these bytes: on the protocol that they declare, with the part that it
+-- needs
 pub record AnswersInput (task : Task) (name input out : List ℕ) (status : Status) : Type 0 where
   pub part : List ℕ
   pub has_part : HasPart (rules_of task).part input part
   pub protocol : Expanded
-  pub judged : Declares name (judged_text task input) protocol
+  pub judged : Declares name (protocol_text input) protocol
   pub answer : (rules_of task).answers protocol part out status
 
--- the arguments request a task, and the output is a right answer to it
+-- the arguments request a task, and the output is a right answer to it on the bytes that it is done
+-- on
 pub record IsDone (args : List (List ℕ)) (bytes out : List ℕ) (status : Status) : Type 0 where
   pub task : Task
   pub name : List ℕ
   pub read : IsRead args bytes task name
-  pub answered : AnswersInput task name bytes out status
+  pub answered : AnswersInput task name (task_bytes task bytes) out status
 
 -- the output and the status for the arguments and the bytes of the input
 pub data Output (args : List (List ℕ)) (bytes : List ℕ) : List ℕ → Status → Type 0 where

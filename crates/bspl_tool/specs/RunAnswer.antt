@@ -1,6 +1,5 @@
 -- What `run` answers on an admitted protocol and the text of its agents.
-use Rattle.std.specs.Prelude.{◌≡◌, ℕ, Bool, List, [], ◌++◌, Option, None, Some}
-use Rattle.adapter.specs.Desk.{DeskState}
+use Rattle.std.specs.Prelude.{◌≡◌, ℕ, Bool, List, ◌++◌, Option, None, Some}
 use Rattle.agent_scripts.specs.declared.plan.Plan.{Plan}
 use Rattle.agent_scripts.specs.declared.refusal.ScriptRefusal.{ScriptRefusal}
 use Rattle.agent_scripts.specs.declared.refusal.ScriptRefusal.TheVariants as script
@@ -8,35 +7,17 @@ use Rattle.agent_scripts.specs.Job.{Job}
 use Rattle.agent_scripts.specs.Refusal.{IsRefusedScript, IsScriptText}
 use Rattle.agent_scripts.specs.Script.{Script}
 use Rattle.bspl_types.specs.declared.expanded.Expanded.{Expanded}
-use Rattle.report.specs.WorldText.{IsWorldText}
-use Rattle.verdict.specs.declared.outcome.Safety.{Safety}
-use Rattle.verdict.specs.declared.outcome.Safety.TheVariants.{Safe, Undecided, Unsafe}
 use Rattle.verdict.specs.declared.outcome.Verdicts.{Verdicts}
-use Rattle.world_run.specs.Finished.{IsFinished}
-use Rattle.world_run.specs.Settling.{HaveRunWhole}
 use Rattle.tool_input.specs.declared.parts.Part.TheVariants as part
 use Rattle.tool_input.specs.declared.rejection.Code.TheVariants.{S}
 use Rattle.tool_input.specs.declared.rejection.Field.TheVariants as field
 use Rattle.tool_input.specs.declared.rejection.Rejection.{Rejection}
 use Rattle.tool_input.specs.declared.status.Status.{Status}
 use Rattle.tool_input.specs.Rejection.{with_one}
+use Rattle.bspl_tool.specs.declared.world_report.WorldReport.TheVariants.{Table}
+use Rattle.bspl_tool.specs.PlayedText.{AgentsText}
 use Rattle.bspl_tool.specs.Rules.{CommandRules}
 use Rattle.bspl_tool.specs.VerifyAnswer.{IsVerdictAnswer, verdict_status}
-
--- the text of a world whose histories are local and explained, and whose merged run is legal; the
--- job's agents played it from new desks to its end; without threads of their own they did so in
--- the order that the plan's seed gives
-pub record IsPlayedText (threads : ℕ) (job : Job) (text : List ℕ) : Type 0 where
-  pub desks : List DeskState
-  pub finished : IsFinished job desks
-  pub course : threads ≡ 0 → HaveRunWhole job desks
-  pub text_is : IsWorldText job.protocol job.script finished.run text
-
--- the agents of a protocol that is found safe play, and their world is reported; else nothing is
-abbrev pub AgentsText : ℕ → Job → Safety → List ℕ → Type 0
-AgentsText threads job (Safe log) text = IsPlayedText threads job text
-AgentsText threads job (Unsafe run param first second) text = text ≡ []
-AgentsText threads job (Undecided log) text = text ≡ []
 
 -- the output is the text of right verdicts on the job's protocol and then that of its agents; the
 -- status is that of the verdicts
@@ -47,7 +28,7 @@ pub record IsJobAnswer (brief : Bool) (budget threads : ℕ) (job : Job) (out : 
   pub verified : IsVerdictAnswer brief budget job.protocol verdicts verdict_text
   pub ends : status ≡ verdict_status verdicts.safety verdicts.liveness
   pub agents_text : List ℕ
-  pub played : AgentsText threads job verdicts.safety agents_text
+  pub played : AgentsText Table threads job verdicts.safety agents_text
   pub text : out ≡ verdict_text ++ agents_text
 
 -- the part is the text of the agents of a job, and the output answers it

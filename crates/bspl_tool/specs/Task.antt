@@ -1,12 +1,16 @@
--- The commands: one row of rules for each, and the row that a command line asks for.
-use Rattle.std.specs.Prelude.{ℕ, Bool, List, Option, None, Some}
+-- The commands: one row of rules for each, the task of each, and the bytes on which a task is done.
+use Rattle.std.specs.Prelude.{ℕ, Bool, List, Option, None, Some, unwrap_or}
 use Rattle.command_line.specs.declared.command.Command.{Command}
 use Rattle.command_line.specs.declared.command.Command.TheVariants as command
 use Rattle.tool_input.specs.Parts.{protocol_text}
+use Rattle.workload.specs.Stage.{stage_text}
 use Rattle.bspl_tool.specs.declared.task.Task.{Task}
-use Rattle.bspl_tool.specs.declared.task.Task.TheVariants.{Check, Expand, Replay, Run, Verify}
+use Rattle.bspl_tool.specs.declared.task.Task.TheVariants.{Check, CheckDead, Dead, Expand, Generate, Replay, Run, Verify}
 use Rattle.bspl_tool.specs.CheckAnswer.{check_rules}
+use Rattle.bspl_tool.specs.CheckDeadAnswer.{check_dead_rules}
+use Rattle.bspl_tool.specs.DeadAnswer.{dead_rules}
 use Rattle.bspl_tool.specs.ExpandAnswer.{expand_rules}
+use Rattle.bspl_tool.specs.GenerateAnswer.{generate_rules}
 use Rattle.bspl_tool.specs.ReplayAnswer.{replay_rules}
 use Rattle.bspl_tool.specs.Rules.{CommandRules}
 use Rattle.bspl_tool.specs.RunAnswer.{run_rules}
@@ -19,8 +23,11 @@ rules_of (Verify brief conflicts) = verify_rules brief conflicts
 rules_of Check = check_rules
 rules_of Replay = replay_rules
 rules_of (Run brief conflicts threads) = run_rules brief conflicts threads
+rules_of (Dead brief conflicts) = dead_rules brief conflicts
+rules_of CheckDead = check_dead_rules
+rules_of (Generate stages conflicts threads) = generate_rules stages conflicts threads
 
--- the task of a command with its options, if the command is supported
+-- the task of a command on the protocol of a name, with its options; `generate` has none
 abbrev pub task_of : Command → Bool → ℕ → ℕ → Option Task
 task_of command.Verify brief conflicts threads = Some (Verify brief conflicts)
 task_of command.Check brief conflicts threads = Some Check
@@ -28,7 +35,18 @@ task_of command.Replay brief conflicts threads = Some Replay
 task_of command.Expand brief conflicts threads = Some Expand
 task_of command.Run brief conflicts threads = Some (Run brief conflicts threads)
 task_of command.Generate brief conflicts threads = None
+task_of command.Dead brief conflicts threads = Some (Dead brief conflicts)
+task_of command.CheckDead brief conflicts threads = Some CheckDead
 
--- the text that declares the protocol which the task judges: the protocol text of the input
+-- the text that a task makes for itself and is done on in place of the input
+abbrev pub own_text : Task → Option (List ℕ)
+own_text (Generate stages conflicts threads) = Some (stage_text stages)
+own_text task = None
+
+-- the bytes that it is done on: its own text, or the input
+abbrev pub task_bytes : Task → List ℕ → List ℕ
+task_bytes task input = unwrap_or (own_text task) input
+
+-- the text that declares the protocol which the task judges: the protocol text of these bytes
 abbrev pub judged_text : Task → List ℕ → List ℕ
-judged_text task input = protocol_text input
+judged_text task input = protocol_text (task_bytes task input)

@@ -14,6 +14,22 @@ SaysLine text said = Contains (lines text) said
 abbrev pub usage_text : List ℕ
 usage_text = line (codes "usage: bspl COMMAND NAME [--brief] [--conflicts N] [--threads N]")
 
+-- what is said of a message that no legal run emits
+abbrev pub dead_line : List ℕ → List ℕ
+dead_line name = codes "message " ++ name ++ codes " dead"
+
+-- of one that some legal run emits
+abbrev pub enacted_line : List ℕ → List ℕ
+enacted_line name = codes "message " ++ name ++ codes " enacted"
+
+-- of one for which the search came to its budget, with the steps of its log
+abbrev pub undecided_line : List ℕ → ℕ → List ℕ
+undecided_line name steps = codes "message " ++ name ++ codes " undecided " ++ decimal steps
+
+-- and of one on which a log is accepted
+abbrev pub accepted_dead_line : List ℕ → List ℕ
+accepted_dead_line name = codes "accepted dead " ++ name
+
 -- what the answer says of a log that is not accepted: its first failure
 abbrev pub reject_text : Reject → List ℕ
 reject_text (NoClause step) = codes "rejected step " ++ decimal step ++ codes " clause"

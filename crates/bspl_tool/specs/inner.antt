@@ -2,3 +2,4 @@
 pub mod Answer
 pub mod Error
 pub mod Job
+pub mod Messages

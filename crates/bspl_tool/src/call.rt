@@ -4,7 +4,7 @@ ghost use Rattle.program_frame.specs.Call.{AreCounted};
 ghost use Rattle.bspl_tool.specs.Call.{IsToolCall};
 ghost use Rattle.bspl_tool.specs.Headline.{TrueWhereSaid};
 ghost use Rattle.bspl_tool.specs.Output.{Output};
-ghost use Rattle.bspl_tool.specs.Request.{IsRequest, IsThreaded, RequestsInput};
+ghost use Rattle.bspl_tool.specs.Request.{IsRequest, IsThreaded};
 
 use super::laws::calls_are_true;
 use super::play::finish_in_threads;
@@ -95,7 +95,7 @@ fn threaded<H: Threads + Wait + Sync, R: Source, W: Sink, G: Gate + Sync>(
     }
 }
 
-/// The reply to the whole input. Agents play in their threads.
+/// The reply to the whole input, or to no bytes if none is asked for. Agents play in their threads.
 fn reply_in_threads<H: Threads + Wait + Sync, G: Gate + Sync>(
     rt: &H,
     alloc: Global,
@@ -104,7 +104,7 @@ fn reply_in_threads<H: Threads + Wait + Sync, G: Gate + Sync>(
     gate: &G,
 ) -> Result<Reply<Status>, NoMemory>
     requires { length input.now ≤ input_limit }
-    ensures { (args : List (List ℕ)) → IsRequest args request.now → RequestsInput args →
+    ensures { (args : List (List ℕ)) → IsRequest args request.now →
         IfOk result (λ reply. Output args input.now reply.text reply.status) }
 {
     finish_in_threads(rt, alloc, request.answer(alloc, input)?, gate)

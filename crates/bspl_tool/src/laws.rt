@@ -6,9 +6,9 @@ pub fn calls_are_true()
 {}
 
 /// A law: arguments that are no command line get the usage line alone, there is one reason at most
-/// to refuse arguments and an input, what is refused is not answered, and `check`, `replay` and
-/// `expand` have one answer at most. `verify` and `run` may have several: the search may find
-/// another run, log or number of steps, and the answer with it is right too.
+/// to refuse arguments and an input, what is refused is not answered, and `check`, `check-dead`,
+/// `replay` and `expand` have one answer at most. `verify`, `dead` and `run` may have several: the
+/// search may find another run, log or number of steps, and the answer with it is right too.
 pub fn answers_are_distinct()
     ensures usage { UsageIsAll }
     ensures rejection { OneRejection }
@@ -30,6 +30,10 @@ pub fn answers_are_distinct()
     run_text::reads_once();
     // law: a run has one report
     report::replay_is_once();
+    // law: a text is that of one log on one message at most, or has one first bad line
+    enactability::dead_texts_read_once();
+    // law: such a log is accepted or has one first failure
+    enactability::dead_log_fails_once();
     // law: a text gives one script at most, or has one first bad line
     script_text::reads_once();
 }

@@ -1,25 +1,33 @@
 //! The whole tool as one call over streams.
 #![tactic(auto)]
 
+mod agents;
 mod answer;
 mod answer_error;
 mod call;
 mod check_command;
+mod check_dead_command;
 mod claim;
+mod dead_command;
+mod dead_text;
 mod expand_command;
+mod generate_command;
 mod laws;
 mod play;
 mod replay_command;
 mod request;
 mod run_command;
+mod stage_count;
 mod task;
 mod texts;
 mod verify_command;
+mod world_report;
 
+pub use agents::script_rejection;
 pub use call::{bspl, bspl_alone};
 pub use check_command::log_rejection;
 pub use claim::Claim;
 pub use laws::answers_are_distinct;
 pub use replay_command::run_rejection;
-pub use run_command::script_rejection;
+pub use stage_count::StageCount;
 pub use task::Task;

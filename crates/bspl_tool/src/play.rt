@@ -1,15 +1,15 @@
 ghost use Rattle.std.specs.Prelude.{◌≡◌, ◌++◌, ℕ, IfOk};
 ghost use Rattle.enactment_model.specs.Safety.{SafeProtocol};
-ghost use Rattle.bspl_tool.specs.RunAnswer.{IsPlayedText};
+ghost use Rattle.bspl_tool.specs.PlayedText.{IsPlayedText};
 ghost use Rattle.bspl_tool.specs.inner.Answer.{Completes, IsPlayable};
 
 use super::answer::Answer;
+use super::world_report::{WorldReport, report_on};
 use adapter::Gate;
 use agent_scripts::Job;
 use bspl_types::{Bytes, NoMemory};
 use command_line::ThreadCount;
 use program_frame::Reply;
-use report::world_text;
 use std::alloc::Global;
 use std::sync::Wait;
 use std::thread::Threads;
@@ -27,9 +27,10 @@ pub fn finish(alloc: Global, answer: Answer) -> Result<Reply<Status>, NoMemory>
         Answer::Play {
             job,
             threads: _,
+            report,
             so_far,
         } => {
-            let played = alone_text(alloc, &job);
+            let played = alone_text(alloc, report, &job);
             drop(job);
             with_played(so_far, played?)
         }
@@ -51,9 +52,10 @@ pub fn finish_in_threads<H: Threads + Wait + Sync, G: Gate + Sync>(
         Answer::Play {
             job,
             threads,
+            report,
             so_far,
         } => {
-            let played = threads_text(rt, alloc, &job, threads, gate);
+            let played = threads_text(rt, alloc, report, &job, threads, gate);
             drop(job);
             with_played(so_far, played?)
         }
@@ -70,31 +72,32 @@ fn with_played(so_far: Reply<Status>, played: Bytes) -> Result<Reply<Status>, No
     Ok(Reply { status, text })
 }
 
-/// The text of a world that the agents of the job play, each role in so many threads.
+/// The report on a world that the agents of the job play, each role in so many threads.
 fn threads_text<H: Threads + Wait + Sync, G: Gate + Sync>(
     rt: &H,
     alloc: Global,
+    report: WorldReport,
     job: &Job,
     threads: ThreadCount,
     gate: &G,
 ) -> Result<Bytes, NoMemory>
     requires { SafeProtocol job.now.protocol }
-    ensures { IfOk result (IsPlayedText threads job.now) }
+    ensures { IfOk result (IsPlayedText report threads job.now) }
 {
     let threads = threads.threads();
     if threads == 0 {
-        return alone_text(alloc, job);
+        return alone_text(alloc, report, job);
     }
     let world = run_threads(rt, alloc, job, threads, gate)?;
-    world_text(alloc, job.admitted(), job.script(), &world)
+    report_on(alloc, report, job, &world)
 }
 
-/// The text of a world that the agents of the job play on this thread, which is right for each
+/// The report on a world that the agents of the job play on this thread, which is right for each
 /// number of threads.
-fn alone_text(alloc: Global, job: &Job) -> Result<Bytes, NoMemory>
+fn alone_text(alloc: Global, report: WorldReport, job: &Job) -> Result<Bytes, NoMemory>
     requires { SafeProtocol job.now.protocol }
-    ensures { IfOk result (λ text. (threads : ℕ) → IsPlayedText threads job.now text) }
+    ensures { IfOk result (λ text. (threads : ℕ) → IsPlayedText report threads job.now text) }
 {
     let world = run_one(alloc, job)?;
-    world_text(alloc, job.admitted(), job.script(), &world)
+    report_on(alloc, report, job, &world)
 }

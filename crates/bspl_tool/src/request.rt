@@ -1,16 +1,18 @@
-ghost use Rattle.std.specs.Prelude.{◌≤◌, ◌↔◌, IfOk, IsTrue, List, ℕ, length, map, string_bytes};
+ghost use Rattle.std.specs.Prelude.{◌≡◌, ◌≤◌, ◌↔◌, IfOk, IsTrue, List, ℕ, length, map, string_bytes};
+ghost use Rattle.std.specs.Prelude.{unwrap_or};
 ghost use Rattle.bspl_types.specs.Limits.{input_limit};
 ghost use Rattle.command_line.specs.Line.{IsCommandLine};
 ghost use Rattle.bspl_tool.specs.Output.{Output};
-ghost use Rattle.bspl_tool.specs.Request.{IsRequest, IsThreaded, RequestsInput};
+ghost use Rattle.bspl_tool.specs.Request.{IsRequest, IsThreaded, Requests};
 ghost use Rattle.bspl_tool.specs.inner.Answer.{IsPlayable, IsRightAnswer};
 
 use super::answer::{Answer, answer_input};
 use super::answer_error::AnswerError;
 use super::play::finish;
+use super::stage_count::StageCount;
 use super::task::{Task, task_of};
 use super::texts::usage;
-use bspl_types::NoMemory;
+use bspl_types::{Bytes, NoMemory};
 use command_line::{CommandLine, Subject, command_line, one_line};
 use program_frame::{Program, Reply};
 use std::alloc::Global;
@@ -21,8 +23,6 @@ use tool_input::{INPUT_LIMIT, InputRefusal, Status, input_rejection, refused};
 pub enum Request<'a> {
     /// They are no command line.
     Usage,
-    /// A command that is not supported.
-    Unsupported,
     /// A task on the protocol of that name.
     Do { task: Task, name: &'a [u8] },
 }
@@ -54,20 +54,16 @@ impl<'a> Program<'a> for Request<'a> {
         INPUT_LIMIT
     }
 
-    fn unread(&self, alloc: Global) -> Result<Option<Reply<Status>>, NoMemory> {
+    fn asks_input(&self) -> bool {
         // law: arguments are one command line at most
         one_line();
         match self {
-            Request::Usage => Ok(Some(usage(alloc)?)),
-            Request::Unsupported => {
-                let rejection = input_rejection(InputRefusal::Unsupported);
-                Ok(Some(refused(alloc, &rejection)?))
-            }
-            Request::Do { .. } => Ok(None),
+            Request::Usage => false,
+            Request::Do { task, .. } => task.reads_input(),
         }
     }
 
-    fn read(&self, alloc: Global, input: &[u8]) -> Result<Reply<Status>, NoMemory> {
+    fn reply_to(&self, alloc: Global, input: &[u8]) -> Result<Reply<Status>, NoMemory> {
         finish(alloc, self.answer(alloc, input)?)
     }
 
@@ -78,26 +74,47 @@ impl<'a> Program<'a> for Request<'a> {
 }
 
 impl Request<'_> {
-    /// What is answered on the whole input.
+    /// What is answered on the whole input, or on no bytes if none is asked for.
     pub fn answer(&self, alloc: Global, input: &[u8]) -> Result<Answer, NoMemory>
         requires { length input.now ≤ input_limit }
-        ensures right { (args : List (List ℕ)) → IsRequest args self.now → RequestsInput args →
+        ensures right { (args : List (List ℕ)) → IsRequest args self.now →
             IfOk result (IsRightAnswer (Output args input.now)) }
         ensures safe { IfOk result IsPlayable }
     {
-        // law: arguments are one command line at most
-        one_line();
-        let Request::Do { task, name } = self else {
-            // never: only a task asks for the input
-            return Ok(Answer::Whole(usage(alloc)?));
-        };
-        match answer_input(alloc, *task, name, input) {
-            Ok(answer) => Ok(answer),
-            Err(AnswerError::Rejected(rejection)) => {
-                Ok(Answer::Whole(refused(alloc, &rejection)?))
-            }
-            Err(AnswerError::NoMemory) => Err(NoMemory),
+        match self {
+            Request::Usage => Ok(Answer::Whole(usage(alloc)?)),
+            Request::Do { task, name } => answer_or_refusal(alloc, *task, name, input),
         }
+    }
+}
+
+/// What is answered to the task, on the input or on its own text. A refusal is an answer too.
+fn answer_or_refusal(
+    alloc: Global,
+    task: Task,
+    name: &[u8],
+    input: &[u8],
+) -> Result<Answer, NoMemory>
+    requires { length input.now ≤ input_limit }
+    ensures right { (args : List (List ℕ)) → Requests args task name.now →
+        IfOk result (IsRightAnswer (Output args input.now)) }
+    ensures safe { IfOk result IsPlayable }
+{
+    let own = task.own_text(alloc)?;
+    match answer_input(alloc, task, name, bytes_of(&own, input)) {
+        Ok(answer) => Ok(answer),
+        Err(AnswerError::Rejected(rejection)) => Ok(Answer::Whole(refused(alloc, &rejection)?)),
+        Err(AnswerError::NoMemory) => Err(NoMemory),
+    }
+}
+
+/// The bytes that a task with that own text is done on.
+fn bytes_of<'a>(own: &'a Option<Bytes>, input: &'a [u8]) -> &'a [u8]
+    ensures { result.now ≡ unwrap_or own.now input.now }
+{
+    match own {
+        Some(text) => text.as_slice(),
+        None => input,
     }
 }
 
@@ -119,11 +136,25 @@ pub fn is_threaded(alloc: Global, args: &[String]) -> Result<bool, NoMemory>
 fn request_of(line: CommandLine<'_>) -> Request<'_>
     ensures { (args : List (List ℕ)) → IsCommandLine args line.entry → IsRequest args result }
 {
-    let Subject::Protocol(name) = line.subject else {
-        return Request::Unsupported;
-    };
-    match task_of(line.command, line.brief, line.conflicts, line.threads) {
-        Some(task) => Request::Do { task, name },
-        None => Request::Unsupported,
+    match line.subject {
+        Subject::Protocol(name) => {
+            match task_of(line.command, line.brief, line.conflicts, line.threads) {
+                Some(task) => Request::Do { task, name },
+                // never: the name of a protocol follows no `generate`
+                None => Request::Usage,
+            }
+        }
+        Subject::Size(size) => match StageCount::of(size) {
+            Some(stages) => Request::Do {
+                task: Task::Generate {
+                    stages,
+                    conflicts: line.conflicts,
+                    threads: line.threads,
+                },
+                name: b"Stage",
+            },
+            // never: a size is from 1 to 16
+            None => Request::Usage,
+        },
     }
 }

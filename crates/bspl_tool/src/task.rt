@@ -1,20 +1,24 @@
-ghost use Rattle.std.specs.Prelude.{◌≡◌, ◌≤◌, IfErr, IfOk, length};
+ghost use Rattle.std.specs.Prelude.{◌≡◌, ◌↔◌, ◌≤◌, IfErr, IfOk, IfSome, IsTrue, None, length};
 ghost use Rattle.bspl_types.specs.Limits.{input_limit};
-ghost use Rattle.bspl_tool.specs.Task.{judged_text, rules_of, task_of};
+ghost use Rattle.bspl_tool.specs.Task.{own_text, rules_of, task_of};
 ghost use Rattle.bspl_tool.specs.inner.Answer.{IsPlayable, IsRightAnswer};
 ghost use Rattle.bspl_tool.specs.inner.Error.{RejectsFor};
 
 use super::answer::Answer;
 use super::answer_error::AnswerError;
 use super::check_command::check;
+use super::check_dead_command::check_dead;
+use super::dead_command::dead;
 use super::expand_command::expand;
+use super::generate_command::generate;
 use super::replay_command::replay;
 use super::run_command::run;
+use super::stage_count::StageCount;
 use super::verify_command::verify;
-use bspl_types::Admitted;
+use bspl_types::{Admitted, Bytes, NoMemory};
 use command_line::{Budget, Command, ThreadCount};
 use std::alloc::Global;
-use tool_input::{Part, protocol_text};
+use tool_input::Part;
 
 /// What is done with the protocol that the arguments name.
 #[derive(Clone, Copy, Debug, PartialEq, Eq)]
@@ -37,9 +41,24 @@ pub enum Task {
         conflicts: Budget,
         threads: ThreadCount,
     },
+    /// Each of its messages is searched for, with at most these conflicts for each. A brief answer
+    /// has no run and no log.
+    Dead {
+        brief: bool,
+        conflicts: Budget,
+    },
+    /// A log is checked against the formula of a message.
+    CheckDead,
+    /// A protocol of so many stages is generated and verified, and if it is safe, agents play it. A
+    /// summary of all that is printed.
+    Generate {
+        stages: StageCount,
+        conflicts: Budget,
+        threads: ThreadCount,
+    },
 }
 
-/// The task of a command with its options, if the command is supported.
+/// The task of a command on the protocol of a name, with its options. `generate` has none.
 pub fn task_of(
     command: Command,
     brief: bool,
@@ -58,28 +77,47 @@ pub fn task_of(
             conflicts,
             threads,
         }),
+        Command::Dead => Some(Task::Dead { brief, conflicts }),
+        Command::CheckDead => Some(Task::CheckDead),
         Command::Generate => None,
     }
 }
 
 impl Task {
     /// The part of the input that it needs beside the protocol text.
-    pub(crate) fn part(self) -> Option<Part>
-        ensures { result ≡ (rules_of self).part }
+    pub(crate) fn part(&self) -> Option<Part>
+        ensures { result ≡ (rules_of self.now).part }
     {
         match self {
-            Task::Expand | Task::Verify { .. } => None,
-            Task::Check => Some(Part::Log),
+            Task::Expand | Task::Verify { .. } | Task::Dead { .. } => None,
+            Task::Check | Task::CheckDead => Some(Part::Log),
             Task::Replay => Some(Part::Run),
-            Task::Run { .. } => Some(Part::Agents),
+            Task::Run { .. } | Task::Generate { .. } => Some(Part::Agents),
         }
     }
 
-    /// The text that declares the protocol which it judges.
-    pub(crate) fn judged_text<'a>(&self, input: &'a [u8]) -> &'a [u8]
-        ensures { result.now ≡ judged_text self.now input.now }
+    /// Whether it is done on the input.
+    pub(crate) fn reads_input(&self) -> bool
+        ensures { IsTrue result ↔ (own_text self.now ≡ None) }
     {
-        protocol_text(input)
+        match self {
+            Task::Generate { .. } => false,
+            _ => true,
+        }
+    }
+
+    /// The text that it makes for itself and is done on in place of the input.
+    pub(crate) fn own_text(&self, alloc: Global) -> Result<Option<Bytes>, NoMemory>
+        ensures text { IfOk result (λ text. text ≡ own_text self.now) }
+        ensures short { IfOk result (λ text.
+            IfSome text (λ bytes. length bytes ≤ input_limit)) }
+    {
+        match self {
+            Task::Generate { stages, .. } => {
+                Ok(Some(workload::generate(alloc, stages.stages())?))
+            }
+            _ => Ok(None),
+        }
     }
 
     /// What is answered on the protocol, with the bytes of the part that it needs.
@@ -106,6 +144,15 @@ impl Task {
                 conflicts,
                 threads,
             } => run(alloc, brief, conflicts, threads, protocol, part),
+            Task::Dead { brief, conflicts } => {
+                Ok(Answer::Whole(dead(alloc, brief, conflicts, &protocol)?))
+            }
+            Task::CheckDead => Ok(Answer::Whole(check_dead(alloc, &protocol, part)?)),
+            Task::Generate {
+                stages,
+                conflicts,
+                threads,
+            } => generate(alloc, stages, conflicts, threads, protocol, part),
         }
     }
 }

@@ -53,7 +53,7 @@ pub(crate) fn reply_with_verdicts(
 }
 
 /// The status of both verdicts.
-fn verdict_status(verdicts: &Verdicts) -> Status
+pub(crate) fn verdict_status(verdicts: &Verdicts) -> Status
     ensures { result ≡ verdict_status verdicts.now.safety verdicts.now.liveness }
 {
     match (&verdicts.safety, &verdicts.liveness) {

@@ -11,6 +11,8 @@ pub enum Command {
     Expand,
     Run,
     Generate,
+    Dead,
+    CheckDead,
 }
 
 /// What belongs to a command.
@@ -43,12 +45,12 @@ impl Command {
         ensures sized { result.sized ≡ takes_size self }
     {
         match self {
-            Command::Verify => CommandRow {
+            Command::Verify | Command::Dead => CommandRow {
                 brief: true,
                 conflicts: true,
                 ..PLAIN
             },
-            Command::Check | Command::Replay | Command::Expand => PLAIN,
+            Command::Check | Command::Replay | Command::Expand | Command::CheckDead => PLAIN,
             Command::Run => CommandRow {
                 brief: true,
                 conflicts: true,
@@ -77,6 +79,8 @@ pub fn command_of(word: &[u8]) -> Option<Command>
         b"expand" => Some(Command::Expand),
         b"run" => Some(Command::Run),
         b"generate" => Some(Command::Generate),
+        b"dead" => Some(Command::Dead),
+        b"check-dead" => Some(Command::CheckDead),
         _ => None,
     }
 }

@@ -27,13 +27,24 @@ struct Row {
 
 /// A refusal without faults.
 const REFUSED: Row = Row {
-    args: "generate 2",
+    args: "verify Pong",
     input: PING,
     read_faults: &[],
     write_faults: &[],
     ending: Ending::Answered(Status::Refused),
-    output: b"refused N1\n",
+    output: b"refused E3 Pong\n",
 };
+
+/// What is said of a protocol of four stages.
+const FOUR_STAGES: &[u8] = b"generate 4
+messages 8
+safety safe
+liveness live
+keys 1000
+sent 4000
+received 4000
+bound 5000
+";
 
 const ROWS: &[Row] = &[
     Row {
@@ -43,8 +54,19 @@ const ROWS: &[Row] = &[
         output: b"",
         ..REFUSED
     },
+    // Nothing is read.
     Row {
+        args: "generate 4",
         read_faults: &[1],
+        ending: Ending::Answered(Status::Done),
+        output: FOUR_STAGES,
+        ..REFUSED
+    },
+    Row {
+        args: "verify",
+        read_faults: &[1],
+        ending: Ending::Answered(Status::Usage),
+        output: b"usage: bspl COMMAND NAME [--brief] [--conflicts N] [--threads N]\n",
         ..REFUSED
     },
     Row {

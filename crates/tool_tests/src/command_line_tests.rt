@@ -1,6 +1,6 @@
 use super::args::args_of;
 use bspl_types::NoMemory;
-use command_line::Command::{Check, Expand, Generate, Replay, Run, Verify};
+use command_line::Command::{Check, CheckDead, Dead, Expand, Generate, Replay, Run, Verify};
 use command_line::Subject::{Protocol, Size};
 use command_line::{Command, CommandLine, Subject, command_line};
 use std::alloc::Global;
@@ -51,6 +51,18 @@ const ROWS: &[Row] = &[
     Row {
         command: Run,
         given: &["run P", "-- run P"],
+        ..PLAIN
+    },
+    Row {
+        command: Dead,
+        brief: true,
+        conflicts: 7,
+        given: &["dead P --brief --conflicts 7"],
+        ..PLAIN
+    },
+    Row {
+        command: CheckDead,
+        given: &["check-dead P"],
         ..PLAIN
     },
     Row {

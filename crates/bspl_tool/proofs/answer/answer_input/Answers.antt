@@ -25,7 +25,7 @@ pub returns-in_err-protocol-clause-refused : goal.returns-in_err-protocol-clause
 returns-in_err-protocol-clause-refused c =
     let p = err_from_is_err_and c.from_residual-in_err-protocol.result c.from_residual-in_err-protocol.ensures.1 in
     let has = subst (λ (needed : Option Part). HasPart needed c.args.input.now c.in_ok-part.part.now) c.part.ensures c.in_ok-part.ensures.ok in
-    let refuses = subst (λ (text : List ℕ). c.in_err-protocol.field-0.0 ≢ refusal.NoMemory → RefusesText c.args.name.now text c.in_err-protocol.field-0.0) c.judged_text-text.ensures c.in_err-protocol.ensures.refused in
+    let refuses = subst (λ (text : List ℕ). c.in_err-protocol.field-0.0 ≢ refusal.NoMemory → RefusesText c.args.name.now text c.in_err-protocol.field-0.0) c.protocol_text-text.ensures c.in_err-protocol.ensures.refused in
     rw (p.1, p.2) (text_refused c.args.task c.args.name.now c.args.input.now c.in_ok-part.part.now c.in_err-protocol.field-0.0 has refuses)
 
 pub returns-clause-ok : goal.returns-clause-ok
@@ -33,7 +33,7 @@ returns-clause-ok c =
     let x = c.in_ok-protocol.protocol in
     let part = c.in_ok-part.part.now in
     let has = subst (λ (needed : Option Part). HasPart needed c.args.input.now c.in_ok-part.part.now) c.part.ensures c.in_ok-part.ensures.ok in
-    let declares = subst (λ (text : List ℕ). Declares c.args.name.now text x) c.judged_text-text.ensures c.in_ok-protocol.ensures.ok in
+    let declares = subst (λ (text : List ℕ). Declares c.args.name.now text x) c.protocol_text-text.ensures c.in_ok-protocol.ensures.ok in
     IfOk-weaker c.answer.result (IsRightAnswer ((rules_of c.args.task).answers x part)) (IsRightAnswer (AnswersInput c.args.task c.args.name.now c.args.input.now))
     (λ a. task_answered c.args.task c.args.name.now c.args.input.now part x a has declares) c.answer.ensures.ok
 
@@ -42,6 +42,6 @@ returns-clause-refused c =
     let x = c.in_ok-protocol.protocol in
     let part = c.in_ok-part.part.now in
     let has = subst (λ (needed : Option Part). HasPart needed c.args.input.now c.in_ok-part.part.now) c.part.ensures c.in_ok-part.ensures.ok in
-    let declares = subst (λ (text : List ℕ). Declares c.args.name.now text x) c.judged_text-text.ensures c.in_ok-protocol.ensures.ok in
+    let declares = subst (λ (text : List ℕ). Declares c.args.name.now text x) c.protocol_text-text.ensures c.in_ok-protocol.ensures.ok in
     IfErr-weaker c.answer.result (RejectsFor ((rules_of c.args.task).refuses x part)) (RejectsFor (RefusesInput c.args.task c.args.name.now c.args.input.now))
     (λ e. task_refused c.args.task c.args.name.now c.args.input.now part x e has declares) c.answer.ensures.refused

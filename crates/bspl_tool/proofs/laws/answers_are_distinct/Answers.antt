@@ -32,5 +32,12 @@ returns c =
           refusals = c.reads_once-3.ensures.refusal;
           exclusive = c.reads_once-3.ensures.exclusive;
         };
+        dead = record {
+          logs = c.dead_texts_read_once.ensures.logs;
+          refusals = c.dead_texts_read_once.ensures.refusals;
+          exclusive = c.dead_texts_read_once.ensures.exclusive;
+          failure = c.dead_log_fails_once.ensures.failure;
+          accepted = c.dead_log_fails_once.ensures.accepted;
+        };
       };
     } in record { usage = usage_law; rejection = rejection_law each; refused = refusal_law each; answer = answer_law each }

@@ -1,23 +1,15 @@
 -- The answer is that to the job: the verdicts, and then what its agents play if the protocol is found safe.
-use Rattle.std.proofs.Common.{◌≡◌, subst}
-use Rattle.verdict.specs.declared.outcome.Safety.TheVariants.{Safe}
+use Rattle.std.proofs.Common.{subst}
 use Rattle.bspl_tool.specs.VerifyAnswer.{IsVerdictAnswer}
-use Rattle.bspl_tool.proofs.RunAnswers.{playing_answer, verdicts_answer}
+use Rattle.bspl_tool.proofs.RunAnswers.{run_answer}
 use Rattle.bspl_tool.proofs.run_command.run.Goals as goal
 
-pub returns-in-Safe-clause-ok : goal.returns-in-Safe-clause-ok
-returns-in-Safe-clause-ok c =
-    let given = c.in_ok-verdicts.field-0 in
-    let verified = subst (λ y. IsVerdictAnswer c.args.brief c.args.conflicts y given.verdicts given.reply.text) c.admitted.ensures c.in_ok-verdicts.ensures.answer in
-    let is : given.verdicts.safety ≡ Safe c.in-Safe.field-0 = (let found = c.in-Safe.is in let same = c.in_ok-verdicts.verdicts-is in cc) in
-    playing_answer c.args.brief c.args.conflicts c.args.threads c.args.protocol c.args.part.now c.in_ok-job.job given.verdicts c.in-Safe.field-0 given.reply c.in_ok-job.ensures.ok verified c.in_ok-verdicts.ensures.ends is
-
-pub returns-in_default : goal.returns-in_default
-returns-in_default c =
-    let given = c.in_ok-verdicts.field-0 in
-    let verified = subst (λ y. IsVerdictAnswer c.args.brief c.args.conflicts y given.verdicts given.reply.text) c.admitted.ensures c.in_ok-verdicts.ensures.answer in
-    record {
-      ok = verdicts_answer c.args.brief c.args.conflicts c.args.threads c.args.protocol c.args.part.now c.in_ok-job.job given.verdicts given.reply c.in_ok-job.ensures.ok verified c.in_ok-verdicts.ensures.ends c.in_default.not-Safe;
-      safe = tt;
+pub returns : goal.returns
+returns c =
+    let found = c.in_ok-found.found in
+    let job = c.in_ok-job.job in
+    let verified = subst (λ y. IsVerdictAnswer c.args.brief c.args.conflicts y found.verdicts found.reply.text) c.admitted.ensures c.in_ok-found.ensures.answer in record {
+      ok = run_answer c.args.brief c.args.conflicts c.args.threads c.args.protocol c.args.part.now job found.verdicts found.reply c.play_if_safe.result c.in_ok-job.ensures.ok verified c.in_ok-found.ensures.ends c.play_if_safe.ensures.right;
+      safe = c.play_if_safe.ensures.safe c.args.conflicts verified.right.safety;
       refused = tt;
     }

@@ -35,3 +35,22 @@ returns-in-Run-clause-ok c = rw c.in-Run.is c.run.ensures.ok
 
 pub returns-in-Run-clause-refused : goal.returns-in-Run-clause-refused
 returns-in-Run-clause-refused c = rw c.in-Run.is c.run.ensures.refused
+
+pub returns-in_ok-dead-in-Dead-clause-ok : goal.returns-in_ok-dead-in-Dead-clause-ok
+returns-in_ok-dead-in-Dead-clause-ok c =
+    whole_answer ((rules_of c.args.self).answers c.args.protocol c.args.part.now) c.in_ok-dead-in-Dead.field-0 (rw c.in-Dead.is c.in_ok-dead-in-Dead.ensures)
+
+pub returns-in_ok-check_dead-in-CheckDead-clause-ok : goal.returns-in_ok-check_dead-in-CheckDead-clause-ok
+returns-in_ok-check_dead-in-CheckDead-clause-ok c =
+    whole_answer ((rules_of c.args.self).answers c.args.protocol c.args.part.now) c.in_ok-check_dead-in-CheckDead.field-0 (rw c.in-CheckDead.is c.in_ok-check_dead-in-CheckDead.ensures.ok)
+
+pub returns-in_err-check_dead-in-CheckDead-clause-refused : goal.returns-in_err-check_dead-in-CheckDead-clause-refused
+returns-in_err-check_dead-in-CheckDead-clause-refused c =
+    let p = err_from_is_err_and c.from_residual-in_err-check_dead-in-CheckDead.result c.from_residual-in_err-check_dead-in-CheckDead.ensures.1 in
+    rw (p.1, p.2, c.in-CheckDead.is) c.in_err-check_dead-in-CheckDead.ensures.refused
+
+pub returns-in-Generate-clause-ok : goal.returns-in-Generate-clause-ok
+returns-in-Generate-clause-ok c = rw c.in-Generate.is c.generate.ensures.ok
+
+pub returns-in-Generate-clause-refused : goal.returns-in-Generate-clause-refused
+returns-in-Generate-clause-refused c = rw c.in-Generate.is c.generate.ensures.refused

@@ -1,7 +1,7 @@
 -- The agents' text is refused, or the job has what is read.
 use Rattle.std.proofs.lemmas.Result.{err_from_is_err_and}
-use Rattle.bspl_tool.proofs.RunAnswers.{given_job, script_refused}
-use Rattle.bspl_tool.proofs.run_command.job_of.Goals as goal
+use Rattle.bspl_tool.proofs.PlayAnswers.{given_job, script_refused}
+use Rattle.bspl_tool.proofs.agents.job_of.Goals as goal
 
 pub returns-in_err-agents-clause-refused : goal.returns-in_err-agents-clause-refused
 returns-in_err-agents-clause-refused c =

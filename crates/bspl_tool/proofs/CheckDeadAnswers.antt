@@ -1,0 +1,33 @@
+-- What `check-dead` answers, from what is read and checked.
+use Rattle.std.proofs.Common.{◌≡◌, ℕ, List, [], ◌∷◌, Some, None, inl, inr, refl}
+use Rattle.bspl_types.specs.declared.expanded.Expanded.{Expanded}
+use Rattle.bspl_types.specs.Expansion.{message_name}
+use Rattle.enactability.specs.Check.{AcceptsDead, FailsDead}
+use Rattle.enactability.specs.DeadText.{IsDeadText}
+use Rattle.enactability.specs.Enactable.{Enactable}
+use Rattle.enactability.specs.Refusal.{IsOneMessage, IsRefusedDead}
+use Rattle.log_checker.specs.declared.refusal.Reject.{Reject}
+use Rattle.refutation_log.specs.declared.refusal.LogRefusal.{LogRefusal}
+use Rattle.refutation_log.specs.declared.refutation.Log.{Log}
+use Rattle.tool_input.specs.declared.status.Status.TheVariants.{Done, Refuted}
+use Rattle.tool_input.specs.Lines.{line}
+use Rattle.bspl_tool.specs.CheckAnswer.{log_rejection}
+use Rattle.bspl_tool.specs.CheckDeadAnswer.{IsCheckDeadAnswer, IsCheckDeadRefused}
+use Rattle.bspl_tool.specs.Texts.{accepted_dead_line, reject_text}
+use Rattle.bspl_tool.specs.inner.Error.{RejectsFor, error_for}
+
+-- a text that is no log's on a message is refused at its first bad line
+pub dead_refused : (x : Expanded) (part : List ℕ) (refusal : LogRefusal) → IsRefusedDead x (IsOneMessage x) part refusal → RejectsFor (IsCheckDeadRefused x part) (error_for (log_rejection refusal))
+dead_refused x part refusal refused =
+    (elim (log_rejection refusal) as (λ o. log_rejection refusal ≡ o → RejectsFor (IsCheckDeadRefused x part) (error_for o)) [
+      | None ↦ λ is. tt
+      | Some r ↦ λ is. record { refusal = refusal; refused = refused; rejection_is = is }
+    ]) refl
+
+-- a log that is accepted
+pub accepted_dead : (x : Expanded) (part out : List ℕ) (m : ℕ) (log : Log) → IsDeadText x part (m ∷ []) log → AcceptsDead x (m ∷ []) log → ¬ Enactable x m → out ≡ line (accepted_dead_line (message_name x m)) → IsCheckDeadAnswer x part out Done
+accepted_dead x part out m log read accepts dead is = record { message = m; log = log; read = read; answer = inl (record { accepts = accepts; dead = dead; text = is; done = refl }) }
+
+-- and one that is not
+pub rejected_dead : (x : Expanded) (part out : List ℕ) (m : ℕ) (log : Log) (reject : Reject) → IsDeadText x part (m ∷ []) log → FailsDead x (m ∷ []) log reject → out ≡ line (reject_text reject) → IsCheckDeadAnswer x part out Refuted
+rejected_dead x part out m log reject read fails is = record { message = m; log = log; read = read; answer = inr (record { reject = reject; fails = fails; text = is; refuted = refl }) }
