@@ -44,7 +44,7 @@ def row_of(place, lines):
     """The row that begins at the place with these lines."""
     name, _, command = lines[0].partition(b"|")
     lines = [line for line in lines if not line.startswith(b"# ")]
-    end = next(i for i, line in enumerate(lines) if re.match(rb"[=~] \d+$", line))
+    end = next(i for i, line in enumerate(lines) if re.match(rb"[=~!-] \d+$", line))
     args = [b"" if word == b"''" else spelled(word) for word in command.split(b" ") if word]
     status = int(lines[end][2:])
     given, output = text_of(lines[1:end]), text_of(lines[end + 1 :])

@@ -1,9 +1,11 @@
-use super::spelling::append_spelled;
+use super::spelling::{append_number, append_spelled};
+use super::streams::{Fault, NO_FAULT};
 use adapter::OpenGate;
-use bspl_io::{PlainSink, PlainSource};
+use bspl_io::{MemSink, MemSource};
 use bspl_tool::bspl;
 use dimacs::run;
 use formula_text::bspl_formula;
+use joint_enactment::bspl_can;
 use list_base::{Bytes, NoMemory};
 use std::alloc::Global;
 use std::sync::Wait;
@@ -12,16 +14,38 @@ use std::thread::Threads;
 /// An exit status and an output.
 #[derive(Drop)]
 pub(crate) struct Answer {
-    pub status: String,
+    pub status: Bytes,
     pub output: Bytes,
 }
 
 impl Answer {
+    /// Lends both.
+    pub(crate) fn lent(&self) -> LentAnswer<'_> {
+        LentAnswer {
+            status: self.status.as_slice(),
+            output: self.output.as_slice(),
+        }
+    }
+}
+
+/// An exit status and an output that are lent.
+#[derive(Clone, Copy)]
+pub(crate) struct LentAnswer<'a> {
+    pub status: &'a [u8],
+    pub output: &'a [u8],
+}
+
+impl LentAnswer<'_> {
+    /// Whether both are the same.
+    pub(crate) fn equals(self, other: LentAnswer<'_>) -> bool {
+        self.status == other.status && self.output == other.output
+    }
+
     /// Appends the status and the output.
-    pub(crate) fn push_found(&self, text: &mut Bytes) -> Result<(), NoMemory> {
-        text.append(self.status.as_bytes())?;
+    pub(crate) fn push_to(self, text: &mut Bytes) -> Result<(), NoMemory> {
+        text.append(self.status)?;
         text.push(b'\n')?;
-        text.append(self.output.as_slice())
+        text.append(self.output)
     }
 }
 
@@ -32,19 +56,36 @@ pub(crate) fn answer_to<H: Threads + Wait + Sync>(
     command: &[u8],
     input: &[u8],
 ) -> Result<Answer, NoMemory> {
-    let words = words_of(alloc, command)?;
-    let input = Bytes::from_slice(alloc, input)?;
-    answer_to_words(rt, alloc, words.as_slice(), PlainSource::new(input))
+    answer_at(rt, alloc, NO_FAULT, command, input)
 }
 
-/// What the program that the first word names gives for the other words and the source.
+/// The same with a fault.
+pub(crate) fn answer_at<H: Threads + Wait + Sync>(
+    rt: &H,
+    alloc: Global,
+    fault: Fault,
+    command: &[u8],
+    input: &[u8],
+) -> Result<Answer, NoMemory> {
+    let words = words_of(alloc, command)?;
+    let sink = fault.sink(alloc)?;
+    answer_to_words(
+        rt,
+        alloc,
+        words.as_slice(),
+        fault.source(alloc, input)?,
+        sink,
+    )
+}
+
+/// What the program that the first word names gives for the other words, the source and the sink.
 fn answer_to_words<H: Threads + Wait + Sync>(
     rt: &H,
     alloc: Global,
     words: &[String],
-    mut source: PlainSource,
+    mut source: MemSource,
+    mut sink: MemSink,
 ) -> Result<Answer, NoMemory> {
-    let mut sink = PlainSink::new(alloc);
     let status = status_of(rt, alloc, words, &mut source, &mut sink);
     answer_of(alloc, status, sink.written())
 }
@@ -57,11 +98,13 @@ fn answer_of(alloc: Global, status: Option<u8>, output: &[u8]) -> Result<Answer,
 }
 
 /// The number of a status. Without one there was no program.
-fn status_text(alloc: Global, status: Option<u8>) -> Result<String, NoMemory> {
+fn status_text(alloc: Global, status: Option<u8>) -> Result<Bytes, NoMemory> {
+    let mut text = Bytes::new(alloc);
     match status {
-        Some(number) => Ok(number.to_string(alloc)?),
-        None => Ok("no such program".to_string(alloc)?),
+        Some(number) => append_number(alloc, &mut text, u64::from(number))?,
+        None => text.append(b"no such program")?,
     }
+    Ok(text)
 }
 
 /// The exit status of the program that the first word names.
@@ -69,13 +112,14 @@ fn status_of<H: Threads + Wait + Sync>(
     rt: &H,
     alloc: Global,
     words: &[String],
-    source: &mut PlainSource,
-    sink: &mut PlainSink,
+    source: &mut MemSource,
+    sink: &mut MemSink,
 ) -> Option<u8> {
     let (program, args) = words.split_first()?;
     match program.as_str() {
         "bspl" => Some(bspl_status(rt, alloc, args, source, sink)),
         "bspl_formula" => Some(formula_status(alloc, args, source, sink)),
+        "bspl_can" => Some(can_status(alloc, args, source, sink)),
         "dimacs_sat" => Some(dimacs_status(alloc, args, source, sink)),
         _ => None,
     }
@@ -85,8 +129,8 @@ fn bspl_status<H: Threads + Wait + Sync>(
     rt: &H,
     alloc: Global,
     args: &[String],
-    source: &mut PlainSource,
-    sink: &mut PlainSink,
+    source: &mut MemSource,
+    sink: &mut MemSink,
 ) -> u8 {
     bspl(rt, alloc, args, source, sink, &OpenGate).number()
 }
@@ -94,18 +138,17 @@ fn bspl_status<H: Threads + Wait + Sync>(
 fn formula_status(
     alloc: Global,
     args: &[String],
-    source: &mut PlainSource,
-    sink: &mut PlainSink,
+    source: &mut MemSource,
+    sink: &mut MemSink,
 ) -> u8 {
     bspl_formula(alloc, args, source, sink).number()
 }
 
-fn dimacs_status(
-    alloc: Global,
-    args: &[String],
-    source: &mut PlainSource,
-    sink: &mut PlainSink,
-) -> u8 {
+fn can_status(alloc: Global, args: &[String], source: &mut MemSource, sink: &mut MemSink) -> u8 {
+    bspl_can(alloc, args, source, sink).number()
+}
+
+fn dimacs_status(alloc: Global, args: &[String], source: &mut MemSource, sink: &mut MemSink) -> u8 {
     run(alloc, args, source, sink).number()
 }
 

@@ -2,10 +2,13 @@
 #![tactic(auto)]
 
 mod answer;
+mod claim;
 mod evidence;
 mod row;
 mod spelling;
+mod streams;
 mod tally;
+mod trial;
 
 use bspl_io::{ReadRefusal, Sink, Source, StdSink, StdSource, WriteRefusal, read_all, write_all};
 use list_base::NoMemory;

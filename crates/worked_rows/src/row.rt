@@ -1,24 +1,37 @@
-use super::answer::{Answer, answer_to};
+use super::answer::{Answer, LentAnswer, answer_at, answer_to};
 use super::evidence::without_evidence;
 use super::spelling::append_line;
+use super::streams::{Fault, calls_of};
 use list_base::{Bytes, NoMemory};
 use std::alloc::Global;
 use std::sync::Wait;
 use std::thread::Threads;
 use text_lines::split_once;
 
-/// A command and an input, with the status and the output that are wanted; and a name, and the line
-/// where the row begins.
+/// What is tried of a row.
+#[derive(Clone, Copy)]
+enum Trial {
+    /// The answer, as it stands.
+    Answer,
+    /// The answer; the evidence of its verdicts is tried in place of being wanted as it stands.
+    Evidence,
+    /// The answer, and a fault at each read of the input and at each write.
+    Faults,
+    /// The answer, and a fault at each write. Nothing is read.
+    WriteFaults,
+}
+
+/// A command and an input, with the answer that is wanted; and a name, and the line where the row
+/// begins.
 #[derive(Drop)]
 pub(crate) struct Row {
     pub name: Bytes,
     pub line: u64,
     pub command: Bytes,
     input: Bytes,
-    status: Option<Bytes>,
-    /// Whether the evidence of verdicts is tried in place of being wanted as it stands.
-    is_tried: bool,
-    output: Bytes,
+    /// Known from the end of the input on.
+    trial: Option<Trial>,
+    wanted: Answer,
 }
 
 impl Row {
@@ -30,35 +43,36 @@ impl Row {
             line,
             command: Bytes::from_slice(alloc, command.unwrap_or(b""))?,
             input: Bytes::new(alloc),
-            status: None,
-            is_tried: false,
-            output: Bytes::new(alloc),
+            trial: None,
+            wanted: Answer {
+                status: Bytes::new(alloc),
+                output: Bytes::new(alloc),
+            },
         })
     }
 
-    /// Takes a line: `= STATUS` or `~ STATUS`, which ends the input, or one of the input or the
+    /// Takes a line: the one with the status, which ends the input, or one of the input or the
     /// output.
     pub(crate) fn take_line(&mut self, alloc: Global, line: &[u8]) -> Result<(), NoMemory> {
-        if let Some(status) = line.strip_prefix(b"= ") {
-            return self.want(alloc, status, false);
-        }
-        match line.strip_prefix(b"~ ") {
-            Some(status) => self.want(alloc, status, true),
-            None => self.push_line(alloc, line),
+        match line {
+            [b'=', b' ', status @ ..] => self.want(Trial::Answer, status),
+            [b'~', b' ', status @ ..] => self.want(Trial::Evidence, status),
+            [b'!', b' ', status @ ..] => self.want(Trial::Faults, status),
+            [b'-', b' ', status @ ..] => self.want(Trial::WriteFaults, status),
+            _ => self.push_line(alloc, line),
         }
     }
 
     /// Ends the input with the status that is wanted.
-    fn want(&mut self, alloc: Global, status: &[u8], is_tried: bool) -> Result<(), NoMemory> {
-        self.status = Some(Bytes::from_slice(alloc, status)?);
-        self.is_tried = is_tried;
-        Ok(())
+    fn want(&mut self, trial: Trial, status: &[u8]) -> Result<(), NoMemory> {
+        self.trial = Some(trial);
+        self.wanted.status.append(status)
     }
 
     /// Puts a line to the input, or to the output once the status is known.
     fn push_line(&mut self, alloc: Global, line: &[u8]) -> Result<(), NoMemory> {
-        if self.status.is_some() {
-            append_line(alloc, &mut self.output, line)
+        if self.trial.is_some() {
+            append_line(alloc, &mut self.wanted.output, line)
         } else {
             append_line(alloc, &mut self.input, line)
         }
@@ -72,30 +86,43 @@ impl Row {
     ) -> Result<Answer, NoMemory> {
         let input = self.input.as_slice();
         let answer = answer_to(rt, alloc, self.command.as_slice(), input)?;
-        if !self.is_tried {
+        let Some(Trial::Evidence) = self.trial else {
             return Ok(answer);
-        }
+        };
         Ok(Answer {
             output: without_evidence(rt, alloc, input, answer.output.as_slice())?,
             status: answer.status,
         })
     }
 
-    /// Whether the answer is the one that is wanted.
-    pub(crate) fn wants(&self, answer: &Answer) -> bool {
-        let Some(status) = &self.status else {
-            return false;
-        };
-        status.as_slice() == answer.status.as_bytes()
-            && self.output.as_slice() == answer.output.as_slice()
+    /// What the program gives for them at a fault.
+    pub(crate) fn answer_at<H: Threads + Wait + Sync>(
+        &self,
+        rt: &H,
+        alloc: Global,
+        fault: Fault,
+    ) -> Result<Answer, NoMemory> {
+        answer_at(
+            rt,
+            alloc,
+            fault,
+            self.command.as_slice(),
+            self.input.as_slice(),
+        )
     }
 
-    /// Appends the status and the output that are wanted.
-    pub(crate) fn push_wanted(&self, text: &mut Bytes) -> Result<(), NoMemory> {
-        if let Some(status) = &self.status {
-            text.append(status.as_slice())?;
+    /// The answer that is wanted without a fault. Before the status is known no answer has it.
+    pub(crate) fn wanted(&self) -> LentAnswer<'_> {
+        self.wanted.lent()
+    }
+
+    /// How many reads, each of at most `piece` bytes, take the input and find its end, if the row is
+    /// tried with faults.
+    pub(crate) fn reads(&self, piece: usize) -> Option<u32> {
+        match self.trial {
+            Some(Trial::Faults) => Some(calls_of(self.input.len(), piece).saturating_add(1)),
+            Some(Trial::WriteFaults) => Some(0),
+            _ => None,
         }
-        text.push(b'\n')?;
-        text.append(self.output.as_slice())
     }
 }

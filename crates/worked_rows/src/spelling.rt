@@ -59,11 +59,11 @@ fn append_escape(
 ) -> Result<(), NoMemory> {
     let rest = match piece {
         [b'#', rest @ ..] => {
-            out.append(number.to_string(alloc)?.as_bytes())?;
+            append_number(alloc, out, number)?;
             rest
         }
         [b'+', rest @ ..] => {
-            out.append(number.saturating_add(1).to_string(alloc)?.as_bytes())?;
+            append_number(alloc, out, number.saturating_add(1))?;
             rest
         }
         [b'x', high, low, rest @ ..] if is_digit(*high) && is_digit(*low) => {
@@ -76,6 +76,11 @@ fn append_escape(
         }
     };
     out.append(rest)
+}
+
+/// Appends the digits of the number.
+pub(crate) fn append_number(alloc: Global, out: &mut Bytes, number: u64) -> Result<(), NoMemory> {
+    out.append(number.to_string(alloc)?.as_bytes())
 }
 
 /// Whether the byte is a hexadecimal digit, in lower case.

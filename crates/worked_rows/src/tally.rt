@@ -1,15 +1,19 @@
-use super::answer::Answer;
+use super::answer::LentAnswer;
 use super::row::Row;
+use super::spelling::append_number;
+use super::streams::{Fault, NO_FAULT};
+use super::trial::{faults_of, wanted_at};
 use list_base::{Bytes, NoMemory};
 use std::alloc::Global;
 use std::sync::Wait;
 use std::thread::Threads;
 
-/// How many rows there were, how many of them were answered otherwise, and which; and the section,
-/// the line and the row that are being read.
+/// How many rows and faults there were, how many of them were answered otherwise, and which; and the
+/// section, the line and the row that are being read.
 #[derive(Drop)]
 pub(crate) struct Tally {
     rows: u64,
+    faults: u64,
     wrong: u64,
     report: Bytes,
     section: Bytes,
@@ -22,6 +26,7 @@ impl Tally {
     pub(crate) fn new(alloc: Global) -> Tally {
         Tally {
             rows: 0,
+            faults: 0,
             wrong: 0,
             report: Bytes::new(alloc),
             section: Bytes::new(alloc),
@@ -36,8 +41,8 @@ impl Tally {
     }
 
     /// Takes all lines of a section. A line `$ NAME | PROGRAM ARGUMENTS` begins a row, the lines
-    /// after it are the input, a line `= STATUS` or `~ STATUS` ends the input, and the lines after
-    /// that are the output. A line that begins with `# ` is passed over.
+    /// after it are the input, a line with the status ends the input, and the lines after that are
+    /// the output. A line that begins with `# ` is passed over.
     pub(crate) fn take_section<H: Threads + Wait + Sync>(
         &mut self,
         rt: &H,
@@ -99,7 +104,7 @@ impl Tally {
         }
     }
 
-    /// Counts the row. If it is answered otherwise, that is reported.
+    /// Counts the row and its faults. What is answered otherwise is reported.
     fn count<H: Threads + Wait + Sync>(
         &mut self,
         rt: &H,
@@ -108,15 +113,50 @@ impl Tally {
     ) -> Result<(), NoMemory> {
         self.rows = self.rows.saturating_add(1);
         let answer = row.answer(rt, alloc)?;
-        if row.wants(&answer) {
-            return Ok(());
+        self.compare(alloc, row, NO_FAULT, row.wanted(), answer.lent())?;
+        for fault in faults_of(alloc, row)?.iter() {
+            self.count_fault(rt, alloc, row, *fault)?;
         }
-        self.report_wrong(alloc, row, &answer)
+        Ok(())
     }
 
-    /// Reports the place and the name of the row, its command, what is wanted and what was found.
-    fn report_wrong(&mut self, alloc: Global, row: &Row, answer: &Answer) -> Result<(), NoMemory> {
+    /// Counts the fault.
+    fn count_fault<H: Threads + Wait + Sync>(
+        &mut self,
+        rt: &H,
+        alloc: Global,
+        row: &Row,
+        fault: Fault,
+    ) -> Result<(), NoMemory> {
+        self.faults = self.faults.saturating_add(1);
+        let answer = row.answer_at(rt, alloc, fault)?;
+        self.compare(alloc, row, fault, wanted_at(row, fault), answer.lent())
+    }
+
+    /// Reports the place and the name of the row, its command, the fault, what is wanted and what
+    /// was found, if these two differ.
+    fn compare(
+        &mut self,
+        alloc: Global,
+        row: &Row,
+        fault: Fault,
+        wanted: LentAnswer<'_>,
+        found: LentAnswer<'_>,
+    ) -> Result<(), NoMemory> {
+        if wanted.equals(found) {
+            return Ok(());
+        }
         self.wrong = self.wrong.saturating_add(1);
+        self.report_row(alloc, row)?;
+        fault.push_to(alloc, &mut self.report)?;
+        self.report.append(b"wanted = ")?;
+        wanted.push_to(&mut self.report)?;
+        self.report.append(b"found = ")?;
+        found.push_to(&mut self.report)
+    }
+
+    /// Reports the place and the name of the row, and its command.
+    fn report_row(&mut self, alloc: Global, row: &Row) -> Result<(), NoMemory> {
         self.report.append(self.section.as_slice())?;
         self.report.push(b':')?;
         append_number(alloc, &mut self.report, row.line)?;
@@ -124,22 +164,16 @@ impl Tally {
         self.report.append(row.name.as_slice())?;
         self.report.append(b"\n$")?;
         self.report.append(row.command.as_slice())?;
-        self.report.append(b"\nwanted = ")?;
-        row.push_wanted(&mut self.report)?;
-        self.report.append(b"found = ")?;
-        answer.push_found(&mut self.report)
+        self.report.push(b'\n')
     }
 
-    /// Reports how many rows there were, and how many of them were answered otherwise.
+    /// Reports how many rows and faults there were, and how many of them were answered otherwise.
     pub(crate) fn report_counts(&mut self, alloc: Global) -> Result<(), NoMemory> {
         append_number(alloc, &mut self.report, self.rows)?;
-        self.report.append(b" rows, ")?;
+        self.report.append(b" rows and ")?;
+        append_number(alloc, &mut self.report, self.faults)?;
+        self.report.append(b" faults, ")?;
         append_number(alloc, &mut self.report, self.wrong)?;
         self.report.append(b" answered otherwise\n")
     }
-}
-
-/// Appends the digits of the number.
-fn append_number(alloc: Global, text: &mut Bytes, number: u64) -> Result<(), NoMemory> {
-    text.append(number.to_string(alloc)?.as_bytes())
 }
