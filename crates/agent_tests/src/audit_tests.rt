@@ -45,7 +45,7 @@ struct Row {
 }
 
 const ROWS: &[Row] = &[
-    // C knows two values of x, and is told one of them twice.
+    // C knows two values of x, and receives one of them twice.
     Row {
         protocol: CLASH,
         histories: b"histories 1

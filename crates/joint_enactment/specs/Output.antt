@@ -27,7 +27,7 @@ pub data RefusesQuestion (question : Question) (input : List ℕ) : Rejection �
   text : (refusal : Refusal) (r : Rejection) → length input ≤ input_limit
       → RefusesText question.name (protocol_text input) refusal
       → text_rejection refusal ≡ Some r → RefusesQuestion question input r
-  -- the protocol lacks a message; the first such name is told
+  -- the protocol has no message of some name; the first of these names is reported
   unknown : (x : Expanded) (name : List ℕ) → length input ≤ input_limit
       → Declares question.name (protocol_text input) x
       → IsFirstUnknown x question.messages name

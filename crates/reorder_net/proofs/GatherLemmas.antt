@@ -168,7 +168,7 @@ all_told job boxes lists taken gathered all told q within = elim (slice_get_case
   | inr (past, none) ↦ absurd (omega (arith, within, past))
 ]
 
--- a gathered pass of all roles is told all
+-- the pass that is gathered of all roles has all lists of its mailbox
 pub is_gathered : (boxes : List BoxId) (lists : ℕ → List (List Envelope)) (taken : ℕ → List Envelope) (gathered : List PassState) (q : ℕ) (box : BoxId) (p : PassState) → AreGathered boxes lists taken (length boxes) gathered → slice_get boxes q ≡ Some box → slice_get gathered q ≡ Some p → (p.box ≡ box) × IsGathered p.hold
 is_gathered boxes lists taken gathered q box p all at found =
     let is = same_Some p (record { box = box; hold = gathered_hold (length boxes) q (lists q) (taken q) }) (sym found ∙ all.each q box at) in

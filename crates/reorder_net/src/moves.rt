@@ -91,7 +91,7 @@ impl<N: Scene> Lesson<Envelope, Hold> for Takes<N> {
     ghost fact = { λ v items. ⊤ };
 }
 
-/// The rule is told to a pass that has all lists.
+/// What the rule says of a pass that has all lists.
 pub struct Tells<N: Scene> {
     of: PhantomData<N>,
 }

@@ -47,7 +47,7 @@ impl Mail for Brand {
 }
 
 impl<N: Scene> Post<N> {
-    /// The mailboxes of that many roles, and the passes of each role.
+    /// A mailbox for each role, and the passes of each role.
     pub fn new(alloc: Global, roles: u32) -> Result<(Post<N>, PassList), NoMemory>
         requires { (1 ≤ roles) × (roles ≤ 8) }
         ensures roles { IfOk result (λ r. (length r.0 ≡ roles) × (length r.1 ≡ roles)) }

@@ -11,7 +11,7 @@ use agent_scripts::Scene;
 use list_base::{NoMemory, Seq};
 use std::alloc::Global;
 
-/// The mailboxes of that many roles, and a pass to each, which has all its lists.
+/// A mailbox for each role, and a pass to each mailbox, which has all its lists.
 pub(crate) fn open_boxes<N: Scene>(
     alloc: Global,
     roles: u32,

@@ -61,7 +61,7 @@ pub record Suits (r : Record) (image : List ℕ) : Type 0 where
 abbrev pub first_calls : ℕ → Record → Record
 first_calls count r = record r { calls = take count r.calls }
 
--- the image suits the record of that many of its calls, or of more
+-- the image suits the record of its first `from` calls, or of more of them
 pub record SuitsSince (r : Record) (from : ℕ) (image : List ℕ) : Type 0 where
   pub count : ℕ
   pub late : from ≤ count

@@ -16,7 +16,7 @@ posted_to job q desks =
     map (λ (role, d). posted_by job role q d.store.entries) (enumerate_from 0 desks)
 
 -- the desks are kept, and what each received goes back to what its role took out of its mailbox;
--- the rule of that mailbox is told of what all histories posted to it, and of what was taken
+-- the rule of that mailbox speaks of what all histories posted to it, and of what was taken
 pub record AreTold (job : Job) (taken : ℕ → List Envelope) (desks : List DeskState) : Type 0 where
   pub kept : AreKept job desks
   pub of_taken : (role : ℕ) (d : DeskState) → slice_get desks role ≡ Some d →

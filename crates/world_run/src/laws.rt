@@ -57,7 +57,7 @@ pub fn live_keys_are_bound()
     merged_runs_are_one();
 }
 
-/// A law: what the rules of all mailboxes are told explains all receipts.
+/// A law: what the rules of all mailboxes say explains all receipts.
 pub fn told_histories_explain()
     ensures { ToldHistoriesExplain }
 {

@@ -1,4 +1,4 @@
--- A gathered pass may take, and is told the same whether there was an envelope or not.
+-- A gathered pass may take, and the rule says the same of it whether there was an envelope or not.
 use Rattle.std.proofs.Common.{sym, subst}
 use Rattle.reorder_net.specs.Pass.{PassState}
 use Rattle.reorder_net.specs.inner.Moves.{IsGathered}
