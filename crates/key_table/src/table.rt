@@ -1,9 +1,9 @@
 ghost use Rattle.std.specs.Prelude.{◌≡◌, ◌<◌, ◌↔◌, ◌++◌, ◌≢◌, [], ◌∷◌, length, slice_get, Some};
-ghost use Rattle.std.specs.Prelude.{IsTrue, MatchOption, OnOk, OnErr};
+ghost use Rattle.std.specs.Prelude.{IfSome, IsTrue, MatchOption, OnOk, OnErr};
 ghost use Rattle.std.specs.List.{AllPairs, Contains};
 
 use super::sorted_key::SortedKey;
-use bspl_types::Key;
+use bspl_types::{Key, Value};
 use list_base::{NoMemory, Seq};
 use std::alloc::Global;
 use std::collections::BTreeMap;
@@ -11,7 +11,8 @@ use std::marker::Model;
 
 /// Distinct keys, in the order of adding. Contracts see their list.
 ///
-/// A map finds each by the order of its values, whichever keys are chosen.
+/// A map finds each by the order of its values, whichever keys are chosen; a key that is numbered by
+/// its first value is found at once.
 #[derive(Drop)]
 pub struct KeyTable {
     keys: Seq<Key>,
@@ -61,7 +62,26 @@ impl KeyTable {
         ensures { MatchOption result (¬ Contains self.now key.now)
             (λ i. slice_get self.now i ≡ Some key.now) }
     {
+        if let Some(index) = self.numbered(key) {
+            return Some(index);
+        }
         self.indices.get(&SortedKey::of(key)).copied()
+    }
+
+    /// The index of a key whose first value is its number, from 1 in the order of adding. Such keys
+    /// are common, and they are found without a search.
+    fn numbered(&self, key: &Key) -> Option<usize>
+        ensures { IfSome result (λ i. slice_get self.now i ≡ Some key.now) }
+    {
+        let Some(Value::Number(number)) = key.as_slice().first() else {
+            return None;
+        };
+        let index = number.checked_sub(1)? as usize;
+        if index < self.keys.len() && self.keys.at(index).same(key) {
+            Some(index)
+        } else {
+            None
+        }
     }
 
     /// Whether the key is among them.

@@ -17,3 +17,4 @@ pub mod KeyOrderLemmas
 pub mod EmittedLemmas
 pub mod RoleLemmas
 pub mod KeyLemmas
+pub mod CellRowLemmas

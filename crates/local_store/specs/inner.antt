@@ -1,5 +1,6 @@
 -- What only private functions cite.
 pub mod Grids
+pub mod Cells
 pub mod Acts
 pub mod Blocks
 pub mod FilledValues

@@ -19,6 +19,8 @@ impl Store {
         answers_once();
         let x = self.admitted.expanded();
         let carried = x.messages.at(i.message as usize).carried.as_slice();
+        // the cells fill their rows
+        let _width = self.cells.width();
         bind_all(&mut self.cells, row, carried, i.values.as_slice());
         self.marks.set(row, i.message as usize, true);
         self.log.push(Act {

@@ -2,12 +2,12 @@ ghost use Rattle.std.specs.Prelude.{◌≡◌, ◌<◌};
 ghost use Rattle.local_store.specs.inner.Blocks.{block_of, first_block};
 ghost use Rattle.local_store.specs.inner.Grids.{HasCells, cell_at};
 
-use super::grid::Grid;
+use super::cells::Cells;
 use bspl_types::{Adornment, Carried, Value};
 use role_knowledge::Block;
 
 /// The first parameter whose cell of the row is not as its adornment demands (Singh 2011).
-pub fn first_block(cells: &Grid<Option<Value>>, row: usize, carried: &[Carried]) -> Option<Block>
+pub fn first_block(cells: &Cells, row: usize, carried: &[Carried]) -> Option<Block>
     requires { HasCells cells.now.width cells.now.rows row carried.now }
     ensures { result ≡
         first_block (cell_at cells.now.width cells.now.items row) carried.now }

@@ -3,11 +3,11 @@ ghost use Rattle.std.specs.List.{zip};
 ghost use Rattle.bspl_types.specs.Adornment.{valued};
 ghost use Rattle.local_store.specs.inner.Grids.{HasCells, bound};
 
-use super::grid::Grid;
+use super::cells::Cells;
 use bspl_types::{Carried, Value};
 
 /// Puts the value of each parameter adorned `in` or `out` into its cell of the row.
-pub fn bind_all(cells: &mut Grid<Option<Value>>, row: usize, carried: &[Carried], values: &[Value])
+pub fn bind_all(cells: &mut Cells, row: usize, carried: &[Carried], values: &[Value])
     requires { HasCells cells.old.width cells.old.rows row carried.now }
     ensures items { cells.new.items ≡
         bound cells.old.width row cells.old.items (zip (valued carried.now) values.now) }
@@ -20,7 +20,7 @@ pub fn bind_all(cells: &mut Grid<Option<Value>>, row: usize, carried: &[Carried]
             let Some((value, rest)) = remaining.split_first() else {
                 return;
             };
-            cells.set(row, c.param as usize, Some(*value));
+            cells.fill(row, c.param as usize, *value);
             remaining = rest;
         }
     }

@@ -4,13 +4,13 @@ ghost use Rattle.bspl_types.specs.Adornment.{valued};
 ghost use Rattle.local_store.specs.inner.Difference.{difference, first_difference};
 ghost use Rattle.local_store.specs.inner.Grids.{HasCells, cell_at};
 
-use super::grid::Grid;
+use super::cells::Cells;
 use super::receipt::Receipt;
 use bspl_types::{Carried, Value};
 
 /// The first parameter adorned `in` or `out` whose cell of the row has another value.
 pub fn first_difference(
-    cells: &Grid<Option<Value>>,
+    cells: &Cells,
     row: usize,
     carried: &[Carried],
     values: &[Value],

@@ -4,7 +4,7 @@ ghost use Rattle.local_store.specs.inner.Acts.{value_in};
 ghost use Rattle.local_store.specs.inner.FilledValues.{filled, filling, key_value};
 ghost use Rattle.local_store.specs.inner.Grids.{HasCells, cell_at};
 
-use super::grid::Grid;
+use super::cells::Cells;
 use bspl_types::{Adornment, CARRIED_LIMIT, Carried, Value, Values};
 
 /// A value in place of one that is missing.
@@ -13,7 +13,7 @@ const BLANK: Value = Value::Number(0);
 /// The values of an emission of these parameters: known ones from the row, those of key parameters
 /// from the key, and the chosen ones in their order.
 pub fn fill(
-    cells: &Grid<Option<Value>>,
+    cells: &Cells,
     row: usize,
     keys: &[u32],
     key: &[Value],

@@ -1,5 +1,5 @@
 ghost use Rattle.std.specs.Prelude.{◌≡◌, ◌+◌, ◌*◌, ◌<◌, ◌≤◌, ◌++◌, ◌⊎◌, [], length, slice_get};
-ghost use Rattle.std.specs.Prelude.{slice_set, Some, OnOk, OnErr};
+ghost use Rattle.std.specs.Prelude.{slice_set, Some, OnOk, OnErr, max};
 ghost use Rattle.local_store.specs.inner.Grids.{RowsGrow};
 
 use list_base::{NoMemory, Seq};
@@ -56,6 +56,7 @@ impl<T: Copy> Grid<T> {
             slice_set self.old.items (row * self.old.width + column) item }
         ensures width { self.new.width ≡ self.old.width }
         ensures rows { self.new.rows ≡ self.old.rows }
+        ensures within { row * self.old.width + column < length self.old.items }
     {
         let index = self.index_of(row, column);
         let _replaced = self.items.replace(index, item);
@@ -69,6 +70,7 @@ impl<T: Copy> Grid<T> {
         ensures items { (self.new.items ≡ self.old.items) ⊎
             (self.new.items ≡ self.old.items ++ blank.now) }
         ensures rows { OnOk result (rows ≤ self.new.rows) }
+        ensures most { self.new.rows ≤ max self.old.rows rows }
         ensures grown { RowsGrow self.old.width self.old.rows self.new.width self.new.rows }
     {
         if self.rows < rows {

@@ -20,7 +20,7 @@ impl Store {
         let Some(row) = self.row_of(key) else {
             return None;
         };
-        if param as usize >= self.cells.width {
+        if param as usize >= self.cells.width() {
             return None;
         }
         self.known_at(row, param)

@@ -6,6 +6,7 @@ mod acts;
 mod append;
 mod block;
 mod bound_cells;
+mod cells;
 mod difference;
 mod emission;
 mod filled_values;

@@ -5,12 +5,12 @@ ghost use Rattle.local_store.specs.inner.Acts.{event_as, value_in};
 ghost use Rattle.local_store.specs.inner.Grids.{HasCells, cell_at};
 
 use super::act::Kind;
+use super::cells::Cells;
 use super::filled_values::value_in;
-use super::grid::Grid;
 use bspl_types::{CARRIED_LIMIT, Carried, Event, Instance, Value, Values};
 
 /// The row's values of the parameters adorned `in` or `out`.
-pub fn read_values(cells: &Grid<Option<Value>>, row: usize, carried: &[Carried]) -> Values
+pub fn read_values(cells: &Cells, row: usize, carried: &[Carried]) -> Values
     requires cells { HasCells cells.now.width cells.now.rows row carried.now }
     requires few { length carried.now ≤ carried_limit }
     ensures { result ≡ map

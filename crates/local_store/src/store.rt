@@ -6,8 +6,9 @@ ghost use Rattle.local_store.specs.Consistent.{IsConsistent};
 ghost use Rattle.local_store.specs.State.{new_store, AddsKey};
 
 use super::acts::Acts;
+use super::cells::Cells;
 use super::grid::Grid;
-use bspl_types::{Admitted, Key, MESSAGE_LIMIT, PARAM_LIMIT, Value};
+use bspl_types::{Admitted, Key, MESSAGE_LIMIT};
 use key_table::KeyTable;
 use list_base::NoMemory;
 use std::alloc::Global;
@@ -21,7 +22,7 @@ pub struct Store {
     pub(crate) admitted: Admitted,
     pub(crate) role: u32,
     pub(crate) keys: KeyTable,
-    pub(crate) cells: Grid<Option<Value>>,
+    pub(crate) cells: Cells,
     pub(crate) marks: Grid<bool>,
     pub(crate) log: Acts,
     pub(crate) clock: u64,
@@ -52,7 +53,7 @@ impl Store {
             admitted: a.copy()?,
             role,
             keys: KeyTable::new(alloc),
-            cells: Grid::new(alloc, x.params.len()),
+            cells: Cells::new(alloc, x.params.len()),
             marks: Grid::new(alloc, x.messages.len()),
             log: Acts::new(alloc),
             clock: 0,
@@ -84,9 +85,8 @@ impl Store {
             return Ok(());
         }
         let rows = self.keys.len() + 1;
-        let params = self.cells.width;
         let messages = self.marks.width;
-        self.cells.cover(rows, &[None; PARAM_LIMIT][..params])?;
+        self.cells.cover(rows)?;
         self.marks.cover(rows, &[false; MESSAGE_LIMIT][..messages])?;
         self.keys.add(key)
     }

@@ -1,5 +1,5 @@
 -- What may follow and agrees leaves the history local.
-use Rattle.std.proofs.Common.{◌≡◌, ℕ, ◌∙◌, ap}
+use Rattle.std.proofs.Common.{ℕ, ◌∙◌, ap}
 use Rattle.bspl_types.specs.declared.event.Event.TheVariants.{Emit, Receive}
 use Rattle.bspl_types.specs.Expansion.{message_of}
 use Rattle.stamped_history.specs.declared.entry.Entry.{Entry}

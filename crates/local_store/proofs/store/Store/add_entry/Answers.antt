@@ -1,11 +1,8 @@
 -- The entry may come last, so it can be appended.
-use Rattle.std.proofs.Common.{◌≡◌, ◌∙◌, Some, sym, subst, ap}
+use Rattle.std.proofs.Common.{◌≡◌, ◌∙◌, ap}
 use Rattle.bspl_types.specs.declared.event.Event.{Event}
-use Rattle.bspl_types.specs.declared.event.Instance.{Instance}
 use Rattle.bspl_types.specs.History.{instance_of}
-use Rattle.local_store.specs.declared.act.Kind.{Kind}
 use Rattle.local_store.specs.inner.Acts.{event_as}
-use Rattle.local_store.specs.inner.Appended.{IsAppendable}
 use Rattle.local_store.specs.State.{with_entry}
 use Rattle.local_store.proofs.LocalLemmas.{local_last}
 use Rattle.local_store.proofs.NextLemmas.{appendable}

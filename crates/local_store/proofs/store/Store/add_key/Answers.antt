@@ -12,7 +12,7 @@ use Rattle.local_store.proofs.store.Store.add_key.Goals as goal
 pub invariant_of-self : goal.invariant_of-self
 invariant_of-self c =
     let s = c.self.inside in
-    let cells = covered None s.cells.items c.cover.new.self.items _ c.cover.ensures.items (All-take (λ y. y ≡ None) _ _ (All-replicate (λ y. y ≡ None) 64 None refl)) in
+    let cells = covered None s.cells.items c.cover.new.self.items _ c.cover.ensures.items (All-replicate (λ y. y ≡ None) s.cells.width None refl) in
     let same = rows_same s.admitted s.keys s.cells.items c.cover.new.self.items s.marks.items s.marks.items cells (λ i. refl) in (
       subst (λ rows. IsKept s.admitted s.role rows s.log s.clock) (sym same) c.self.invariant.0,
       record {
@@ -26,14 +26,14 @@ invariant_of-self c =
 pub returns-in_err-cover-clause-err : goal.returns-in_err-cover-clause-err
 returns-in_err-cover-clause-err c =
     let s = c.self.inside in
-    let cells = covered None s.cells.items c.cover.new.self.items _ c.cover.ensures.items (All-take (λ y. y ≡ None) _ _ (All-replicate (λ y. y ≡ None) 64 None refl)) in
+    let cells = covered None s.cells.items c.cover.new.self.items _ c.cover.ensures.items (All-replicate (λ y. y ≡ None) s.cells.width None refl) in
     let same = rows_same s.admitted s.keys s.cells.items c.cover.new.self.items s.marks.items s.marks.items cells (λ i. refl) in
     on_err_of c.from_residual.result _ (ap (λ rows. state_of s.admitted s.role rows s.log) same ∙ c.self.view_is)
 
 pub invariant_of-self-in_err-cover-2 : goal.invariant_of-self-in_err-cover-2
 invariant_of-self-in_err-cover-2 c =
     let s = c.self.inside in
-    let cells = covered None s.cells.items c.cover.new.self.items _ c.cover.ensures.items (All-take (λ y. y ≡ None) _ _ (All-replicate (λ y. y ≡ None) 64 None refl)) in
+    let cells = covered None s.cells.items c.cover.new.self.items _ c.cover.ensures.items (All-replicate (λ y. y ≡ None) s.cells.width None refl) in
     let marks = covered false s.marks.items c.cover-2.new.self.items _ c.cover-2.ensures.items (All-take (λ y. y ≡ false) _ _ (All-replicate (λ y. y ≡ false) 64 false refl)) in
     let same = rows_same s.admitted s.keys s.cells.items c.cover.new.self.items s.marks.items c.cover-2.new.self.items cells marks in (
       subst (λ rows. IsKept s.admitted s.role rows s.log s.clock) (sym same) c.self.invariant.0,
@@ -48,7 +48,7 @@ invariant_of-self-in_err-cover-2 c =
 pub returns-in_err-cover-2-clause-err : goal.returns-in_err-cover-2-clause-err
 returns-in_err-cover-2-clause-err c =
     let s = c.self.inside in
-    let cells = covered None s.cells.items c.cover.new.self.items _ c.cover.ensures.items (All-take (λ y. y ≡ None) _ _ (All-replicate (λ y. y ≡ None) 64 None refl)) in
+    let cells = covered None s.cells.items c.cover.new.self.items _ c.cover.ensures.items (All-replicate (λ y. y ≡ None) s.cells.width None refl) in
     let marks = covered false s.marks.items c.cover-2.new.self.items _ c.cover-2.ensures.items (All-take (λ y. y ≡ false) _ _ (All-replicate (λ y. y ≡ false) 64 false refl)) in
     let same = rows_same s.admitted s.keys s.cells.items c.cover.new.self.items s.marks.items c.cover-2.new.self.items cells marks in
     on_err_of c.from_residual-in_err-cover-2.result _ (ap (λ rows. state_of s.admitted s.role rows s.log) same ∙ c.self.view_is)
@@ -58,7 +58,7 @@ invariant_of-self-2 c =
     let s = c.self.inside in
     let key = c.args.key.now in
     let keys = c.add.new.self in
-    let cells = covered None s.cells.items c.cover.new.self.items _ c.cover.ensures.items (All-take (λ y. y ≡ None) _ _ (All-replicate (λ y. y ≡ None) 64 None refl)) in
+    let cells = covered None s.cells.items c.cover.new.self.items _ c.cover.ensures.items (All-replicate (λ y. y ≡ None) s.cells.width None refl) in
     let marks = covered false s.marks.items c.cover-2.new.self.items _ c.cover-2.ensures.items (All-take (λ y. y ≡ false) _ _ (All-replicate (λ y. y ≡ false) 64 false refl)) in
     let same = rows_same s.admitted keys s.cells.items c.cover.new.self.items s.marks.items c.cover-2.new.self.items cells marks in
     let old = rows_of s.admitted s.keys s.cells.items s.marks.items in
@@ -88,7 +88,7 @@ returns-clause-ok c =
     let s = c.self.inside in
     let key = c.args.key.now in
     let keys = c.add.new.self in
-    let cells = covered None s.cells.items c.cover.new.self.items _ c.cover.ensures.items (All-take (λ y. y ≡ None) _ _ (All-replicate (λ y. y ≡ None) 64 None refl)) in
+    let cells = covered None s.cells.items c.cover.new.self.items _ c.cover.ensures.items (All-replicate (λ y. y ≡ None) s.cells.width None refl) in
     let marks = covered false s.marks.items c.cover-2.new.self.items _ c.cover-2.ensures.items (All-take (λ y. y ≡ false) _ _ (All-replicate (λ y. y ≡ false) 64 false refl)) in
     let same = rows_same s.admitted keys s.cells.items c.cover.new.self.items s.marks.items c.cover-2.new.self.items cells marks in
     let add_to = λ (t : StoreState). record t { keys = t.keys ++ key ∷ [] } in
@@ -104,7 +104,7 @@ pub returns-clause-err : goal.returns-clause-err
 returns-clause-err c =
     let s = c.self.inside in
     let keys = c.add.new.self in
-    let cells = covered None s.cells.items c.cover.new.self.items _ c.cover.ensures.items (All-take (λ y. y ≡ None) _ _ (All-replicate (λ y. y ≡ None) 64 None refl)) in
+    let cells = covered None s.cells.items c.cover.new.self.items _ c.cover.ensures.items (All-replicate (λ y. y ≡ None) s.cells.width None refl) in
     let marks = covered false s.marks.items c.cover-2.new.self.items _ c.cover-2.ensures.items (All-take (λ y. y ≡ false) _ _ (All-replicate (λ y. y ≡ false) 64 false refl)) in
     let same = rows_same s.admitted keys s.cells.items c.cover.new.self.items s.marks.items c.cover-2.new.self.items cells marks in
     on_err_then c.add.result (keys ≡ s.keys) _ c.add.ensures.err (λ stays. ap (λ rows. state_of s.admitted s.role rows s.log) same

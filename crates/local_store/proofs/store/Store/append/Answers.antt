@@ -18,7 +18,7 @@ now_stored c =
     let carried_is = c.as_slice-carried.ensures ∙ sym (ap (λ m. m.carried) message) ∙ ap (λ x. (message_of x i.message).carried) c.expanded-x.ensures.same in
     stored c.answers_once.ensures.values s.admitted s.role s.clock s.keys s.cells.items c.bind_all.new.cells.items s.marks.items c.set.new.self.items
     s.cells.width s.cells.rows s.marks.width s.marks.rows c.args.row s.log c.push.new.self c.args.kind i c.args.stamp c.args.number c.args.self.now
-    c.self.invariant.0 c.self.invariant.1 s.cells.covers s.marks.covers c.self.view_is c.requires.key_is c.requires.fits c.requires.own c.requires.follows c.requires.agree
+    c.self.invariant.0 c.self.invariant.1 c.width-width.ensures.covers s.marks.covers c.self.view_is c.requires.key_is c.requires.fits c.requires.own c.requires.follows c.requires.agree
     (c.bind_all.ensures.items ∙ (λ j. bound s.cells.width c.args.row s.cells.items (zip (valued (carried_is j)) (c.as_slice.ensures.values j)))) c.set.ensures.items c.push.ensures
 
 pub invariant_of-self : goal.invariant_of-self

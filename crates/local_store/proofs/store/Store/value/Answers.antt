@@ -9,9 +9,9 @@ use Rattle.local_store.proofs.store.Store.value.Goals as goal
 pub returns-in_default : goal.returns-in_default
 returns-in_default c = nothing_known c.args.self.now c.args.key.now c.args.param c.in_default.ensures.sound c.in_default.ensures.found
 
-pub returns-then-param-self : goal.returns-then-param-self
-returns-then-param-self c =
-    unknown_past c.args.self.now c.args.key.now c.args.param (subst (λ n. n ≤ c.args.param) (c.self.invariant.1.params ∙ ap (λ t. length t.protocol.params) c.self.view_is) c.if-param-self.true)
+pub returns-then-param-width : goal.returns-then-param-width
+returns-then-param-width c =
+    unknown_past c.args.self.now c.args.key.now c.args.param (subst (λ n. n ≤ c.args.param) (c.width.ensures.width ∙ c.self.invariant.1.params ∙ ap (λ t. length t.protocol.params) c.self.view_is) c.if-param-width.true)
 
 pub known_at-requires-clause-row : goal.known_at-requires-clause-row
 known_at-requires-clause-row c = slice_get_within c.args.self.now.keys c.in-Some.row c.args.key.now c.in-Some.ensures.found
