@@ -55,10 +55,10 @@ turned a b c l = (
 )
 
 -- one kind comes before another of a greater number, or of a lower one
-before_greater : (order : Order) (x y : ℕ) → x < y → comes_before order x y ≡ record { var = pair_variable order x y; positive = true }
+pub before_greater : (order : Order) (x y : ℕ) → x < y → comes_before order x y ≡ record { var = pair_variable order x y; positive = true }
 before_greater order x y less = cond-true (nat_lt x y) _ _ (lt-ltb x y less)
 
-before_lower : (order : Order) (x y : ℕ) → y < x → comes_before order x y ≡ record { var = pair_variable order y x; positive = false }
+pub before_lower : (order : Order) (x y : ℕ) → y < x → comes_before order x y ≡ record { var = pair_variable order y x; positive = false }
 before_lower order x y less = cond-false (nat_lt x y) _ _ (le-ltb x y (omega (arith, less)))
 
 -- the literals that forbid a cycle

@@ -1,5 +1,5 @@
 -- Each clause of an order is that of three rising kinds, and forbids a cycle of them.
-use Rattle.std.proofs.Common.{◌≡◌, inl, inr, ◌⊎◌, ℕ, zero, suc, ◌+◌, ◌-◌, ◌<◌, ◌≤◌, Bool, true, false, List, [], ◌∷◌, ◌++◌, length, map, All, Contains, Some, None, slice_get, refl, sym, ap, ◌∙◌, subst, arith}
+use Rattle.std.proofs.Common.{◌≡◌, inl, inr, ℕ, suc, ◌+◌, ◌-◌, ◌<◌, ◌≤◌, Bool, true, false, List, [], ◌∷◌, Contains, Some, None, refl, sym, ap, ◌∙◌, subst, arith}
 use Rattle.std.specs.List.{flat_map, range_with_len}
 use Rattle.std.proofs.lemmas.Bool.{cases_eq, cond-false, cond-true, eq-eqb, ne_eqb}
 use Rattle.std.proofs.lemmas.List.Elements.{Contains-append_cases}
@@ -7,11 +7,11 @@ use Rattle.std.proofs.lemmas.List.FromFn.{get_or-range_with_len, length-range_wi
 use Rattle.list_base.proofs.Members.{cons_cases, nowhere, only}
 use Rattle.list_base.proofs.Membership.{member_at}
 use Rattle.clause_core.specs.declared.literal.Lit.{Lit}
-use Rattle.clause_core.specs.Literal.{negated}
 use Rattle.clause_core.specs.Clause.{HasExactly}
 use Rattle.clause_core.specs.Numbering.{HasNumber, numbered}
 use Rattle.order_clauses.specs.declared.order.Order.{Order}
-use Rattle.order_clauses.specs.Order.{AreKinds, AreRising, ForbidsCycle, ForbidsSomeCycle, cycle_clause, cycles_of_one, cycles_of_three, cycles_of_two, forbidden_cycle, kinds_after, order_list}
+use Rattle.order_clauses.specs.Order.{AreKinds, AreRising, ForbidsSomeCycle, cycle_clause, cycles_of_one, cycles_of_three, cycles_of_two, forbidden_cycle, kinds_after, order_list}
+use Rattle.order_clauses.proofs.CoverLemmas.{three_variables}
 use Rattle.order_clauses.proofs.CycleLemmas.{forbids_backward, forbids_forward}
 
 -- what is in the pieces of a list is in one of them
@@ -85,6 +85,7 @@ clause_forbids order number clause has = by_direction three.backward refl
           z = three.k;
           kinds = kinds three.i three.j three.k three.rising;
           exactly = subst (λ c. HasExactly c (forbidden_cycle order three.i three.j three.k)) (same forbids.clause forbids.has_number) forbids.exactly;
+          apart = three_variables order three.i three.j three.k (kinds three.i three.j three.k three.rising);
         }
       where
         kinds : (i j k : ℕ) → AreRising order i j k → AreKinds order i j k
@@ -104,6 +105,7 @@ clause_forbids order number clause has = by_direction three.backward refl
           z = three.j;
           kinds = kinds three.i three.j three.k three.rising;
           exactly = subst (λ c. HasExactly c (forbidden_cycle order three.i three.k three.j)) (same forbids.clause forbids.has_number) forbids.exactly;
+          apart = three_variables order three.i three.k three.j (kinds three.i three.j three.k three.rising);
         }
       where
         kinds : (i j k : ℕ) → AreRising order i j k → AreKinds order i k j

@@ -8,15 +8,15 @@ use Rattle.order_clauses.specs.declared.order.Order.{Order}
 use Rattle.order_clauses.specs.Order.{AreRising, cycle_clause, pair_variable}
 
 -- the product of two neighbours is even
-half_even : (p : ℕ) → (t : ℕ) × ((p + 1) * p ≡ 2 * t)
+pub half_even : (p : ℕ) → (t : ℕ) × ((p + 1) * p ≡ 2 * t)
 half_even zero = (0, omega arith)
 half_even (suc p) = let smaller = half_even p in (smaller.0 + p + 1, omega (arith, smaller.1))
 
 -- the number of a pair, by how many kinds come before its first one
-pair_number : ℕ → ℕ → ℕ → ℕ → ℕ
+pub pair_number : ℕ → ℕ → ℕ → ℕ → ℕ
 pair_number base kinds p k = base + p * kinds - (p + 1) * p / 2 + (k - (p + 1))
 
-pair_is : (order : Order) (p k : ℕ) → pair_variable order (p + 1) k ≡ pair_number order.base order.kinds p k
+pub pair_is : (order : Order) (p k : ℕ) → pair_variable order (p + 1) k ≡ pair_number order.base order.kinds p k
 unfolding pair_number
 pair_is order p k =
     let before : p + 1 - 1 ≡ p = omega arith in
@@ -26,6 +26,11 @@ pair_is order p k =
 number_more : (base kinds p k t : ℕ) → (p + 1) * p ≡ 2 * t → p * (p + 3) ≤ p * kinds → p + 2 < k → k ≤ kinds → pair_number base kinds p k < pair_number base kinds (p + 1) k
 unfolding pair_number
 number_more base kinds p k t even square before within = omega (arith, even, square, before, within)
+
+-- from the first variable of a lower kind to that of the next
+pub number_next : (base kinds p t : ℕ) → (p + 1) * p ≡ 2 * t → p * (p + 1) ≤ p * kinds → p + 1 ≤ kinds → pair_number base kinds (p + 1) (p + 1 + 1 + 1) ≡ pair_number base kinds p (p + 1 + 1) + (kinds - (p + 1))
+unfolding pair_number
+number_next base kinds p t even square within = omega (arith, even, square, within)
 
 pair_more : (order : Order) (p k : ℕ) → p + 2 < k → k ≤ order.kinds → pair_variable order (p + 1) k < pair_variable order (p + 1 + 1) k
 pair_more order p k before within =

@@ -1,7 +1,6 @@
 -- A strict order as clauses: of two kinds one comes before the other, and no three come before one
 -- another in a cycle.
-use Rattle.std.specs.Prelude.{◌≢◌, ℕ, ◌+◌, ◌-◌, ◌*◌, ◌/◌, ◌<◌, ◌≤◌, Bool, true, false, not, nat_lt, if◌then◌else◌}
-use Rattle.std.specs.Prelude.{List, [], ◌∷◌}
+use Rattle.std.specs.Prelude.{◌≢◌, ℕ, ◌+◌, ◌-◌, ◌*◌, ◌/◌, ◌<◌, ◌≤◌, Bool, true, false, not, nat_lt, if◌then◌else◌, List, [], ◌∷◌, AllPairs}
 use Rattle.std.specs.List.{flat_map, range_with_len}
 use Rattle.clause_core.specs.declared.literal.Lit.{Lit}
 use Rattle.clause_core.specs.Clause.{HasExactly, IsAscending}
@@ -79,13 +78,14 @@ pub record ForbidsCycle (order : Order) (number x y z : ℕ) : Type 0 where
   pub has_number : HasNumber (numbered (order_list order)) number clause
   pub exactly : HasExactly clause (forbidden_cycle order x y z)
 
--- the clause forbids a cycle of three kinds
+-- the clause forbids a cycle of three kinds, and its literals are of three variables
 pub record ForbidsSomeCycle (order : Order) (clause : List Lit) : Type 0 where
   pub x : ℕ
   pub y : ℕ
   pub z : ℕ
   pub kinds : AreKinds order x y z
   pub exactly : HasExactly clause (forbidden_cycle order x y z)
+  pub apart : AllPairs (λ l m. l.var ≢ m.var) (forbidden_cycle order x y z)
 
 -- each clause of an order forbids a cycle of three kinds
 abbrev pub ClausesForbidCycles : Type 0

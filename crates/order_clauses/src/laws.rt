@@ -1,3 +1,4 @@
+ghost use Rattle.order_clauses.specs.Cycles.{CyclesAreForbidden};
 ghost use Rattle.order_clauses.specs.Order.{ClausesForbidCycles, CycleClausesAscend};
 
 /// A law: the literals of a clause that forbids a cycle ascend.
@@ -5,7 +6,12 @@ pub fn cycle_clauses_ascend()
     ensures { CycleClausesAscend }
 {}
 
-/// A law: each clause of an order forbids a cycle of three kinds.
+/// A law: each clause of an order forbids a cycle of three kinds, and has three variables.
 pub fn clauses_forbid_cycles()
     ensures { ClausesForbidCycles }
+{}
+
+/// A law: each cycle of three kinds is forbidden by a clause of their order.
+pub fn cycles_are_forbidden()
+    ensures { CyclesAreForbidden }
 {}

@@ -2,6 +2,7 @@
 #![tactic(auto)]
 
 mod formula_clauses;
+mod kind_pair;
 mod laws;
 mod lent_clause;
 mod order;
@@ -10,7 +11,8 @@ mod ordered_formula;
 mod starts;
 
 pub use formula_clauses::FormulaClauses;
-pub use laws::{clauses_forbid_cycles, cycle_clauses_ascend};
+pub use kind_pair::KindPair;
+pub use laws::{clauses_forbid_cycles, cycle_clauses_ascend, cycles_are_forbidden};
 pub use lent_clause::LentClause;
 pub use order::Order;
 pub use order_numbers::OrderNumbers;

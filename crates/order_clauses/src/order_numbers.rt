@@ -137,7 +137,7 @@ impl OrderNumbers {
         self.pair_starts.partition_point(|start| *start <= index) as u32
     }
 
-    /// Appends all clauses of the order.
+    /// Appends all clauses of the order. What an error leaves in the list is not said.
     pub fn push_all(&self, clauses: &mut ClauseList, alloc: Global) -> Result<(), NoMemory>
         ensures { OnOk result (clauses.new ≡ clauses.old ++ order_list self.now.order) }
     {

@@ -132,8 +132,8 @@ impl<'f> Trail<'f> {
         found
     }
 
-    /// The next part of propagation: examines the clauses that are new or, if there are none,
-    /// propagates the next entry. Gives the number of a clause that turned out false.
+    /// A part of propagation, perhaps none: it examines the clauses that are new or, if there are
+    /// none, propagates the next entry. Gives the number of a clause that turned out false.
     pub fn propagate_next(&mut self) -> Option<u32>
         ensures grows { Propagates self.old self.new }
         ensures ready { self.new.ready ≡ false }
