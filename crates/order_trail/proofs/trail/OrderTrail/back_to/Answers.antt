@@ -1,0 +1,17 @@
+-- Lower levels were closed when the next one was decided.
+use Rattle.std.proofs.Common.{min, length}
+use Rattle.order_trail.proofs.BackLemmas.{whole-back}
+use Rattle.order_trail.proofs.RestLemmas.{IsKept-back, trail-kept}
+use Rattle.order_trail.proofs.trail.OrderTrail.back_to.Goals as goal
+
+pub invariant_of-self : goal.invariant_of-self
+invariant_of-self c =
+    rw (c.min-self-inside.ensures, c.len.ensures.count) (IsKept-back _ c.self.inside.named c.back_to.new.self _ c.args.level _ _ c.self.invariant (rw (← c.self.view_is) at c.requires) c.back_to.ensures.kept c.back_to.ensures.sound)
+
+pub returns-clause-kept : goal.returns-clause-kept
+returns-clause-kept c =
+    rw (← c.self.view_is, c.back_to.ensures.kept) (whole-back c.self.inside.rule.numbers.order c.self.inside.named.names c.self.inside.places c.self.inside.named.trail c.args.level c.self.inside.ready)
+
+pub returns-clause-sound : goal.returns-clause-sound
+returns-clause-sound c = trail-kept _ _ _ (min c.self.inside.head (length c.back_to.new.self.entries)) _ c.clauses_forbid_cycles.ensures
+    (IsKept-back _ c.self.inside.named c.back_to.new.self _ c.args.level _ _ c.self.invariant (rw (← c.self.view_is) at c.requires) c.back_to.ensures.kept c.back_to.ensures.sound)

@@ -1,0 +1,25 @@
+-- The formula's clauses follow those of the order, of which none is made.
+use Rattle.std.proofs.Common.{◌+◌, ◌∙◌, ap₂}
+use Rattle.std.specs.List.{range_with_len}
+use Rattle.order_trail.proofs.NewLemmas.{IsKept-new, IsStart-whole}
+use Rattle.order_trail.proofs.RestLemmas.{trail-kept}
+use Rattle.order_trail.proofs.trail.OrderTrail.new.Goals as goal
+
+pub invariant_of-result : goal.invariant_of-result
+invariant_of-result c =
+    IsKept-new c.in_ok-rule.rule.numbers.order c.args.f.now c.in_ok-trail.trail c.in_ok-names.names c.in_ok-places.places c.in_ok-trail.ensures.start c.in_ok-trail.ensures.sound (rw c.in_ok-rule.ensures c.requires.exist)
+    (c.in_ok-names.ensures ∙ ap₂ (λ m n. range_with_len (m + 1) n) c.count-first.ensures c.len-stored.ensures)
+    (c.in_ok-places.ensures ∙ ap₂ (λ m n. range_with_len 1 n) c.count-first.ensures c.len-stored.ensures)
+    (rw c.in_ok-rule.ensures c.requires.few)
+
+pub returns-clause-start : goal.returns-clause-start
+returns-clause-start c = λ whole is.
+    IsStart-whole c.in_ok-rule.rule.numbers.order c.args.f.now whole c.in_ok-trail.trail c.in_ok-names.names c.in_ok-places.places c.in_ok-trail.ensures.start
+    (c.in_ok-places.ensures ∙ ap₂ (λ m n. range_with_len 1 n) c.count-first.ensures c.len-stored.ensures) (rw c.in_ok-rule.ensures is)
+
+pub returns-clause-sound : goal.returns-clause-sound
+returns-clause-sound c = trail-kept _ _ _ 0 _ c.clauses_forbid_cycles.ensures
+    (IsKept-new c.in_ok-rule.rule.numbers.order c.args.f.now c.in_ok-trail.trail c.in_ok-names.names c.in_ok-places.places c.in_ok-trail.ensures.start c.in_ok-trail.ensures.sound (rw c.in_ok-rule.ensures c.requires.exist)
+    (c.in_ok-names.ensures ∙ ap₂ (λ m n. range_with_len (m + 1) n) c.count-first.ensures c.len-stored.ensures)
+    (c.in_ok-places.ensures ∙ ap₂ (λ m n. range_with_len 1 n) c.count-first.ensures c.len-stored.ensures)
+    (rw c.in_ok-rule.ensures c.requires.few))

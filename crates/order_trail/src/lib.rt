@@ -1,0 +1,12 @@
+//! A trail over a formula whose first clauses are those of an order, which are made where they
+//! force a literal or are false.
+#![tactic(auto)]
+
+mod closing;
+mod named_trail;
+mod reading;
+mod rule;
+mod stop;
+mod trail;
+
+pub use trail::OrderTrail;
