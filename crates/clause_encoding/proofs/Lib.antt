@@ -16,3 +16,4 @@ mod LackingLemmas
 mod RestLemmas
 mod PropertyLemmas
 mod OrderLemmas
+mod SharedLemmas

@@ -3,7 +3,10 @@ use Rattle.std.specs.Prelude.{◌≡◌}
 use Rattle.bspl_types.specs.declared.expanded.Expanded.{Expanded}
 use Rattle.bspl_types.specs.declared.property.Property.{Property}
 use Rattle.clause_encoding.specs.declared.variables.Variables.{Variables}
-use Rattle.clause_encoding.specs.Formula.{IsFormula, variables_of}
+use Rattle.clause_core.specs.declared.formula.Formula.{Formula}
+use Rattle.clause_encoding.specs.Families.{shared_clauses}
+use Rattle.clause_encoding.specs.Formula.{AreClausesOf, IsFormula, safety_variables, variables_of}
+use Rattle.clause_encoding.specs.Variables.{variable_count}
 use Rattle.order_clauses.specs.declared.order.Order.{Order}
 use Rattle.order_clauses.specs.declared.ordered_formula.OrderedFormula.{OrderedFormula}
 use Rattle.order_clauses.specs.Formula.{whole}
@@ -18,3 +21,8 @@ pub record IsOrderedFormula (property : Property) (x : Expanded) (f : OrderedFor
     : Type 0 where
   pub is_whole : IsFormula property x (whole f)
   pub order : IsOrderOf (variables_of property x) f.order
+
+-- the formula has the families of every formula and no more, over the variables of safety
+pub record IsSharedFormula (x : Expanded) (f : Formula) : Type 0 where
+  pub vars : f.vars ≡ variable_count (safety_variables x)
+  pub clauses : AreClausesOf (shared_clauses x (safety_variables x)) f.clauses

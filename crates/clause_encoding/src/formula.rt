@@ -1,7 +1,7 @@
 ghost use Rattle.std.specs.Prelude.{◌≡◌, ◌≤◌, [], length, IfOk, OnOk};
 ghost use Rattle.clause_encoding.specs.Formula.{IsFormula, IsLivenessFormula, IsSafetyFormula};
 ghost use Rattle.clause_encoding.specs.Formula.{clauses_of, own_clauses, variables_of};
-ghost use Rattle.clause_encoding.specs.Ordered.{IsOrderedFormula};
+ghost use Rattle.clause_encoding.specs.Ordered.{IsOrderedFormula, IsSharedFormula};
 ghost use Rattle.clause_encoding.specs.Variables.{IsSmall};
 ghost use Rattle.clause_encoding.specs.inner.Appends.{Appends};
 ghost use Rattle.clause_encoding.specs.inner.Order.{clauses_after_order};
@@ -46,6 +46,24 @@ pub fn ordered_formula_of(
     cycle_clauses_ascend();
     let vars = variables_of(alloc, property, a)?;
     let clauses = clauses_after_order(alloc, property, a.expanded(), vars)?;
+    let order = order_of(vars);
+    let stored = Formula {
+        vars: vars.count(),
+        clauses,
+    };
+    Ok(OrderedFormula { order, stored })
+}
+
+/// The families of every formula, over the variables of the safety formula. The order clauses are
+/// known by number and not stored.
+pub fn ordered_families(alloc: Global, a: &Admitted) -> Result<OrderedFormula, NoMemory>
+    ensures { IfOk result (λ f. IsSharedFormula a.now (whole f)) }
+{
+    // law: the literals of a clause that forbids a cycle ascend
+    cycle_clauses_ascend();
+    let vars = variables_of(alloc, Property::Safety, a)?;
+    let mut clauses = Seq::new(alloc);
+    push_families(&mut clauses, alloc, a.expanded(), vars)?;
     let order = order_of(vars);
     let stored = Formula {
         vars: vars.count(),

@@ -25,7 +25,9 @@ mod want;
 mod wants;
 
 pub use base::{kind_count, liveness_variables, safety_variables, variables_of};
-pub use formula::{formula_of, liveness_formula, ordered_formula_of, safety_formula};
+pub use formula::{
+    formula_of, liveness_formula, ordered_families, ordered_formula_of, safety_formula,
+};
 pub use laws::{
     clauses_are_as_many, clauses_are_determined, clauses_are_few, liveness_clauses_are_few,
     safety_clauses_are_few, variables_are_small, written_is_satisfied,

@@ -3,6 +3,7 @@ use Rattle.std.proofs.Common.{◌≡◌, ◌↔◌, ℕ, List, Result, Ok, Err}
 use Rattle.std.specs.Prelude.{OnOk}
 use Rattle.bspl_types.specs.declared.expanded.Expanded.{Expanded}
 use Rattle.clause_core.specs.declared.formula.Formula.{Formula}
+use Rattle.clause_core.specs.Clause.{IsUnsatisfiable}
 use Rattle.clause_encoding.specs.Laws.{ClausesAreDetermined}
 use Rattle.log_checker.specs.declared.refusal.Reject.{Reject}
 use Rattle.log_checker.specs.FirstFailure.{AcceptedDoesNotFail, ClausesDecideFailure, FailsFirst, HasOneFailure}
@@ -10,7 +11,8 @@ use Rattle.refutation_log.specs.declared.refutation.Log.{Log}
 use Rattle.refutation_log.specs.Resolution.{Accepts}
 use Rattle.enactability.specs.Check.{AcceptsDead, FailsDead}
 use Rattle.enactability.specs.EnactFormula.{IsEnactFormula, enact_clauses}
-use Rattle.enactability.specs.Laws.{AcceptedDeadDoesNotFail, DeadLogFailsOnce}
+use Rattle.enactability.specs.Enactable.{AreEnactable}
+use Rattle.enactability.specs.Laws.{AcceptedDeadDoesNotFail, DeadLogFailsOnce, NoModelIsDead}
 
 module _ (one_list : ClausesAreDetermined) (x : Expanded) (messages : List ℕ) (f : Formula) (is : IsEnactFormula x messages f) (log : Log) where
   -- two formulas of the messages have the same clauses
@@ -42,3 +44,8 @@ no_failure moved one_list never x messages log reject accepts fails =
 pub accepted_if_ok : (x : Expanded) (messages : List ℕ) (f : Formula) (log : Log) (r : Result (Unit {0}) Reject) → IsEnactFormula x messages f → OnOk r (Accepts f log) → OnOk r (AcceptsDead x messages log)
 accepted_if_ok x messages f log (Ok done) is accepts = record { formula = f; is_formula = is; accepts = accepts }
 accepted_if_ok x messages f log (Err reject) is accepts = tt
+
+-- and then the messages are dead
+pub dead_if_ok : NoModelIsDead → (x : Expanded) (messages : List ℕ) (f : Formula) (r : Result (Unit {0}) Reject) → IsEnactFormula x messages f → OnOk r (IsUnsatisfiable f.clauses) → OnOk r (¬ AreEnactable x messages)
+dead_if_ok law x messages f (Ok done) is no_model = law x messages f is no_model
+dead_if_ok law x messages f (Err reject) is no_model = tt

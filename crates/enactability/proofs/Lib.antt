@@ -1,6 +1,7 @@
 pub mod CutLemmas
 pub mod EmissionLemmas
 pub mod ClauseLemmas
+pub mod StoredLemmas
 pub mod AnswerLemmas
 pub mod ModelLemmas
 pub mod CheckLemmas

@@ -4,11 +4,11 @@ ghost use Rattle.enactability.specs.Check.{AcceptsDead, FailsDead};
 ghost use Rattle.enactability.specs.Enactable.{AreEnactable, AreMessages, Enactable};
 ghost use Rattle.enactability.specs.EnactFormula.{enact_clauses};
 
-use super::formula::enact_formula_of;
 use super::laws::{enactable_alone, no_model_is_dead};
+use super::ordered_formula::ordered_enact_formula;
 use bspl_types::Admitted;
 use clause_encoding::{clauses_are_as_many, clauses_are_determined};
-use log_checker::{Reject, check_log, clauses_decide};
+use log_checker::{Reject, check_ordered_log, clauses_decide};
 use refutation_log::Log;
 use std::alloc::Global;
 
@@ -57,6 +57,6 @@ pub fn check_dead_together(
     clauses_are_as_many();
     // law: what a log does to a formula it does to each with the same clauses
     clauses_decide();
-    let formula = enact_formula_of(alloc, a, messages)?;
-    check_log(alloc, &formula, log)
+    let formula = ordered_enact_formula(alloc, a, messages)?;
+    check_ordered_log(alloc, &formula, log)
 }

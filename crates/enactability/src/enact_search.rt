@@ -9,16 +9,17 @@ ghost use Rattle.witness_replay.specs.Witness.{IsRunOf};
 ghost use Rattle.enactability.specs.Answer.{HasNumbersInRange, IsAnswered};
 
 use super::cut::{cut_of, known_cut};
-use super::formula::shared_formula;
 use super::laws::{cut_enacts, enact_clauses_are_few, enactable_alone, no_model_is_dead};
 use super::model_search::sent_model;
+use super::ordered_formula::ordered_shared;
 use super::outcome::Enact;
 use bspl_types::{Admitted, Run};
-use clause_core::{Assignment, Formula};
+use clause_core::Assignment;
 use clause_encoding::{
     clauses_are_as_many, safety_variables, variables_are_small, written_is_satisfied,
 };
 use list_base::{NoMemory, Seq};
+use order_clauses::OrderedFormula;
 use sat_solver::Outcome;
 use std::alloc::Global;
 use std::marker::Model;
@@ -30,19 +31,20 @@ use witness_replay::order_run;
 #[derive(Drop)]
 pub struct EnactSearch<'a> {
     protocol: &'a Admitted,
-    formula: Formula,
+    formula: OrderedFormula,
     runs: Seq<Run>,
 }
 
 impl<'a> Model for EnactSearch<'a> {
     ghost use Rattle.bspl_types.specs.declared.expanded.Expanded.{Expanded as SpecExpanded};
+    ghost use Rattle.order_clauses.specs.Formula.{whole};
     ghost use Rattle.enactability.specs.inner.Search.{IsSearch};
 
     ghost Value = { SpecExpanded };
 
     ghost view = { λ s. s.protocol.now };
 
-    ghost invariant = { λ s. IsSearch s.protocol.now s.formula s.runs };
+    ghost invariant = { λ s. IsSearch s.protocol.now (whole s.formula) s.runs };
 }
 
 impl<'a> EnactSearch<'a> {
@@ -60,7 +62,7 @@ impl<'a> EnactSearch<'a> {
     pub fn new(alloc: Global, protocol: &'a Admitted) -> Result<EnactSearch<'a>, NoMemory>
         ensures { IfOk result (λ search. search ≡ protocol.now) }
     {
-        let formula = shared_formula(alloc, protocol)?;
+        let formula = ordered_shared(alloc, protocol)?;
         Ok(EnactSearch {
             protocol,
             formula,

@@ -37,7 +37,7 @@ pub fn enact_formula_of(alloc: Global, a: &Admitted, messages: &[u32]) -> Result
 
 /// The clauses that all formulas share, over the variables of the safety formula: those of it
 /// before the first one on rivals.
-pub(crate) fn shared_formula(alloc: Global, a: &Admitted) -> Result<Formula, NoMemory>
+fn shared_formula(alloc: Global, a: &Admitted) -> Result<Formula, NoMemory>
     ensures exact { IfOk result (IsEnactFormula a.now []) }
     ensures few { IfOk result (λ f. length f.clauses ≤ 8000000) }
 {

@@ -9,6 +9,7 @@ mod formula;
 mod laws;
 mod model_search;
 mod names;
+mod ordered_formula;
 mod outcome;
 mod reader;
 mod title;

@@ -1,11 +1,11 @@
 ghost use Rattle.std.specs.Prelude.{◌+◌, ◌^◌, ◌<◌, ◌≤◌, length, IfOk};
-ghost use Rattle.enactability.specs.inner.Sent.{HasSent, HasSomeAdded, IsFoundWith, IsSame};
+ghost use Rattle.order_clauses.specs.Formula.{whole};
+ghost use Rattle.enactability.specs.inner.Sent.{HasSent, HasSomeStored, IsFoundWith, IsSame};
 
-use super::clause_cut::keep_first;
-use super::formula::push_sent;
-use clause_core::Formula;
+use super::ordered_formula::{keep_stored, store_sent};
 use clause_encoding::clauses_are_as_many;
 use list_base::NoMemory;
+use order_clauses::OrderedFormula;
 use sat_solver::Outcome;
 use std::alloc::Global;
 use verdict::search_model;
@@ -14,37 +14,37 @@ use verdict::search_model;
 /// was.
 pub(crate) fn sent_model(
     alloc: Global,
-    formula: &mut Formula,
+    formula: &mut OrderedFormula,
     messages: &[u32],
     budget: u32,
 ) -> Result<Outcome, NoMemory>
-    requires sent { HasSent formula.old messages.now }
+    requires sent { HasSent (whole formula.old) messages.now }
     requires some { 1 ≤ budget }
-    requires few { length formula.old.clauses + length messages.now + budget < 2 ^ 32 }
-    ensures same { IsSame formula.old formula.new }
-    ensures found { IfOk result (IsFoundWith formula.old messages.now budget) }
+    requires few { length (whole formula.old).clauses + length messages.now + budget < 2 ^ 32 }
+    ensures same { IsSame (whole formula.old) (whole formula.new) }
+    ensures found { IfOk result (IsFoundWith (whole formula.old) messages.now budget) }
 {
-    let shared = formula.clauses.len();
+    let shared = formula.stored.clauses.len();
     let found = longer_model(alloc, formula, messages, budget);
-    keep_first(formula, shared);
+    keep_stored(formula, shared);
     found
 }
 
 /// The same, but the clauses that the messages are sent are left in the formula.
 fn longer_model(
     alloc: Global,
-    formula: &mut Formula,
+    formula: &mut OrderedFormula,
     messages: &[u32],
     budget: u32,
 ) -> Result<Outcome, NoMemory>
-    requires sent { HasSent formula.old messages.now }
+    requires sent { HasSent (whole formula.old) messages.now }
     requires some { 1 ≤ budget }
-    requires few { length formula.old.clauses + length messages.now + budget < 2 ^ 32 }
-    ensures longer { HasSomeAdded formula.old formula.new }
-    ensures found { IfOk result (IsFoundWith formula.old messages.now budget) }
+    requires few { length (whole formula.old).clauses + length messages.now + budget < 2 ^ 32 }
+    ensures longer { HasSomeStored formula.old formula.new }
+    ensures found { IfOk result (IsFoundWith (whole formula.old) messages.now budget) }
 {
     // law: there is a clause for each that is written
     clauses_are_as_many();
-    push_sent(alloc, formula, messages)?;
+    store_sent(alloc, formula, messages)?;
     search_model(alloc, formula, budget)
 }

@@ -3,6 +3,7 @@ mod ConflictLemmas
 mod CurrentLemmas
 mod EntryLemmas
 mod GatheringLemmas
+mod GivenLemmas
 mod GrowthLemmas
 mod LearningLemmas
 mod LevelLemmas

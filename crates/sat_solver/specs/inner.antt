@@ -7,3 +7,4 @@ pub mod Analysis
 pub mod Gathered
 pub mod Learner
 pub mod Ending
+pub mod Given

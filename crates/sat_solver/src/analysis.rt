@@ -9,8 +9,8 @@ ghost use Rattle.sat_solver.specs.inner.Gathered.{IsDerivationOf, Gathers, Steps
 use super::false_lits::FalseLits;
 use clause_core::{Clause, Lit, equal_members, lists_have_clauses};
 use list_base::{NoMemory, Seq};
+use order_trail::OrderTrail;
 use refutation_log::{Chain, Link};
-use sat_trail::Trail;
 use std::alloc::Global;
 
 /// A clause and the chain of resolutions that derives it.
@@ -26,7 +26,7 @@ pub struct Derivation {
 /// current level is left, at the first unique implication point.
 pub fn derive_asserting(
     alloc: Global,
-    trail: &Trail,
+    trail: &OrderTrail,
     number: u32,
     lits: &mut FalseLits,
 ) -> Result<Derivation, NoMemory>
@@ -53,7 +53,7 @@ pub fn derive_asserting(
 /// Resolves the false clause of level 0 along the whole trail, down to the empty clause.
 pub fn derive_empty(
     alloc: Global,
-    trail: &Trail,
+    trail: &OrderTrail,
     number: u32,
     lits: &mut FalseLits,
 ) -> Result<Derivation, NoMemory>
@@ -86,7 +86,7 @@ fn derived(alloc: Global, chain: Chain, lits: &[Lit]) -> Result<Derivation, NoMe
 }
 
 /// The literals of the false clause, before the first resolution.
-fn start(alloc: Global, trail: &Trail, number: u32, lits: &mut FalseLits) -> Chain
+fn start(alloc: Global, trail: &OrderTrail, number: u32, lits: &mut FalseLits) -> Chain
     requires falsified { let values = values_of trail.now.entries in
         IsFalsified (numbering_of trail.now) values number }
     requires vars { lits.old.set.vars ≡ trail.now.vars }
@@ -103,7 +103,7 @@ fn start(alloc: Global, trail: &Trail, number: u32, lits: &mut FalseLits) -> Cha
 
 /// Resolves on the literal at the position, if its negation is among the literals.
 fn step(
-    trail: &Trail,
+    trail: &OrderTrail,
     lits: &mut FalseLits,
     chain: &mut Chain,
     position: u32,
@@ -134,7 +134,7 @@ fn step(
 }
 
 /// The highest level below the current one at which a literal of the clause was set, or 0.
-pub fn lower_level(trail: &Trail, clause: &[Lit]) -> u32
+pub fn lower_level(trail: &OrderTrail, clause: &[Lit]) -> u32
     requires exist { VariablesExist trail.now.vars clause.now }
     requires above { 0 < trail.now.level }
     ensures { IsLowerLevel trail.now clause.now result }

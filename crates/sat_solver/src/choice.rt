@@ -3,7 +3,7 @@ ghost use Rattle.sat_solver.specs.inner.Choice.{IsFree, AllSet, AreSetUpTo};
 
 use super::decision_rule::DecisionRule;
 use clause_core::Lit;
-use sat_trail::Trail;
+use order_trail::OrderTrail;
 
 /// How far the walks of a search came since the last backjump. Both only go on until the next one.
 #[derive(Clone, Copy, Debug)]
@@ -16,7 +16,7 @@ pub struct Marks {
 
 /// The literal to decide: the one that the rule proposes, if it is unset, and else the negation of
 /// the lowest unset variable.
-pub fn choose(trail: &Trail, rule: &mut DecisionRule, marks: &mut Marks) -> Option<Lit>
+pub fn choose(trail: &OrderTrail, rule: &mut DecisionRule, marks: &mut Marks) -> Option<Lit>
     requires rule { rule.old.vars ≡ trail.now.vars }
     requires passed { AreSetUpTo trail.now marks.old.lowest }
     ensures free { IfSome result (IsFree trail.now) }
@@ -33,14 +33,14 @@ pub fn choose(trail: &Trail, rule: &mut DecisionRule, marks: &mut Marks) -> Opti
 }
 
 /// Whether the literal's variable exists and has no value.
-fn is_free(trail: &Trail, lit: Lit) -> bool
+fn is_free(trail: &OrderTrail, lit: Lit) -> bool
     ensures { IsTrue result ↔ IsFree trail.now lit }
 {
     0 < lit.var && lit.var <= trail.vars() && trail.value(lit.var).is_none()
 }
 
 /// The negation of the lowest variable that has no value.
-fn lowest_free(trail: &Trail, lowest: &mut u32) -> Option<Lit>
+fn lowest_free(trail: &OrderTrail, lowest: &mut u32) -> Option<Lit>
     requires passed { AreSetUpTo trail.now lowest.old }
     ensures free { IfSome result (IsFree trail.now) }
     ensures all_set { IfNone result (AllSet trail.now) }

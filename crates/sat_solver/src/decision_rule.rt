@@ -5,7 +5,7 @@ use super::recent_clause::newest_unsatisfied;
 use super::variable_queue::VariableQueue;
 use clause_core::Lit;
 use list_base::NoMemory;
-use sat_trail::Trail;
+use order_trail::OrderTrail;
 use std::alloc::Global;
 use std::marker::Model;
 
@@ -46,7 +46,7 @@ impl DecisionRule {
     }
 
     /// A literal to decide, if the rule has one. Whoever takes it looks whether it is unset.
-    pub fn propose(&mut self, trail: &Trail, mark: &mut u32) -> Option<Lit>
+    pub fn propose(&mut self, trail: &OrderTrail, mark: &mut u32) -> Option<Lit>
         requires { self.old.vars ≡ trail.now.vars }
         ensures { self.new.vars ≡ self.old.vars }
     {
@@ -62,7 +62,7 @@ impl DecisionRule {
     pub fn take_in(
         &mut self,
         alloc: Global,
-        trail: &Trail,
+        trail: &OrderTrail,
         clause: &[Lit],
         asserting: u32,
     ) -> Result<u32, NoMemory>

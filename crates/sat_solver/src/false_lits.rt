@@ -8,7 +8,7 @@ ghost use Rattle.sat_solver.specs.inner.Gathered.{AddsLiteral, AddsLiterals, Res
 use super::lit_set::LitSet;
 use clause_core::Lit;
 use list_base::NoMemory;
-use sat_trail::Trail;
+use order_trail::OrderTrail;
 use std::alloc::Global;
 
 /// Literals that a trail makes false, with a count of those of the current level.
@@ -41,7 +41,7 @@ impl FalseLits {
     }
 
     /// Puts a false literal in.
-    pub fn insert(&mut self, trail: &Trail, lit: Lit)
+    pub fn insert(&mut self, trail: &OrderTrail, lit: Lit)
         requires are_false { AreFalse trail.now self.old }
         requires fails { MakesFalse (values_of trail.now.entries) lit }
         ensures are_false { AreFalse trail.now self.new }
@@ -55,7 +55,7 @@ impl FalseLits {
     }
 
     /// Puts the literals of a false clause in.
-    pub fn insert_all(&mut self, trail: &Trail, clause: &[Lit])
+    pub fn insert_all(&mut self, trail: &OrderTrail, clause: &[Lit])
         requires are_false { AreFalse trail.now self.old }
         requires fails { Falsifies (values_of trail.now.entries) clause.now }
         ensures are_false { AreFalse trail.now self.new }
@@ -67,7 +67,7 @@ impl FalseLits {
     }
 
     /// Puts the other literals of the clause that forced the negation in place of the literal.
-    pub fn resolve(&mut self, trail: &Trail, pivot: Lit, reason: &[Lit])
+    pub fn resolve(&mut self, trail: &OrderTrail, pivot: Lit, reason: &[Lit])
         requires are_false { AreFalse trail.now self.old }
         requires among { Contains self.old.set.lits pivot }
         requires others { OthersFalse (values_of trail.now.entries) reason.now (negated pivot) }
@@ -87,7 +87,7 @@ impl FalseLits {
 }
 
 /// Whether the literal was set at the current level.
-fn is_current(trail: &Trail, lit: Lit) -> bool
+fn is_current(trail: &OrderTrail, lit: Lit) -> bool
     requires from_one { 0 < lit.var }
     requires exists { lit.var ≤ trail.now.vars }
     ensures { result ≡ is_current trail.now lit }

@@ -2,10 +2,10 @@ ghost use Rattle.std.specs.Prelude.{◌≡◌};
 
 use super::decision_rule::DecisionRule;
 use super::false_lits::FalseLits;
-use clause_core::Formula;
+use super::given_formula::GivenFormula;
 use list_base::{NoMemory, Seq};
+use order_trail::OrderTrail;
 use refutation_log::{ChainList, Log};
-use sat_trail::Trail;
 use std::alloc::Global;
 
 /// The steps so far, and the trail and the lists with which a step is found.
@@ -14,7 +14,7 @@ pub struct Learner<'f> {
     /// A step for each clause that was learned.
     pub steps: ChainList,
     /// The formula's clauses and the learned ones, and the literals that are set.
-    pub trail: Trail<'f>,
+    pub trail: OrderTrail<'f>,
     /// The literals of the clause that is being resolved.
     pub lits: FalseLits,
     /// What proposes the next decision.
@@ -28,13 +28,13 @@ impl<'f> Learner<'f> {
     ghost use Rattle.sat_solver.specs.inner.Learner.{IsNewLearner};
 
     /// Nothing is learned and set.
-    pub fn new(alloc: Global, f: &'f Formula) -> Result<Learner<'f>, NoMemory>
+    pub fn new(alloc: Global, f: &GivenFormula<'f>) -> Result<Learner<'f>, NoMemory>
         requires { length f.now.clauses < 2 ^ 32 }
         ensures { IfOk result (IsNewLearner f.now) }
     {
-        let trail = Trail::new(alloc, f)?;
-        let lits = FalseLits::new(alloc, f.vars)?;
-        let rule = DecisionRule::new(alloc, f.vars)?;
+        let trail = f.trail(alloc)?;
+        let lits = FalseLits::new(alloc, f.vars())?;
+        let rule = DecisionRule::new(alloc, f.vars())?;
         Ok(Learner {
             steps: Seq::new(alloc),
             trail,

@@ -6,6 +6,7 @@ mod choice;
 mod conflict;
 mod decision_rule;
 mod false_lits;
+mod given_formula;
 mod learner;
 mod lit_set;
 mod model;
@@ -18,4 +19,4 @@ mod variable_queue;
 
 pub use outcome::Outcome;
 pub use search_stats::SearchStats;
-pub use solver::{solve, solve_counted};
+pub use solver::{solve, solve_counted, solve_ordered};

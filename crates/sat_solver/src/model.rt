@@ -7,11 +7,11 @@ ghost use Rattle.sat_solver.specs.inner.Choice.{AllSet, SatisfiesNumbered};
 
 use clause_core::Assignment;
 use list_base::{NoMemory, Seq};
-use sat_trail::Trail;
+use order_trail::OrderTrail;
 use std::alloc::Global;
 
 /// The assignment that a trail gives if all variables are set and no clause is false.
-pub fn model(alloc: Global, trail: &Trail) -> Result<Assignment, NoMemory>
+pub fn model(alloc: Global, trail: &OrderTrail) -> Result<Assignment, NoMemory>
     requires propagated { IsPropagated (values_of trail.now.entries) (numbering_of trail.now) }
     requires all_set { AllSet trail.now }
     ensures whole { IfOk result (λ assignment. length assignment ≡ trail.now.vars) }

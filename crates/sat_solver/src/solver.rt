@@ -1,14 +1,17 @@
-ghost use Rattle.std.specs.Prelude.{◌+◌, ◌^◌, ◌<◌, ◌≤◌, ◌↔◌, [], length, IfOk, IsTrue, Contains};
+ghost use Rattle.std.specs.Prelude.{◌+◌, ◌^◌, ◌<◌, ◌≤◌, [], length, IfOk, Contains};
+ghost use Rattle.order_clauses.specs.Formula.{whole};
 ghost use Rattle.sat_solver.specs.Outcome.{IsOutcome};
 ghost use Rattle.sat_solver.specs.inner.Ending.{IsEnding};
 ghost use Rattle.sat_solver.specs.inner.Learner.{IsNewLearner};
 
+use super::given_formula::GivenFormula;
 use super::learner::Learner;
 use super::model::model;
 use super::outcome::Outcome;
 use super::search_stats::SearchStats;
-use clause_core::{Assignment, Clause, Formula};
+use clause_core::{Assignment, Formula};
 use list_base::{NoMemory, Seq};
+use order_clauses::OrderedFormula;
 use refutation_log::{Log, new_clause_appends, plain_resolves, step_appends};
 use std::alloc::Global;
 
@@ -23,8 +26,8 @@ pub enum Ending {
     Spent,
 }
 
-/// Decides the formula by learning a clause at each conflict, as GRASP and Chaff do, with no more
-/// than `budget` conflicts.
+/// Decides the formula by learning a clause at each conflict, as GRASP and Chaff do. A log has no
+/// more steps than the budget says.
 pub fn solve(alloc: Global, f: &Formula, budget: u32) -> Result<Outcome, NoMemory>
     requires some { 1 ≤ budget }
     requires few { length f.now.clauses + budget < 2 ^ 32 }
@@ -34,7 +37,8 @@ pub fn solve(alloc: Global, f: &Formula, budget: u32) -> Result<Outcome, NoMemor
     solve_counted(alloc, f, budget, &mut stats)
 }
 
-/// As `solve`, and adds what was done to the counts.
+/// As `solve`, and adds what was done to the counts. These are for those who measure: no contract
+/// says what they are.
 pub fn solve_counted(
     alloc: Global,
     f: &Formula,
@@ -45,9 +49,34 @@ pub fn solve_counted(
     requires few { length f.now.clauses + budget < 2 ^ 32 }
     ensures { IfOk result (IsOutcome f.now budget) }
 {
+    solve_given(alloc, &GivenFormula::plain(f), budget, stats)
+}
+
+/// As `solve`, of a formula with an order. The order's clauses are not stored: one is made when it is
+/// unit or false in the search, which is a matter of speed and in no contract.
+pub fn solve_ordered(alloc: Global, f: &OrderedFormula, budget: u32) -> Result<Outcome, NoMemory>
+    requires some { 1 ≤ budget }
+    requires few { length (whole f.now).clauses + budget < 2 ^ 32 }
+    ensures { IfOk result (IsOutcome (whole f.now) budget) }
+{
+    let mut stats = SearchStats::none();
+    solve_given(alloc, &GivenFormula::ordered(f), budget, &mut stats)
+}
+
+/// The same, of a formula with or without an order.
+fn solve_given(
+    alloc: Global,
+    f: &GivenFormula,
+    budget: u32,
+    stats: &mut SearchStats,
+) -> Result<Outcome, NoMemory>
+    requires some { 1 ≤ budget }
+    requires few { length f.now.clauses + budget < 2 ^ 32 }
+    ensures { IfOk result (IsOutcome f.now budget) }
+{
     // law: a log without removals resolves if each step derives its clause from all before it
     plain_resolves();
-    if has_empty(f.clauses.as_slice()) {
+    if f.has_empty() {
         return Ok(Outcome::Unsat(Log::plain(alloc, Seq::new(alloc))));
     }
     let mut learner = Learner::new(alloc, f)?;
@@ -62,7 +91,7 @@ pub fn solve_counted(
 /// Searches and learns until the formula is decided or the budget is spent.
 fn search_within(
     alloc: Global,
-    f: &Formula,
+    f: &GivenFormula,
     budget: u32,
     learner: &mut Learner,
     stats: &mut SearchStats,
@@ -79,7 +108,7 @@ fn search_within(
     // law: new clauses stay new if a new one comes after them
     new_clause_appends();
     for _ in 0..budget {
-        let Some(number) = learner.search(stats) else {
+        let Some(number) = learner.search(stats)? else {
             return Ok(Ending::Model(model(alloc, &learner.trail)?));
         };
         if learner.trail.level() == 0 {
@@ -89,11 +118,4 @@ fn search_within(
         learner.learn(alloc, number)?;
     }
     Ok(Ending::Spent)
-}
-
-/// Whether one of the clauses is empty.
-fn has_empty(clauses: &[Clause]) -> bool
-    ensures { IsTrue result ↔ Contains clauses.now [] }
-{
-    clauses.iter().any(|c| c.lits().is_empty())
 }

@@ -4,7 +4,7 @@ ghost use Rattle.sat_solver.specs.inner.Queue.{AreLinks};
 
 use clause_core::Lit;
 use list_base::NoMemory;
-use sat_trail::Trail;
+use order_trail::OrderTrail;
 use std::alloc::Global;
 
 /// The variables, those that were moved last at the front (VMTF: Ryan 2004, of the solver siege),
@@ -51,7 +51,7 @@ impl VariableQueue {
     }
 
     /// The unset variable of the highest stamp, with the value that it had last.
-    pub fn newest_unset(&mut self, trail: &Trail) -> Option<Lit>
+    pub fn newest_unset(&mut self, trail: &OrderTrail) -> Option<Lit>
         requires { self.old.vars ≡ trail.now.vars }
         ensures { self.new.vars ≡ self.old.vars }
     {

@@ -16,6 +16,8 @@ mod log_tests;
 #[cfg(test)]
 mod order_tests;
 #[cfg(test)]
+mod order_trail_tests;
+#[cfg(test)]
 mod protocols;
 #[cfg(test)]
 mod solve_tests;

@@ -5,6 +5,7 @@ ghost use Rattle.clause_core.specs.Clause.{SatisfiesAll};
 ghost use Rattle.clause_encoding.specs.Formula.{IsFormula, clauses_of, variables_of};
 ghost use Rattle.clause_encoding.specs.Variables.{variable_count};
 ghost use Rattle.enactment_model.specs.Producers.{HasOneProducer};
+ghost use Rattle.order_clauses.specs.Formula.{whole};
 ghost use Rattle.verdict.specs.Decision.{HasLogInRange, IsDecided, IsProvedByEmptyLog};
 ghost use Rattle.verdict.specs.inner.Answer.{HasRefutingRun, IsAnswer, IsAnswered};
 
@@ -12,10 +13,11 @@ use super::laws::numbers_in_range;
 use super::outcome::Decision;
 use super::search::search_model;
 use bspl_types::{Admitted, Property};
-use clause_core::{Assignment, Formula};
-use clause_encoding::{formula_of, variables_are_small, written_is_satisfied};
+use clause_core::Assignment;
+use clause_encoding::{ordered_formula_of, variables_are_small, written_is_satisfied};
 use first_occurrences::unsatisfiable_holds;
 use list_base::NoMemory;
+use order_clauses::OrderedFormula;
 use refutation_log::{new_resolves, steps_are_counted};
 use sat_solver::Outcome;
 use std::alloc::Global;
@@ -43,7 +45,7 @@ pub fn decide(
     steps_are_counted();
     // law: a formula has few variables
     variables_are_small();
-    let formula = formula_of(alloc, property, a)?;
+    let formula = ordered_formula_of(alloc, property, a)?;
     decide_by(alloc, property, a, &formula, budget)
 }
 
@@ -52,13 +54,13 @@ fn decide_by(
     alloc: Global,
     property: Property,
     a: &Admitted,
-    formula: &Formula,
+    formula: &OrderedFormula,
     budget: u32,
 ) -> Result<Decision, NoMemory>
     requires some { 1 ≤ budget }
-    requires few { length formula.now.clauses + budget < 2 ^ 32 }
-    requires is_formula { IsFormula property a.now formula.now }
-    ensures { IfOk result (IsAnswered formula.now budget (IsAnswer property a.now)) }
+    requires few { length (whole formula.now).clauses + budget < 2 ^ 32 }
+    requires is_formula { IsFormula property a.now (whole formula.now) }
+    ensures { IfOk result (IsAnswered (whole formula.now) budget (IsAnswer property a.now)) }
 {
     // law: a protocol has a property if the formula of both has no model
     unsatisfiable_holds();

@@ -1,11 +1,12 @@
 -- What it is that clauses are appended which say that messages are sent.
-use Rattle.std.specs.Prelude.{◌≡◌, ℕ, ◌<◌, ◌≤◌, ◌++◌, List}
+use Rattle.std.specs.Prelude.{◌≡◌, ℕ, ◌<◌, ◌≤◌, ◌++◌, List, take}
 use Rattle.std.specs.List.{All}
 use Rattle.bspl_types.specs.Limits.{message_limit}
 use Rattle.clause_core.specs.declared.formula.Formula.{Formula}
 use Rattle.clause_core.specs.declared.literal.Lit.{Lit}
 use Rattle.clause_encoding.specs.Formula.{AreClausesOf}
 use Rattle.clause_encoding.specs.Variables.{sent}
+use Rattle.order_clauses.specs.declared.ordered_formula.OrderedFormula.{OrderedFormula}
 use Rattle.sat_solver.specs.declared.outcome.Outcome.{Outcome}
 use Rattle.verdict.specs.Search.{IsFound}
 use Rattle.enactability.specs.EnactFormula.{sent_clauses}
@@ -46,3 +47,20 @@ pub record IsFoundWith (old : Formula) (messages : List ℕ) (budget : ℕ) (out
   pub formula : Formula
   pub sent_too : HasSentAdded messages old formula
   pub found : IsFound formula budget outcome
+
+-- the order is the same, and of what is stored the new formula is the old one with some clauses
+-- more
+pub record HasSomeStored (old new : OrderedFormula) : Type 0 where
+  pub order : new.order ≡ old.order
+  pub stored : HasSomeAdded old.stored new.stored
+
+-- with those that say that the messages are sent
+pub record HasSentStored (messages : List ℕ) (old new : OrderedFormula) : Type 0 where
+  pub order : new.order ≡ old.order
+  pub stored : HasSentAdded messages old.stored new.stored
+
+-- or it has only the first of them
+pub record HasFirstStored (count : ℕ) (old new : OrderedFormula) : Type 0 where
+  pub order : new.order ≡ old.order
+  pub vars : new.stored.vars ≡ old.stored.vars
+  pub first : new.stored.clauses ≡ take count old.stored.clauses

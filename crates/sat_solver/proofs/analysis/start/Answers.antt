@@ -11,4 +11,4 @@ pub returns-clause-gathers : goal.returns-clause-gathers
 returns-clause-gathers c =
     let inserts = rw (ap (λ (s : LiteralSet). s.lits) c.clear.ensures.set, c.lits.ensures.same) at c.insert_all.ensures.inserted in
     rw c.new.ensures
-    (Gathers-start c.args.trail.now c.args.number c.clause.result.now c.insert_all.new.self c.requires.falsified c.clause.ensures c.lits.ensures.ascending c.insert_all.ensures.are_false inserts)
+    (Gathers-start c.args.trail.now c.args.number c.clause.result c.insert_all.new.self c.requires.falsified c.clause.ensures c.lits.ensures.ascending c.insert_all.ensures.are_false inserts)

@@ -8,7 +8,7 @@ loop-init c = (IsLearning-start c.args.f.now c.args.learner.now c.requires.none 
 
 pub returns-in_default : goal.returns-in_default
 returns-in_default c =
-    let known = IsLearning-search c.args.f.now c.loop.learner c.search.new.self c.loop.invariant.0 c.search.ensures.keeps c.search.ensures.steps in
+    let known = IsLearning-search c.args.f.now c.loop.learner c.search.new.self c.loop.invariant.0 c.in_ok-number.ensures.keeps c.search.ensures.steps in
     record {
       whole = c.in_ok-model.ensures.whole ∙ known.vars;
       satisfies = satisfies-formula c.args.f.now c.search.new.self.trail c.search.new.self.steps _ known c.in_ok-model.ensures.satisfies;
@@ -16,7 +16,7 @@ returns-in_default c =
 
 pub returns-then-level-eq0 : goal.returns-then-level-eq0
 returns-then-level-eq0 c = λ log plain.
-    let known = IsLearning-search c.args.f.now c.loop.learner c.search.new.self c.loop.invariant.0 c.search.ensures.keeps c.search.ensures.steps in
+    let known = IsLearning-search c.args.f.now c.loop.learner c.search.new.self c.loop.invariant.0 c.in_ok-number.ensures.keeps c.search.ensures.steps in
     Refutes-by (record { live = c.plain_resolves.ensures.live; containing = c.plain_resolves.ensures.containing })
     c.args.f.now c.search.new.self c.refute.new.self log c.args.budget c.in-Some.number
     c.step_appends.ensures c.new_clause_appends.ensures known
@@ -25,13 +25,13 @@ returns-then-level-eq0 c = λ log plain.
 
 pub learn-requires-clause-few : goal.learn-requires-clause-few
 learn-requires-clause-few c =
-    let known = IsLearning-search c.args.f.now c.loop.learner c.search.new.self c.loop.invariant.0 c.search.ensures.keeps c.search.ensures.steps in
+    let known = IsLearning-search c.args.f.now c.loop.learner c.search.new.self c.loop.invariant.0 c.in_ok-number.ensures.keeps c.search.ensures.steps in
     few-learned c.args.f.now c.search.new.self.trail c.search.new.self.steps c.args.budget known
     (omega (arith, ap length c.search.ensures.steps, c.loop.invariant.1, c.loop-test.true)) c.requires.few
 
 pub loop-preserved : goal.loop-preserved
 loop-preserved c =
-    let known = IsLearning-search c.args.f.now c.loop.learner c.search.new.self c.loop.invariant.0 c.search.ensures.keeps c.search.ensures.steps in
+    let known = IsLearning-search c.args.f.now c.loop.learner c.search.new.self c.loop.invariant.0 c.in_ok-number.ensures.keeps c.search.ensures.steps in
     let above : 0 < c.search.new.self.trail.level = omega (arith, c.level.ensures.same, c.if-level-eq0.false) in (
       IsLearning-learn c.args.f.now c.search.new.self c.learn.new.self c.step_appends.ensures c.new_clause_appends.ensures known above c.in_ok-learn.ensures,
       ap length c.in_ok-learn.ensures.steps ∙ length-append c.search.new.self.steps _ ∙ ap (λ s. length s + 1) c.search.ensures.steps ∙ ap (λ n. n + 1) c.loop.invariant.1,

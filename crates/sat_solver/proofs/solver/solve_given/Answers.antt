@@ -1,18 +1,14 @@
 -- What the search found, and the log of its steps.
-use Rattle.std.proofs.Common.{◌≡◌, false, true, [], sym, ◌∙◌, subst, Contains, refl}
+use Rattle.std.proofs.Common.{◌∙◌, refl}
 use Rattle.sat_solver.proofs.SolvingLemmas.{Refutes-empty}
-use Rattle.sat_solver.proofs.solver.solve_counted.Goals as goal
+use Rattle.sat_solver.proofs.solver.solve_given.Goals as goal
 
 pub returns-then-has_empty : goal.returns-then-has_empty
 returns-then-has_empty c =
     Refutes-empty (record { live = c.plain_resolves.ensures.live; containing = c.plain_resolves.ensures.containing })
     c.args.f.now c.plain.result c.args.budget
     (record { same = c.plain.ensures.steps ∙ c.new.ensures; none = c.plain.ensures.removals })
-    (subst (λ cs. Contains cs []) c.as_slice.ensures (c.if-has_empty.ensures.0 refl))
-
-pub search_within-requires-clause-none : goal.search_within-requires-clause-none
-search_within-requires-clause-none c =
-    λ among. (let clash : false ≡ true = c.if-has_empty.ensures.1 (subst (λ cs. Contains cs []) (sym c.as_slice.ensures) among) in cc)
+    (c.if-has_empty.ensures.0 refl)
 
 pub returns-in-Refuted : goal.returns-in-Refuted
 returns-in-Refuted c =
