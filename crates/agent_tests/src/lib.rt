@@ -12,4 +12,6 @@ mod loss_tests;
 #[cfg(test)]
 mod reception_tests;
 #[cfg(test)]
+mod start_tests;
+#[cfg(test)]
 mod world_tests;

@@ -1,5 +1,5 @@
 -- The fields of a body give back the entry whose body it is.
-use Rattle.std.proofs.Common.{◌≡◌, ℕ, zero, suc, ◌-◌, min, List, [], ◌∷◌, ◌++◌, length, take, drop, replicate, refl, sym, ap, ◌∙◌, arith, All, append_assoc, length-append}
+use Rattle.std.proofs.Common.{◌≡◌, ℕ, zero, suc, ◌-◌, ◌*◌, min, List, [], ◌∷◌, ◌++◌, length, take, drop, replicate, refl, sym, ap, ◌∙◌, arith, All, append_assoc, length-append}
 use Rattle.std.specs.List.{flat_map}
 use Rattle.std.proofs.lemmas.List.{drop_at, length-replicate, take_at}
 use Rattle.std.proofs.lemmas.Nat.{from_le_bytes-to_le_bytes_8}
@@ -29,6 +29,11 @@ first_good v vs good = good 0 v (omega arith)
 
 rest_good : (v : Value) (vs : List Value) → All IsValue (v ∷ vs) → All IsValue vs
 rest_good v vs good = λ k d within. good (suc k) d (omega arith)
+
+-- the fields of several values
+pub length-fields : (vs : List Value) → All IsValue vs → length (flat_map value_field vs) ≡ 34 * length vs
+length-fields [] good = refl
+length-fields (v ∷ vs) good = omega (arith, length-append (value_field v) (flat_map value_field vs), length-value_field v (first_good v vs good), length-fields vs (rest_good v vs good))
 
 -- so are the values of several fields
 pub values_again : (vs : List Value) (rest : List ℕ) → All IsValue vs → values_in (length vs) (flat_map value_field vs ++ rest) ≡ vs

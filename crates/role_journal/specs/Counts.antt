@@ -32,7 +32,7 @@ HasOutcome counts (Ok _) old new = counts new ≡ counts old
 HasOutcome counts (Err Failed) old new = counts new ≡ after_fault (counts old)
 HasOutcome counts (Err NoMemory) old new = new ≡ old
 
--- a row of at most so many calls, of which the last one may have failed
+-- a row of calls that takes at most so many ticks, of which the last one may have failed
 pub record Costs {D : Type 0} (clock : D → ℕ) (counts : D → Counts) (most : ℕ) (failed : Type 0)
     (old new : D) : Type 0 where
   pub calls : clock new ≤ clock old + most

@@ -45,3 +45,7 @@ abbrev pub BodiesAreDistinct : Type 0
 BodiesAreDistinct =
     (x : Expanded) (e f : Entry) → IsAdmitted x → IsEntry x e → IsEntry x f →
     entry_body e ≡ entry_body f → e ≡ f
+
+-- each entry's body is as long as a place behind its gate
+abbrev pub BodiesAreWhole : Type 0
+BodiesAreWhole = (x : Expanded) (e : Entry) → IsEntry x e → length (entry_body e) ≡ 561

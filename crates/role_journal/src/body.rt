@@ -1,6 +1,10 @@
 ghost use Rattle.std.specs.Prelude.{◌≡◌, ◌+◌, ◌*◌, ◌≤◌, ◌<◌, [], ◌∷◌, ◌++◌, length, replicate};
-ghost use Rattle.std.specs.List.{flat_map};
-ghost use Rattle.role_journal.specs.EntryBody.{entry_body, kind_of, value_field};
+ghost use Rattle.std.specs.List.{All, flat_map};
+ghost use Rattle.bspl_types.specs.declared.expanded.Expanded.{Expanded};
+ghost use Rattle.bspl_types.specs.History.{instance_of};
+ghost use Rattle.bspl_types.specs.Instance.{Fits};
+ghost use Rattle.bspl_types.specs.Value.{IsValue};
+ghost use Rattle.role_journal.specs.EntryBody.{IsEntry, entry_body, kind_of, value_field};
 
 use bspl_types::{CARRIED_LIMIT, Event, Value};
 use stamped_history::Entry;
@@ -37,6 +41,8 @@ impl Body {
     pub fn of(entry: &Entry) -> Body
         ensures bytes { result ≡ entry_body entry.now }
         ensures size { length result ≡ 561 }
+        ensures sized { (x : Expanded) → Fits x (instance_of entry.now.event) →
+            IsEntry x entry.now }
     {
         let instance = entry.event.instance();
         let values = instance.values.as_slice();
@@ -101,6 +107,7 @@ impl Body {
         requires { length self.old + 34 * length values.now ≤ 561 }
         ensures fields { self.new ≡ self.old ++ flat_map value_field values.now }
         ensures size { length self.new ≡ length self.old + 34 * length values.now }
+        ensures good { All IsValue values.now }
     {
         for value in values {
             self.push_value(value);
@@ -112,6 +119,7 @@ impl Body {
         requires { length self.old + 34 ≤ 561 }
         ensures field { self.new ≡ self.old ++ value_field value.now }
         ensures size { length self.new ≡ length self.old + 34 }
+        ensures good { IsValue value.now }
     {
         match value {
             Value::Number(number) => {

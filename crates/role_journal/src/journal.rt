@@ -1,9 +1,13 @@
 ghost use Rattle.std.specs.Prelude.{◌≡◌, ◌+◌, ◌*◌, ◌<◌, ◌≤◌, ◌++◌, ◌∷◌, ◌↔◌, [], List, ℕ, length};
 ghost use Rattle.std.specs.Prelude.{IfOk, IsErrOf, IsTrue, OnErr, OnOk};
 ghost use Rattle.stamped_history.specs.declared.entry.Entry.{Entry};
+ghost use Rattle.bspl_types.specs.declared.expanded.Expanded.{Expanded};
+ghost use Rattle.bspl_types.specs.History.{instance_of};
+ghost use Rattle.bspl_types.specs.Instance.{Fits};
 ghost use Rattle.bspl_io.specs.Faults.{last_count};
 ghost use Rattle.role_journal.specs.Counts.{Costs, after_fault};
 ghost use Rattle.role_journal.specs.Crash.{LeavesOnly, Stays};
+ghost use Rattle.role_journal.specs.EntryBody.{IsEntry};
 ghost use Rattle.role_journal.specs.Image.{HasBytes};
 ghost use Rattle.role_journal.specs.Journal.{IsBeforeOrAfter, IsOpen, Keeps, gate_of, places};
 
@@ -26,7 +30,7 @@ pub fn count_places<D: Disk>(disk: &D) -> u32
 }
 
 /// Puts the entry into the first closed place. Its body is written and synced while its gate is
-/// closed; then the gate alone is opened and synced. After `Ok` each crash leaves the entry.
+/// closed; then the gate alone is opened and synced. After `Ok` a crash leaves the entry.
 pub fn append<D: Disk>(disk: &mut D, place: u32, entry: &Entry) -> Result<(), Trouble>
     requires room { place < places (length (D.seen disk.old)) }
     requires countable { (D.counts disk.old).faults < last_count }
@@ -37,6 +41,7 @@ pub fn append<D: Disk>(disk: &mut D, place: u32, entry: &Entry) -> Result<(), Tr
         Keeps D.seen D.may_leave disk.old entries →
         LeavesOnly D.clock D.left_since disk.old disk.new (IsBeforeOrAfter entries entry.now) }
     ensures size { length (D.seen disk.new) ≡ length (D.seen disk.old) }
+    ensures sized { (x : Expanded) → Fits x (instance_of entry.now.event) → IsEntry x entry.now }
     ensures costs { Costs D.clock D.counts 4 (IsErrOf result Trouble.Failed) disk.old disk.new }
 {
     let gate = PLACE * u64::from(place);

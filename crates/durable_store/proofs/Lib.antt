@@ -1,0 +1,13 @@
+mod AppendedLemmas
+mod ReceiptLemmas
+mod ItemLemmas
+mod HistoryLemmas
+mod PlaceLemmas
+mod BodyLemmas
+mod BegunLemmas
+mod JournalLemmas
+mod AloneLemmas
+mod KeyLemmas
+mod CrashLemmas
+mod ServingLemmas
+mod RestoredLemmas

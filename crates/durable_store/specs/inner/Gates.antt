@@ -1,0 +1,25 @@
+-- The gates from a place on, and a row of calls that leave a disk as it was.
+use Rattle.std.specs.Prelude.{◌≡◌, ℕ, ◌<◌, ◌≤◌, ◌⊎◌, List}
+use Rattle.role_journal.specs.Crash.{LeavesNoMore}
+use Rattle.role_journal.specs.Journal.{IsOpen}
+
+-- the places from one on are closed, up to the other
+abbrev pub AreClosed : List ℕ → ℕ → ℕ → Type 0
+AreClosed image from end = (place : ℕ) → from ≤ place → place < end → ¬ IsOpen image place
+
+-- the place is the first open one of them
+pub record IsFirstOpen (image : List ℕ) (from end place : ℕ) : Type 0 where
+  pub late : from ≤ place
+  pub within : place < end
+  pub opened : IsOpen image place
+  pub before : AreClosed image from place
+
+-- the disk holds what it held; what a crash may leave now, or may have left at any moment
+-- meanwhile, it might have left before
+pub record IsLeftAlone {D : Type 0} (seen : D → List ℕ) (may_leave : D → List ℕ → Type 0)
+    (clock : D → ℕ) (left_since : D → ℕ → List ℕ → Type 0) (old new : D) : Type 0 where
+  pub same : seen new ≡ seen old
+  pub crash : LeavesNoMore (may_leave old) (may_leave new)
+  pub later : clock old ≤ clock new
+  pub since : (t : ℕ) (c : List ℕ) → t ≤ clock old → left_since new t c →
+      left_since old t c ⊎ may_leave old c
