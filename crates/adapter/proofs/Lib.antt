@@ -1,6 +1,7 @@
 -- Lemmas on desks and states.
 mod EventLemmas
 mod ExplainedLemmas
+mod FewLemmas
 mod InboxLemmas
 mod IntakeLemmas
 mod MailedLemmas

@@ -71,7 +71,7 @@ of_role : (x : Expanded) (role : ℕ) (e : Event) → role_of x e ≡ role → (
 of_role x role (Emit i) own = rw ((Decides-eqb (message_of x i.message).sender role).1 own) refl
 of_role x role (Receive i) own = either _ _ ((Decides-eqb (message_of x i.message).receiver role).1 own)
 
-own_message : (x : Expanded) (role : ℕ) (e : Event) → (instance_of e).message < length x.messages → role_of x e ≡ role → Contains (messages_of x role) (instance_of e).message
+pub own_message : (x : Expanded) (role : ℕ) (e : Event) → (instance_of e).message < length x.messages → role_of x e ≡ role → Contains (messages_of x role) (instance_of e).message
 own_message x role e within own =
     let m : ℕ = (instance_of e).message in
     let same : 0 + m ≡ m = omega arith in
@@ -93,7 +93,7 @@ paired key (n ∷ messages) m among =
     ]
 
 -- is among the pairs
-among_pairs : (keys : List (List Value)) (messages : List ℕ) (key : List Value) (m : ℕ) → Contains keys key → Contains messages m → Contains {X = Pair} (pairs_of keys messages) (key, m)
+pub among_pairs : (keys : List (List Value)) (messages : List ℕ) (key : List Value) (m : ℕ) → Contains keys key → Contains messages m → Contains {X = Pair} (pairs_of keys messages) (key, m)
 among_pairs [] messages key m keyed among = absurd (nowhere key keyed)
 among_pairs (k ∷ keys) messages key m keyed among =
     let sought : Pair = (key, m) in

@@ -1,5 +1,5 @@
 -- What holds of the orders of a script, of what a desk emits next, and of kept states.
-use Rattle.std.specs.Prelude.{◌≡◌, ◌≢◌, ℕ, ◌<◌, List, [], length, slice_get, Option, Some}
+use Rattle.std.specs.Prelude.{◌≡◌, ◌≢◌, ℕ, ◌*◌, ◌<◌, ◌≤◌, List, [], length, slice_get, Option, Some}
 use Rattle.std.specs.List.{AllPairs, Contains}
 use Rattle.bspl_types.specs.declared.envelope.Envelope.{Envelope}
 use Rattle.bspl_types.specs.declared.event.Instance.{Instance}
@@ -17,6 +17,7 @@ use Rattle.reorder_net.specs.Pass.{BoxId}
 use Rattle.reorder_net.specs.Passes.{AreFresh}
 use Rattle.adapter.specs.Desk.{DeskState}
 use Rattle.adapter.specs.Kept.{IsKept}
+use Rattle.adapter.specs.Pending.{messages_of}
 use Rattle.adapter.specs.Posted.{posted_by}
 use Rattle.adapter.specs.State.{IsReceiptOfTaken, IsStateKept, StateView}
 use Rattle.adapter.specs.Steps.{IsNextEnvelope}
@@ -40,6 +41,11 @@ abbrev pub NextEnvelopesAreOne : Type 0
 NextEnvelopesAreOne = (job : Job) (role : ℕ) (d : DeskState) (n : ℕ) (one other : Option Envelope) →
     IsKept job role d → IsNextEnvelope job d.store n one → IsNextEnvelope job d.store n other →
     one ≡ other
+
+-- a kept desk has at most one event for each workload key and each message of its role
+abbrev pub KeptEventsAreFew : Type 0
+KeptEventsAreFew = (job : Job) (role : ℕ) (d : DeskState) → IsKept job role d →
+    length d.store.entries ≤ length job.script.keys * length (messages_of job.protocol role)
 
 -- the state is new: its desk is kept, without entries and envelopes; its passes are one to each
 -- role's mailbox, and are unused

@@ -1,4 +1,5 @@
-ghost use Rattle.adapter.specs.Laws.{IsOrderly, NewStatesAreKept, NextEnvelopesAreOne};
+ghost use Rattle.adapter.specs.Laws.{IsOrderly, KeptEventsAreFew, NewStatesAreKept};
+ghost use Rattle.adapter.specs.Laws.{NextEnvelopesAreOne};
 ghost use Rattle.adapter.specs.Laws.{OrdersAreDistinct, TakenEnvelopesExplain};
 
 use agent_scripts::{Job, scripts_fit};
@@ -11,6 +12,11 @@ pub fn orders_are_distinct()
 /// A law: what a kept desk emits next is determined, so `desk_plan` answers what `desk_emit` would.
 pub fn next_envelopes_are_one()
     ensures { NextEnvelopesAreOne }
+{}
+
+/// A law: a kept desk has at most one event for each workload key and message of its role.
+pub fn kept_events_are_few()
+    ensures { KeptEventsAreFew }
 {}
 
 /// A law: a new state is kept.

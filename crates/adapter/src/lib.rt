@@ -20,8 +20,8 @@ pub use emission::{desk_emit, desk_plan};
 pub use gate::{Gate, OpenGate};
 pub use intake::drain;
 pub use laws::{
-    is_orderly, new_states_are_kept, next_envelopes_are_one, orders_are_distinct,
-    taken_envelopes_explain,
+    is_orderly, kept_events_are_few, new_states_are_kept, next_envelopes_are_one,
+    orders_are_distinct, taken_envelopes_explain,
 };
 pub use locked::Locked;
 pub use next::next_message;
