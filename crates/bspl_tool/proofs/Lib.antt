@@ -17,6 +17,8 @@ pub mod CheckDeadAnswers
 pub mod DeadLaws
 pub mod MessageAnswers
 pub mod ReplayLaws
+pub mod AuditLaws
+pub mod AuditAnswers
 pub mod WorldLines
 pub mod AgentsLaws
 pub mod RunLaws

@@ -55,7 +55,7 @@ refused_once once x part r s one other =
     cc
 
 -- why an event may not follow
-reason_has_no_lf : (x : Expanded) (why : Why) → list_any has_lf (reason_fields x why) ≡ false
+pub reason_has_no_lf : (x : Expanded) (why : Why) → list_any has_lf (reason_fields x why) ≡ false
 reason_has_no_lf x (Missing p) = or_from (has_lf (param_name x p)) false (param_has_no_lf x p) refl
 reason_has_no_lf x (Bound p kept) = or_from (has_lf (param_name x p)) _ (param_has_no_lf x p) (or_from (has_lf (value_spelling kept)) false (value_has_no_lf kept) refl)
 reason_has_no_lf x (Other p kept) = or_from (has_lf (param_name x p)) _ (param_has_no_lf x p) (or_from (has_lf (value_spelling kept)) false (value_has_no_lf kept) refl)

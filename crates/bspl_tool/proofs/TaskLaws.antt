@@ -1,6 +1,7 @@
 -- The laws of each command.
 use Rattle.bspl_tool.specs.declared.task.Task.{Task}
-use Rattle.bspl_tool.specs.declared.task.Task.TheVariants.{Check, CheckDead, Dead, Expand, Generate, Replay, Run, Verify}
+use Rattle.bspl_tool.specs.declared.task.Task.TheVariants.{Audit, Check, CheckDead, Dead, Expand, Generate, Replay, Run, Verify}
+use Rattle.bspl_tool.specs.AuditAnswer.{audit_rules}
 use Rattle.bspl_tool.specs.CheckAnswer.{check_rules}
 use Rattle.bspl_tool.specs.CheckDeadAnswer.{check_dead_rules}
 use Rattle.bspl_tool.specs.ExpandAnswer.{expand_rules}
@@ -8,6 +9,7 @@ use Rattle.bspl_tool.specs.GenerateAnswer.{generate_rules}
 use Rattle.bspl_tool.specs.ReplayAnswer.{replay_rules}
 use Rattle.bspl_tool.specs.RunAnswer.{run_rules}
 use Rattle.bspl_tool.specs.Task.{rules_of}
+use Rattle.bspl_tool.proofs.AuditLaws.{OneAudit, audit_laws}
 use Rattle.bspl_tool.proofs.CheckDeadLaws.{OneCheckDead, check_dead_laws}
 use Rattle.bspl_tool.proofs.CheckLaws.{OneCheck, check_laws}
 use Rattle.bspl_tool.proofs.CommandLaws.{CommandLaws, with_more}
@@ -26,6 +28,7 @@ pub record OneEvidence : Type 0 where
   pub replay : OneReplay
   pub agents : OneAgents
   pub dead : OneCheckDead
+  pub audit : OneAudit
 
 -- one row for each command
 pub laws_of : (task : Task) → CommandLaws OneEvidence (rules_of task)
@@ -36,4 +39,5 @@ laws_of Replay = with_more replay_rules (λ once. once.replay) replay_laws
 laws_of (Run brief conflicts threads) = with_more (run_rules brief conflicts threads) (λ once. once.agents) (run_laws brief conflicts threads)
 laws_of (Dead brief conflicts) = dead_laws brief conflicts
 laws_of CheckDead = with_more check_dead_rules (λ once. once.dead) check_dead_laws
+laws_of Audit = with_more audit_rules (λ once. once.audit) audit_laws
 laws_of (Generate stages conflicts threads) = with_more (generate_rules stages conflicts threads) (λ once. once.agents) (generate_laws stages conflicts threads)

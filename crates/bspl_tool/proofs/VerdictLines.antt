@@ -1,5 +1,5 @@
 -- The lines of verdicts, and what is written around them, claim only what is true.
-use Rattle.std.proofs.Common.{◌≡◌, ℕ, ◌⊎◌, Bool, true, false, List, [], ◌∷◌, ◌++◌, take, length, codes, inl, inr, refl}
+use Rattle.std.proofs.Common.{◌≡◌, ℕ, ◌⊎◌, false, List, [], ◌∷◌, ◌++◌, take, length, codes, inl, inr, refl}
 use Rattle.std.specs.List.{list_any}
 use Rattle.std.specs.Fmt.{decimal}
 use Rattle.std.proofs.lemmas.Bool.{or_from}
@@ -8,7 +8,6 @@ use Rattle.bspl_types.specs.Expansion.{param_name}
 use Rattle.enactment_model.specs.Liveness.{LiveProtocol}
 use Rattle.enactment_model.specs.Safety.{SafeProtocol}
 use Rattle.refutation_log.specs.declared.refutation.Log.{Log}
-use Rattle.refutation_log.specs.LogText.{line_of}
 use Rattle.report.specs.VerdictText.{liveness_line, not_live_line, safety_line, undecided_line, unsafe_line}
 use Rattle.verdict.specs.declared.outcome.Liveness.{Liveness as LivenessVerdict}
 use Rattle.verdict.specs.declared.outcome.Liveness.TheVariants as liveness

@@ -15,6 +15,7 @@ pub mod RunAnswer
 pub mod GenerateAnswer
 pub mod DeadAnswer
 pub mod CheckDeadAnswer
+pub mod AuditAnswer
 pub mod StageCount
 pub mod Refusals
 pub mod Texts

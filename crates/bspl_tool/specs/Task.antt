@@ -5,7 +5,8 @@ use Rattle.command_line.specs.declared.command.Command.TheVariants as command
 use Rattle.tool_input.specs.Parts.{protocol_text}
 use Rattle.workload.specs.Stage.{stage_text}
 use Rattle.bspl_tool.specs.declared.task.Task.{Task}
-use Rattle.bspl_tool.specs.declared.task.Task.TheVariants.{Check, CheckDead, Dead, Expand, Generate, Replay, Run, Verify}
+use Rattle.bspl_tool.specs.declared.task.Task.TheVariants.{Audit, Check, CheckDead, Dead, Expand, Generate, Replay, Run, Verify}
+use Rattle.bspl_tool.specs.AuditAnswer.{audit_rules}
 use Rattle.bspl_tool.specs.CheckAnswer.{check_rules}
 use Rattle.bspl_tool.specs.CheckDeadAnswer.{check_dead_rules}
 use Rattle.bspl_tool.specs.DeadAnswer.{dead_rules}
@@ -25,6 +26,7 @@ rules_of Replay = replay_rules
 rules_of (Run brief conflicts threads) = run_rules brief conflicts threads
 rules_of (Dead brief conflicts) = dead_rules brief conflicts
 rules_of CheckDead = check_dead_rules
+rules_of Audit = audit_rules
 rules_of (Generate stages conflicts threads) = generate_rules stages conflicts threads
 
 -- the task of a command on the protocol of a name, with its options; `generate` has none
@@ -37,6 +39,7 @@ task_of command.Run brief conflicts threads = Some (Run brief conflicts threads)
 task_of command.Generate brief conflicts threads = None
 task_of command.Dead brief conflicts threads = Some (Dead brief conflicts)
 task_of command.CheckDead brief conflicts threads = Some CheckDead
+task_of command.Audit brief conflicts threads = Some Audit
 
 -- the text that a task makes for itself and is done on in place of the input
 abbrev pub own_text : Task → Option (List ℕ)

@@ -8,7 +8,8 @@ pub fn calls_are_true()
 /// A law: arguments that are no command line get the usage line alone, there is one reason at most
 /// to refuse arguments and an input, what is refused is not answered, and `check`, `check-dead`,
 /// `replay` and `expand` have one answer at most. `verify`, `dead` and `run` may have several: the
-/// search may find another run, log or number of steps, and the answer with it is right too.
+/// search may find another run, log or number of steps, and the answer with it is right too. So it
+/// is with `audit`, whose run or cycle may be another.
 pub fn answers_are_distinct()
     ensures usage { UsageIsAll }
     ensures rejection { OneRejection }
@@ -36,4 +37,6 @@ pub fn answers_are_distinct()
     enactability::dead_log_fails_once();
     // law: a text gives one script at most, or has one first bad line
     script_text::reads_once();
+    // law: a text is that of one list of histories at most, or has one first bad line
+    history_audit::reads_once();
 }

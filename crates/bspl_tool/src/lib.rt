@@ -4,6 +4,7 @@
 mod agents;
 mod answer;
 mod answer_error;
+mod audit_command;
 mod call;
 mod check_command;
 mod check_dead_command;
@@ -24,6 +25,7 @@ mod verify_command;
 mod world_report;
 
 pub use agents::script_rejection;
+pub use audit_command::histories_rejection;
 pub use call::{bspl, bspl_alone};
 pub use check_command::log_rejection;
 pub use claim::Claim;

@@ -6,6 +6,7 @@ ghost use Rattle.bspl_tool.specs.inner.Error.{RejectsFor};
 
 use super::answer::Answer;
 use super::answer_error::AnswerError;
+use super::audit_command::audit;
 use super::check_command::check;
 use super::check_dead_command::check_dead;
 use super::dead_command::dead;
@@ -49,6 +50,8 @@ pub enum Task {
     },
     /// A log is checked against the formula of a message.
     CheckDead,
+    /// The histories of its roles are audited.
+    Audit,
     /// A protocol of so many stages is generated and verified, and if it is safe, agents play it. A
     /// summary of all that is printed.
     Generate {
@@ -79,6 +82,7 @@ pub fn task_of(
         }),
         Command::Dead => Some(Task::Dead { brief, conflicts }),
         Command::CheckDead => Some(Task::CheckDead),
+        Command::Audit => Some(Task::Audit),
         Command::Generate => None,
     }
 }
@@ -92,6 +96,7 @@ impl Task {
             Task::Expand | Task::Verify { .. } | Task::Dead { .. } => None,
             Task::Check | Task::CheckDead => Some(Part::Log),
             Task::Replay => Some(Part::Run),
+            Task::Audit => Some(Part::Histories),
             Task::Run { .. } | Task::Generate { .. } => Some(Part::Agents),
         }
     }
@@ -148,6 +153,7 @@ impl Task {
                 Ok(Answer::Whole(dead(alloc, brief, conflicts, &protocol)?))
             }
             Task::CheckDead => Ok(Answer::Whole(check_dead(alloc, &protocol, part)?)),
+            Task::Audit => Ok(Answer::Whole(audit(alloc, &protocol, part)?)),
             Task::Generate {
                 stages,
                 conflicts,

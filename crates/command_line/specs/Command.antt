@@ -1,7 +1,7 @@
 -- The commands: the word of each, the options that it takes, and whether a number follows it.
 use Rattle.std.specs.Prelude.{ℕ, Bool, true, false, List, codes}
 use Rattle.command_line.specs.declared.command.Command.{Command}
-use Rattle.command_line.specs.declared.command.Command.TheVariants.{Verify, Check, Replay, Expand, Run, Generate, Dead, CheckDead}
+use Rattle.command_line.specs.declared.command.Command.TheVariants.{Verify, Check, Replay, Expand, Run, Generate, Dead, CheckDead, Audit}
 
 -- what a command line of a command has
 pub record CommandRow : Type 0 where
@@ -32,6 +32,7 @@ row_of Generate =
     record (plain_row (codes "generate")) { conflicts = true; threads = true; sized = true }
 row_of Dead = record (plain_row (codes "dead")) { brief = true; conflicts = true }
 row_of CheckDead = plain_row (codes "check-dead")
+row_of Audit = plain_row (codes "audit")
 
 -- the word that names the command
 abbrev pub command_word : Command → List ℕ

@@ -13,6 +13,7 @@ pub enum Command {
     Generate,
     Dead,
     CheckDead,
+    Audit,
 }
 
 /// What belongs to a command.
@@ -50,7 +51,11 @@ impl Command {
                 conflicts: true,
                 ..PLAIN
             },
-            Command::Check | Command::Replay | Command::Expand | Command::CheckDead => PLAIN,
+            Command::Check
+            | Command::Replay
+            | Command::Expand
+            | Command::CheckDead
+            | Command::Audit => PLAIN,
             Command::Run => CommandRow {
                 brief: true,
                 conflicts: true,
@@ -81,6 +86,7 @@ pub fn command_of(word: &[u8]) -> Option<Command>
         b"generate" => Some(Command::Generate),
         b"dead" => Some(Command::Dead),
         b"check-dead" => Some(Command::CheckDead),
+        b"audit" => Some(Command::Audit),
         _ => None,
     }
 }

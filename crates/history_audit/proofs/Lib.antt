@@ -6,3 +6,5 @@ pub mod RingLemmas
 pub mod CycleLemmas
 pub mod ReadingLemmas
 pub mod SectionLemmas
+pub mod SectionLines
+pub mod OneReading

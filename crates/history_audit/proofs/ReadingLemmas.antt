@@ -199,7 +199,7 @@ pub head_then : (text line rest : List ℕ) → text ≡ line ++ 10 ∷ rest →
 head_then text line rest split is = sym (split ∙ ap (λ (front : List ℕ). front ++ 10 ∷ rest) is)
 
 -- a role has a section, or none
-section_or_none : (sections : List Section) (role : ℕ) → ((s : Section) × Contains sections s × (s.role ≡ role)) ⊎ All (λ s. s.role ≢ role) sections
+pub section_or_none : (sections : List Section) (role : ℕ) → ((s : Section) × Contains sections s × (s.role ≡ role)) ⊎ All (λ s. s.role ≢ role) sections
 section_or_none [] role = inr (All-nil (λ s. s.role ≢ role))
 section_or_none (s ∷ sections) role = elim (cases_eq s.role role) [
   | inl same ↦ inl (s, here s sections, same)

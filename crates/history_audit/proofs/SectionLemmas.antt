@@ -115,7 +115,7 @@ pub none_line : (x : Expanded) (line name : List ℕ) → line ≡ codes "role "
 none_line x line name whole none k within same = none_role x name none k within (append_cancel_left (codes "role ") name (role_name x k) (sym whole ∙ same))
 
 -- roles of one name are one
-one_role : (x : Expanded) (j k : ℕ) → j < length x.roles → k < length x.roles → role_name x j ≡ role_name x k → j ≡ k
+pub one_role : (x : Expanded) (j k : ℕ) → j < length x.roles → k < length x.roles → role_name x j ≡ role_name x k → j ≡ k
 one_role x j k known also same =
     elim (cases_order j k) [
       | inl is ↦ is
@@ -124,7 +124,7 @@ one_role x j k known also same =
     ]
 
 -- the line of a role is that of no event
-role_is_no_event : (x : Expanded) (role : ℕ) (e : Event) → role_body x role ≡ event_body x e → ⊥
+pub role_is_no_event : (x : Expanded) (role : ℕ) (e : Event) → role_body x role ≡ event_body x e → ⊥
 role_is_no_event x role (Emit i) same = let first : 114 ≡ 115 = ap (λ (bytes : List ℕ). get_or bytes 0 0) same in absurd (omega (arith, first))
 role_is_no_event x role (Receive i) same = let second : 111 ≡ 101 = ap (λ (bytes : List ℕ). get_or bytes 1 0) same in absurd (omega (arith, second))
 

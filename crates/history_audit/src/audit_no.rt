@@ -14,7 +14,8 @@ pub type PointList = Seq<Point>;
 /// Why the histories are not explained.
 #[derive(Drop)]
 pub enum AuditNo {
-    /// This is the first place that is bad in its own history, or waits for what was never sent.
+    /// The first bad place of the first role that has one: bad in its own history, or a receipt of
+    /// what was never sent.
     Bad { role: u32, place: usize, why: Why },
     /// These receipts wait for one another in a circle, from the lowest role on.
     Cycle(PointList),

@@ -19,7 +19,7 @@ mod waits;
 pub use audit_no::{AuditNo, Point, PointList};
 pub use explanation::audit;
 pub use histories::Histories;
-pub use laws::{bad_place_is_not_explained, cycle_is_not_explained};
+pub use laws::{bad_place_is_not_explained, cycle_is_not_explained, reads_once};
 pub use reader::read_histories;
 pub use refusal::HistoryRefusal;
 pub use section::Section;

@@ -1,4 +1,4 @@
--- The texts that report on a run and on a protocol, in reading order.
+-- The texts that report on a run, on a protocol and on histories, in reading order.
 pub mod Keys
 pub mod Status
 pub mod ReplayLines
@@ -6,5 +6,6 @@ pub mod ReplayText
 pub mod VerdictText
 pub mod WorldText
 pub mod Summary
+pub mod AuditText
 pub mod Laws
 pub mod inner

@@ -1,6 +1,7 @@
-//! The texts of verdicts, replays and worlds.
+//! The texts of verdicts, replays, worlds and audits.
 #![tactic(auto)]
 
+mod audit;
 mod count;
 mod fields;
 mod keys;
@@ -17,6 +18,7 @@ mod world_messages;
 mod world_rows;
 mod world_totals;
 
+pub use audit::{bad_place_text, consistent_text, cycle_text};
 pub use laws::{replay_is_once, right_runs_fit};
 pub use replay::{Replay, replay_text};
 pub use status::Status;

@@ -32,7 +32,7 @@ pub(crate) fn push_illegal(
 }
 
 /// Appends the fields of the reason.
-fn push_reason(text: &mut Bytes, x: &Expanded, why: Why) -> Result<(), NoMemory>
+pub(crate) fn push_reason(text: &mut Bytes, x: &Expanded, why: Why) -> Result<(), NoMemory>
     ensures { OnOk result (text.new ≡ text.old ++ spaced_fields (reason_fields x.now why)) }
 {
     match why {

@@ -1,6 +1,10 @@
--- Names as fields of a line.
+-- Names as fields of a line, and events as lines.
 use Rattle.std.specs.Prelude.{◌≢◌, ℕ, List, All, IsTrue}
+use Rattle.bspl_types.specs.declared.event.Event.{Event}
+use Rattle.bspl_types.specs.declared.expanded.Expanded.{Expanded}
+use Rattle.bspl_types.specs.History.{instance_of}
 use Rattle.bspl_types.specs.Name.{is_name}
+use Rattle.run_text.specs.RunText.{event_body, IsFitting}
 
 -- the bytes have neither a space nor an LF
 pub record IsOneField (bytes : List ℕ) : Type 0 where
@@ -10,3 +14,9 @@ pub record IsOneField (bytes : List ℕ) : Type 0 where
 -- so it is with each name
 abbrev pub NamesAreFields : Type 0
 NamesAreFields = (name : List ℕ) → IsTrue (is_name name) → IsOneField name
+
+-- the line of an event has no LF but that at its end
+abbrev pub EventsAreLines : Type 0
+EventsAreLines =
+    (x : Expanded) (event : Event) → IsFitting x (instance_of event) →
+    All (λ byte. byte ≢ 10) (event_body x event)

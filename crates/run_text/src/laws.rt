@@ -1,4 +1,4 @@
-ghost use Rattle.run_text.specs.Names.{NamesAreFields};
+ghost use Rattle.run_text.specs.Names.{EventsAreLines, NamesAreFields};
 ghost use Rattle.run_text.specs.Refusal.{EventsAreFewerThanBytes, LineHasOneEvent};
 ghost use Rattle.run_text.specs.Refusal.{RunIsNotRefused, TextHasOneBadLine, TextHasOneRun};
 
@@ -23,4 +23,9 @@ pub fn events_are_fewer_than_bytes()
 /// A law: a name has neither a space nor an LF, so it is one field of a line.
 pub fn names_are_fields()
     ensures { NamesAreFields }
+{}
+
+/// A law: the line of an event has no LF but that at its end, so it is one line.
+pub fn events_are_lines()
+    ensures { EventsAreLines }
 {}

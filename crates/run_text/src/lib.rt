@@ -10,7 +10,7 @@ mod refusal;
 mod writer;
 
 pub use event::event_of;
-pub use laws::{events_are_fewer_than_bytes, names_are_fields, reads_once};
+pub use laws::{events_are_fewer_than_bytes, events_are_lines, names_are_fields, reads_once};
 pub use reader::read_run;
 pub use refusal::RunRefusal;
 pub use writer::write_run;

@@ -14,6 +14,8 @@ pub enum Part {
     Log,
     /// A run.
     Run,
+    /// A history for each role.
+    Histories,
 }
 
 impl Part {
@@ -25,6 +27,7 @@ impl Part {
             Part::Agents => b"agents",
             Part::Log => b"log",
             Part::Run => b"run",
+            Part::Histories => b"histories",
         }
     }
 }
@@ -77,6 +80,8 @@ fn part_begun(line: &[u8]) -> Option<Part>
         Some(Part::Log)
     } else if begins_part(line, Part::Run) {
         Some(Part::Run)
+    } else if begins_part(line, Part::Histories) {
+        Some(Part::Histories)
     } else {
         None
     }
@@ -86,7 +91,10 @@ fn part_begun(line: &[u8]) -> Option<Part>
 fn is_part_line(line: &[u8]) -> bool
     ensures { result ≡ is_part_line line.now }
 {
-    begins_part(line, Part::Agents) || begins_part(line, Part::Log) || begins_part(line, Part::Run)
+    begins_part(line, Part::Agents)
+        || begins_part(line, Part::Log)
+        || begins_part(line, Part::Run)
+        || begins_part(line, Part::Histories)
 }
 
 /// Whether the line begins the part.
@@ -97,6 +105,7 @@ fn begins_part(line: &[u8], part: Part) -> bool
         Part::Agents => is_either(line, b"%% agents", b"%% agents\r"),
         Part::Log => is_either(line, b"%% log", b"%% log\r"),
         Part::Run => is_either(line, b"%% run", b"%% run\r"),
+        Part::Histories => is_either(line, b"%% histories", b"%% histories\r"),
     }
 }
 

@@ -20,6 +20,8 @@ pub enum Code {
     W(u8),
     /// The text of agents.
     S(u8),
+    /// The text of histories.
+    H(u8),
 }
 
 /// What a rejection names.

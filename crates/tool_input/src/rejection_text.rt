@@ -40,6 +40,7 @@ fn push_code(alloc: Global, text: &mut Bytes, code: Code) -> Result<(), NoMemory
         Code::L(number) => (b'L', number),
         Code::W(number) => (b'W', number),
         Code::S(number) => (b'S', number),
+        Code::H(number) => (b'H', number),
     };
     text.push(letter)?;
     text.append(number.to_string(alloc)?.as_bytes())

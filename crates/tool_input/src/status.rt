@@ -3,12 +3,14 @@ use program_frame::ExitStatus;
 /// How an answer ends.
 #[derive(Clone, Copy, Debug, PartialEq, Eq)]
 pub enum Status {
-    /// The protocol is safe and live; the log is accepted; the run is legal, in conflict or not;
-    /// the expansion or the formula is printed.
+    /// The protocol is safe and live; some run sends each message; the log is accepted; the run is
+    /// legal, in conflict or not; one run explains the histories; the expansion or the formula is
+    /// printed.
     Done,
-    /// The protocol is not safe or not live; the log is rejected; the run is not legal.
+    /// The protocol is not safe or not live; a message is dead; the log is rejected; the run is not
+    /// legal; no run explains the histories.
     Refuted,
-    /// A verdict is undecided, and none refutes.
+    /// A verdict or a message is undecided, and none refutes.
     Undecided,
     /// The arguments are invalid; a usage line is printed.
     Usage,

@@ -1,6 +1,6 @@
 use super::args::args_of;
 use bspl_types::NoMemory;
-use command_line::Command::{Check, CheckDead, Dead, Expand, Generate, Replay, Run, Verify};
+use command_line::Command::{Audit, Check, CheckDead, Dead, Expand, Generate, Replay, Run, Verify};
 use command_line::Subject::{Protocol, Size};
 use command_line::{Command, CommandLine, Subject, command_line};
 use std::alloc::Global;
@@ -63,6 +63,11 @@ const ROWS: &[Row] = &[
     Row {
         command: CheckDead,
         given: &["check-dead P"],
+        ..PLAIN
+    },
+    Row {
+        command: Audit,
+        given: &["audit P", "-- audit P"],
         ..PLAIN
     },
     Row {

@@ -39,5 +39,9 @@ returns c =
           failure = c.dead_log_fails_once.ensures.failure;
           accepted = c.dead_log_fails_once.ensures.accepted;
         };
+        audit = record {
+          refusals = c.reads_once-4.ensures.refusals;
+          exclusive = c.reads_once-4.ensures.exclusive;
+        };
       };
     } in record { usage = usage_law; rejection = rejection_law each; refused = refusal_law each; answer = answer_law each }

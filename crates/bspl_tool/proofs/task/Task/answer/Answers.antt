@@ -49,6 +49,15 @@ returns-in_err-check_dead-in-CheckDead-clause-refused c =
     let p = err_from_is_err_and c.from_residual-in_err-check_dead-in-CheckDead.result c.from_residual-in_err-check_dead-in-CheckDead.ensures.1 in
     rw (p.1, p.2, c.in-CheckDead.is) c.in_err-check_dead-in-CheckDead.ensures.refused
 
+pub returns-in_ok-audit-in-Audit-clause-ok : goal.returns-in_ok-audit-in-Audit-clause-ok
+returns-in_ok-audit-in-Audit-clause-ok c =
+    whole_answer ((rules_of c.args.self).answers c.args.protocol c.args.part.now) c.in_ok-audit-in-Audit.field-0 (rw c.in-Audit.is c.in_ok-audit-in-Audit.ensures.ok)
+
+pub returns-in_err-audit-in-Audit-clause-refused : goal.returns-in_err-audit-in-Audit-clause-refused
+returns-in_err-audit-in-Audit-clause-refused c =
+    let p = err_from_is_err_and c.from_residual-in_err-audit-in-Audit.result c.from_residual-in_err-audit-in-Audit.ensures.1 in
+    rw (p.1, p.2, c.in-Audit.is) c.in_err-audit-in-Audit.ensures.refused
+
 pub returns-in-Generate-clause-ok : goal.returns-in-Generate-clause-ok
 returns-in-Generate-clause-ok c = rw c.in-Generate.is c.generate.ensures.ok
 
