@@ -1,5 +1,5 @@
 -- The answer of the checker is determined.
-use Rattle.std.proofs.Common.{◌≡◌, ◌≢◌, ◌↔◌, ◌⊎◌, inl, inr, List, Result, Ok, Err, IfErr, OnOk, IsOkUnless, refl, sym, ap, subst, ◌∙◌}
+use Rattle.std.proofs.Common.{◌≡◌, ◌≢◌, ◌↔◌, ◌⊎◌, inl, inr, List, Result, Ok, Err, IfErr, IfOk, OnOk, IsOkUnless, refl, sym, ap, subst, ◌∙◌}
 use Rattle.clause_core.specs.declared.formula.Formula.{Formula}
 use Rattle.clause_core.specs.declared.literal.Lit.{Lit}
 use Rattle.clause_core.specs.Resolvent.{ResolventsAgree}
@@ -10,7 +10,8 @@ use Rattle.refutation_log.specs.Resolution.{Accepts}
 use Rattle.log_checker.specs.declared.refusal.Reject.{Reject}
 use Rattle.log_checker.specs.declared.refusal.Reject.TheVariants.{NoClause, NoPivot, NoDrop, NotEmpty, NoMemory}
 use Rattle.log_checker.specs.FirstFailure.{FailsAt, LacksEmpty, FailsFirst}
-use Rattle.log_checker.specs.inner.Stops.{AcceptsClauses, ClausesStop, LogStops}
+use Rattle.log_checker.specs.Derivation.{IsAcceptedWith}
+use Rattle.log_checker.specs.inner.Stops.{AcceptsClauses, AcceptsClausesWith, ClausesStop, LogStops}
 use Rattle.log_checker.proofs.Running.{runs_one}
 use Rattle.log_checker.proofs.FailingEntries.{Stops, failure_blocks, failures_meet}
 
@@ -65,7 +66,7 @@ fails_first f log NotEmpty other stops = stops
 fails_first f log NoMemory other stops = absurd (other refl)
 
 -- only running out of memory keeps the checker from accepting
-pub accepts_exactly : ResolventsAgree → (f : Formula) (log : Log) (r : Result (Unit {0}) Reject) → IfErr r (LogStops f log) → Accepts f log → IsOkUnless r NoMemory
+pub accepts_exactly : {X : Type 0} → ResolventsAgree → (f : Formula) (log : Log) (r : Result X Reject) → IfErr r (LogStops f log) → Accepts f log → IsOkUnless r NoMemory
 accepts_exactly agree f log (Ok done) stops accepts = tt
 accepts_exactly agree f log (Err NoMemory) stops accepts = refl
 accepts_exactly agree f log (Err (NoClause step)) stops accepts = absurd (accepted_not_failing agree f log (NoClause step) stops accepts)
@@ -74,7 +75,7 @@ accepts_exactly agree f log (Err (NoDrop after item)) stops accepts = absurd (ac
 accepts_exactly agree f log (Err NotEmpty) stops accepts = absurd (accepted_not_failing agree f log NotEmpty stops accepts)
 
 -- memory aside, the answer is the first failure
-pub rejects_exactly : ResolventsAgree → (f : Formula) (log : Log) (r : Result (Unit {0}) Reject) → OnOk r (Accepts f log) → IfErr r (LogStops f log) → r ≢ Err NoMemory → (e : Reject) → (r ≡ Err e) ↔ FailsFirst f log e
+pub rejects_exactly : {X : Type 0} → ResolventsAgree → (f : Formula) (log : Log) (r : Result X Reject) → OnOk r (Accepts f log) → IfErr r (LogStops f log) → r ≢ Err NoMemory → (e : Reject) → (r ≡ Err e) ↔ FailsFirst f log e
 rejects_exactly agree f log (Ok done) accepts stops memory e =
     (λ is. absurd cc, λ fails. absurd (accepted_not_failing agree f log e fails accepts))
 rejects_exactly agree f log (Err reject) accepts stops memory e =
@@ -86,6 +87,16 @@ pub accepted_for : (clauses : List (List Lit)) (f : Formula) (log : Log) (r : Re
 accepted_for clauses f log (Ok done) same accepts = accepts f same
 accepted_for clauses f log (Err reject) same accepts = tt
 
-pub stops_for : (clauses : List (List Lit)) (f : Formula) (log : Log) (r : Result (Unit {0}) Reject) → f.clauses ≡ clauses → IfErr r (ClausesStop clauses log) → IfErr r (LogStops f log)
+pub stops_for : {X : Type 0} → (clauses : List (List Lit)) (f : Formula) (log : Log) (r : Result X Reject) → f.clauses ≡ clauses → IfErr r (ClausesStop clauses log) → IfErr r (LogStops f log)
 stops_for clauses f log (Ok done) same stops = tt
 stops_for clauses f log (Err reject) same stops = stops f same
+
+-- the same of the clauses that an accepted log derives
+pub accepted_with : (clauses : List (List Lit)) (f : Formula) (log : Log) (r : Result (List (List Lit)) Reject) → f.clauses ≡ clauses → IfOk r (AcceptsClausesWith clauses log) → IfOk r (IsAcceptedWith f log)
+accepted_with clauses f log (Ok derived) same accepts = accepts f same
+accepted_with clauses f log (Err reject) same accepts = tt
+
+-- a log is accepted by the clauses that it derives
+pub accepted_by : (f : Formula) (log : Log) (r : Result (List (List Lit)) Reject) → IfOk r (IsAcceptedWith f log) → OnOk r (Accepts f log)
+accepted_by f log (Ok derived) is = record { derived = derived; resolves = is.resolves; empty = is.empty }
+accepted_by f log (Err reject) is = tt

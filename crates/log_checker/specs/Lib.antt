@@ -1,4 +1,5 @@
 -- The definitions that the contracts cite, in reading order.
 pub mod ChainFailure
 pub mod FirstFailure
+pub mod Derivation
 pub mod inner

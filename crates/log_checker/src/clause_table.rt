@@ -56,6 +56,13 @@ impl<'a> ClauseTable<'a> {
         self.derived.len()
     }
 
+    /// The derived clauses alone, live or not.
+    pub fn into_derived(self) -> ClauseList
+        ensures { result ≡ self.entry.derived }
+    {
+        self.derived
+    }
+
     /// Whether a clause is empty, be it live or not.
     pub fn has_empty(&self) -> bool
         ensures { IsTrue result ↔ Contains (self.now.formula ++ self.now.derived) [] }

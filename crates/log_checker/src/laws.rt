@@ -4,7 +4,7 @@ ghost use Rattle.log_checker.specs.FirstFailure.{ClausesDecideAcceptance, Clause
 
 use clause_core::{resolvents_agree, resolvents_follow};
 
-/// A law: a log is accepted or has one first failure, and not both.
+/// A law: a log has one first failure at most, and none if it is accepted.
 pub fn fails_once()
     ensures failure { HasOneFailure }
     ensures accepted { AcceptedDoesNotFail }

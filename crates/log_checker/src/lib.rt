@@ -4,6 +4,7 @@
 mod chains;
 mod checker;
 mod clause_table;
+mod derivation;
 mod laws;
 mod log_run;
 mod lookup;
@@ -12,5 +13,6 @@ mod refusal;
 mod removals;
 
 pub use checker::{check_log, check_ordered_log};
+pub use derivation::derived_clauses;
 pub use laws::{accepted_is_unsatisfiable, clauses_decide, fails_once};
 pub use refusal::Reject;

@@ -13,6 +13,7 @@ use Rattle.log_checker.specs.declared.refusal.ChainError.{ChainError}
 use Rattle.log_checker.specs.declared.refusal.ChainError.TheVariants.{NoClause, NoPivot, NoMemory}
 use Rattle.log_checker.specs.declared.refusal.Reject.{Reject}
 use Rattle.log_checker.specs.declared.refusal.Reject.TheVariants as rejects
+use Rattle.log_checker.specs.Derivation.{IsAcceptedWith}
 use Rattle.log_checker.specs.ChainFailure.{HasNoClause, CannotResolve, LacksClause, LacksPivot}
 use Rattle.log_checker.specs.FirstFailure.{AtStep, AtDrop, FailsAt, FailsFirst}
 
@@ -59,6 +60,11 @@ LogStops f log reject = FailsFirst f log reject
 -- the log is accepted for a formula of these clauses
 abbrev pub AcceptsClauses : List (List Lit) → Log → Type 0
 AcceptsClauses clauses log = (f : Formula) → f.clauses ≡ clauses → Accepts f log
+
+-- and its steps derive these
+abbrev pub AcceptsClausesWith : List (List Lit) → Log → List (List Lit) → Type 0
+AcceptsClausesWith clauses log derived =
+    (f : Formula) → f.clauses ≡ clauses → IsAcceptedWith f log derived
 
 -- it is not, for this reason
 abbrev pub ClausesStop : List (List Lit) → Log → Reject → Type 0

@@ -1,0 +1,2 @@
+-- The outputs of a call, from its replies.
+pub mod ReplyLemmas

@@ -1,0 +1,81 @@
+ghost use Rattle.std.specs.Prelude.{◌≡◌, ◌++◌, IfOk};
+ghost use Rattle.list_base.specs.Numeral.{numeral};
+ghost use Rattle.log_checker.specs.declared.refusal.Reject.TheVariants as rejects;
+ghost use Rattle.lrat_export.specs.Texts.{log_rejection, reject_line, reject_words};
+
+use list_base::{Bytes, NoMemory};
+use log_checker::Reject;
+use refutation_log::LogRefusal;
+use std::alloc::Global;
+use text_lines::push_decimal;
+use tool_input::{Code, Field, Rejection};
+
+/// The rejection of a log's text, unless memory ran out.
+pub(crate) fn log_rejection(refusal: LogRefusal) -> Option<Rejection>
+    ensures { result ≡ log_rejection refusal }
+{
+    match refusal {
+        LogRefusal::Form { line } => Some(Rejection::with_one(Code::L(1), Field::Number(line))),
+        LogRefusal::Number { line } => Some(Rejection::with_one(Code::L(2), Field::Number(line))),
+        LogRefusal::NoMemory => None,
+    }
+}
+
+/// The line that names the first failure of a log.
+pub(crate) fn reject_line(alloc: Global, reject: Reject) -> Result<Bytes, NoMemory>
+    ensures { IfOk result (λ text. text ≡ reject_line reject) }
+{
+    let mut text = reject_words(alloc, reject)?;
+    text.push(b'\n')?;
+    Ok(text)
+}
+
+/// The words that name the first failure of a log. Out of memory is none.
+fn reject_words(alloc: Global, reject: Reject) -> Result<Bytes, NoMemory>
+    ensures { IfOk result (λ text. text ≡ reject_words reject) }
+{
+    match reject {
+        Reject::NoClause { step } => no_clause_words(alloc, step),
+        Reject::NoPivot { step, link } => {
+            two_numbers(alloc, b"rejected step ", step, b" link ", link)
+        }
+        Reject::NoDrop { after, item } => two_numbers(alloc, b"rejected drop ", after, b" ", item),
+        Reject::NotEmpty => Bytes::from_slice(alloc, b"rejected not-empty"),
+        Reject::NoMemory => Err(NoMemory),
+    }
+}
+
+/// The words for a step that names no clause.
+fn no_clause_words(alloc: Global, step: u32) -> Result<Bytes, NoMemory>
+    ensures { IfOk result (λ text. text ≡ reject_words (rejects.NoClause step)) }
+{
+    let mut text = one_number(alloc, b"rejected step ", step)?;
+    text.append(b" clause")?;
+    Ok(text)
+}
+
+/// A word and a number, and once more.
+fn two_numbers(
+    alloc: Global,
+    word: &[u8],
+    number: u32,
+    next_word: &[u8],
+    next_number: u64,
+) -> Result<Bytes, NoMemory>
+    ensures { IfOk result (λ text.
+        text ≡ word.now ++ numeral number ++ next_word.now ++ numeral next_number) }
+{
+    let mut text = one_number(alloc, word, number)?;
+    text.append(next_word)?;
+    push_decimal(&mut text, next_number)?;
+    Ok(text)
+}
+
+/// A word and a number.
+fn one_number(alloc: Global, word: &[u8], number: u32) -> Result<Bytes, NoMemory>
+    ensures { IfOk result (λ text. text ≡ word.now ++ numeral number) }
+{
+    let mut text = Bytes::from_slice(alloc, word)?;
+    push_decimal(&mut text, u64::from(number))?;
+    Ok(text)
+}
