@@ -7,6 +7,7 @@ use dimacs::run;
 use formula_text::bspl_formula;
 use joint_enactment::bspl_can;
 use list_base::{Bytes, NoMemory};
+use lrat_export::bspl_lrat;
 use std::alloc::Global;
 use std::sync::Wait;
 use std::thread::Threads;
@@ -120,6 +121,7 @@ fn status_of<H: Threads + Wait + Sync>(
         "bspl" => Some(bspl_status(rt, alloc, args, source, sink)),
         "bspl_formula" => Some(formula_status(alloc, args, source, sink)),
         "bspl_can" => Some(can_status(alloc, args, source, sink)),
+        "bspl_lrat" => Some(lrat_status(alloc, args, source, sink)),
         "dimacs_sat" => Some(dimacs_status(alloc, args, source, sink)),
         _ => None,
     }
@@ -146,6 +148,10 @@ fn formula_status(
 
 fn can_status(alloc: Global, args: &[String], source: &mut MemSource, sink: &mut MemSink) -> u8 {
     bspl_can(alloc, args, source, sink).number()
+}
+
+fn lrat_status(alloc: Global, args: &[String], source: &mut MemSource, sink: &mut MemSink) -> u8 {
+    bspl_lrat(alloc, args, source, sink).number()
 }
 
 fn dimacs_status(alloc: Global, args: &[String], source: &mut MemSource, sink: &mut MemSink) -> u8 {
