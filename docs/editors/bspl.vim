@@ -37,6 +37,10 @@ syn match bsplEquals /=/ contained
 syn region bsplRun matchgroup=bsplPart start=/^%% run\r\=$/ end=/\%$/
       \ contains=@bsplFields,bsplRunWord,bsplEquals
 
+syn match bsplHistoriesWord /\v^%(histories|role|send|receive|end)%(\s|$)@=/ contained
+syn region bsplHistories matchgroup=bsplPart start=/^%% histories\r\=$/ end=/\%$/
+      \ contains=@bsplFields,bsplHistoriesWord,bsplEquals
+
 syn match bsplNumber /-[1-9]\@=/ contained
 syn match bsplLogWord /\v^%(log|step|drop|end)%(\s|$)@=/ contained
 syn match bsplLogWord /\v%(^log \d+ )@<=%(safety|liveness|dead)%(\s|$)@=/ contained
@@ -60,6 +64,7 @@ hi def link bsplAgentsComment Comment
 hi def link bsplPart PreProc
 hi def link bsplAgentsWord Statement
 hi def link bsplRunWord Statement
+hi def link bsplHistoriesWord Statement
 hi def link bsplLogWord Statement
 hi def link bsplNumber Number
 hi def link bsplText String
