@@ -46,5 +46,7 @@ IsEmitAnswer s message key outs (Err Full) outcome =
 IsEmitAnswer s message key outs (Err (Blocked block)) outcome =
     HasRoom s × IsFirstBlock s.store.protocol (acts_of s.store) key
     (message_of s.store.protocol message).carried block × (outcome ≡ Unchanged)
-IsEmitAnswer s message key outs (Err DiskFault) outcome = EmissionIsCutOff s message key outs outcome
-IsEmitAnswer s message key outs (Err NoMemory) outcome = EmissionIsCutOff s message key outs outcome
+IsEmitAnswer s message key outs (Err DiskFault) outcome =
+    EmissionIsCutOff s message key outs outcome
+IsEmitAnswer s message key outs (Err NoMemory) outcome =
+    EmissionIsCutOff s message key outs outcome
