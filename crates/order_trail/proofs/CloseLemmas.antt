@@ -1,6 +1,6 @@
 -- How the order is closed under one entry more.
 use Rattle.std.proofs.Common.{◌≡◌, ◌≢◌, ℕ, zero, suc, ◌+◌, ◌<◌, ◌≤◌, ◌⊎◌, inl, inr, Bool, Option, Some, None, option_map, Result, Ok, Err, OnOk, IfErr, IfSome, List, [], ◌∷◌, ◌++◌, length, map, take, slice_get, sym, ap, refl, ◌∙◌, subst, arith, AllPairs, Contains, length-append}
-use Rattle.std.proofs.lemmas.Bool.{cases_lt, eq-eqb, ne_eqb}
+use Rattle.std.proofs.lemmas.Bool.{eq-eqb, ne_eqb}
 use Rattle.std.proofs.lemmas.Option.{get_or_from_slice_get}
 use Rattle.std.proofs.lemmas.List.{take-append-le}
 use Rattle.std.proofs.lemmas.List.Elements.{Contains-append_left}
@@ -23,13 +23,17 @@ use Rattle.order_trail.specs.inner.Making.{CanMake, Grows, MayBeMade}
 use Rattle.order_trail.specs.inner.Rule.{IsMissing}
 use Rattle.order_trail.proofs.ClosedLemmas.{closed_more, value_next}
 use Rattle.order_trail.proofs.EntryLemmas.{value-kept, value-prefix}
-use Rattle.order_trail.proofs.KeepLemmas.{closes-grows, precedes-grows}
 use Rattle.order_trail.proofs.RuleLemmas.{two_open}
 
 -- what holds in any case holds where a call succeeds
 pub on-ok : {A E : Type 0} (r : Result A E) (P : Type 0) → P → OnOk r P
 on-ok (Ok x) P holds = holds
 on-ok (Err e) P holds = tt
+
+-- and what follows from it
+pub on-ok-then : {A E : Type 0} (r : Result A E) (P Q : Type 0) → (P → Q) → OnOk r P → OnOk r Q
+on-ok-then (Ok x) P Q then holds = then holds
+on-ok-then (Err e) P Q then holds = tt
 
 -- a clause that was found false stops propagation
 pub stop-found : {A : Type 0} (t : State) (found : Option ℕ) (r : Result A Stop) → IfErr r (IsStopAt found) → IfSome found (IsFalsified (numbering_of t) (values_of t.entries)) → IfErr r (IsStop t)
@@ -115,27 +119,3 @@ closed-next order a b head l closed some got g closes = record {
 
     later : (v : ℕ) (b' : Bool) → values_of a.trail.entries v ≡ Some b' → values_of b.trail.entries v ≡ Some b'
     later v b' given = subst (λ es. values_of es v ≡ Some b') (sym entries) (value-kept a.trail.entries g.added v b' given)
-
--- one kind more is closed
-pub closes-step : (order : Order) (old a b : NamedTrail) (x y kind z : ℕ) → Grows order old a → Grows order a b → ((k : ℕ) → k < kind → AreKinds order x y k → ClosesCycle order (values_of old.trail.entries) a.names (values_of a.trail.entries) x y k) → ClosesCycle order (values_of a.trail.entries) b.names (values_of b.trail.entries) x y kind → z < kind + 1 → AreKinds order x y z → ClosesCycle order (values_of old.trail.entries) b.names (values_of b.trail.entries) x y z
-closes-step order old a b x y kind z g h before here less kinds = elim (cases_lt z kind) [
-  | inl under ↦ closes-grows order (values_of old.trail.entries) a b x y z h (before z under kinds)
-  | inr over ↦
-      let same : kind ≡ z = omega (arith, over, less) in
-      subst (ClosesCycle order (values_of old.trail.entries) b.names (values_of b.trail.entries) x y) same (record {
-        after = λ set. here.after (precedes-grows order old a y kind g set);
-        before = λ set. here.before (precedes-grows order old a kind x g set);
-      })
-]
-
--- the two kinds of the literal need no closing
-pub closes-skip : (order : Order) (known now : ℕ → Option Bool) (names : List ℕ) (x y kind z : ℕ) → ((k : ℕ) → k < kind → AreKinds order x y k → ClosesCycle order known names now x y k) → (kind ≡ x) ⊎ (kind ≡ y) → z < kind + 1 → AreKinds order x y z → ClosesCycle order known names now x y z
-closes-skip order known now names x y kind z before one less kinds = elim (cases_lt z kind) [
-  | inl under ↦ before z under kinds
-  | inr over ↦
-      let same : z ≡ kind = omega (arith, over, less) in
-      elim one [
-        | inl first ↦ absurd (kinds.distinct.2 (same ∙ first))
-        | inr second ↦ absurd (kinds.distinct.1 (sym (same ∙ second)))
-      ]
-]

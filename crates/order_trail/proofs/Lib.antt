@@ -14,6 +14,7 @@ mod NameLemmas
 mod NewLemmas
 mod NumberLemmas
 mod RestLemmas
+mod RowLemmas
 mod RuleLemmas
 mod TrailLemmas
 mod ViewLemmas

@@ -5,3 +5,4 @@ pub mod Closed
 pub mod Rule
 pub mod Making
 pub mod Closing
+pub mod Rows

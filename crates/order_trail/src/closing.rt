@@ -1,29 +1,35 @@
 ghost use Rattle.std.specs.Prelude.{◌≡◌, ◌+◌, ◌^◌, ◌<◌, OnOk, IfErr, length};
-ghost use Rattle.order_clauses.specs.Order.{AreKinds};
+ghost use Rattle.order_clauses.specs.Order.{AreKinds, AreTwoKinds};
+ghost use Rattle.order_rows.specs.Rows.{HasPair};
 ghost use Rattle.sat_trail.specs.Entry.{values_of};
 ghost use Rattle.order_trail.specs.inner.Closed.{IsSetTrue, Precedes};
-ghost use Rattle.order_trail.specs.inner.Closing.{ClosesCycle, ClosesLit, IsAtRest};
+ghost use Rattle.order_trail.specs.inner.Closing.{ClosesCycle, ClosesLit, ClosesPair, IsAtRest};
 ghost use Rattle.order_trail.specs.inner.Closing.{IsClosedUpTo, IsStop};
+ghost use Rattle.order_trail.specs.inner.Rows.{HaveAll, HaveFirst};
 ghost use Rattle.order_trail.specs.inner.Making.{CanMake, Grows};
 
 use super::named_trail::NamedTrail;
+use super::row_update::catch_up;
 use super::rule::Rule;
 use super::stop::Stop;
-use clause_core::Lit;
-use order_clauses::clauses_forbid_cycles;
+use order_clauses::{KindPair, clauses_forbid_cycles};
+use order_rows::{OrderLit, OrderRows};
 use std::alloc::Global;
 
 /// Propagates until the trail has nothing to do and the order is closed under all entries.
 pub fn close_all(
     alloc: Global,
     rule: &Rule,
+    rows: &mut OrderRows,
     named: &mut NamedTrail,
     head: &mut u32,
 ) -> Result<(), Stop>
     requires can { CanMake rule.now.numbers.order named.old }
     requires closed { IsClosedUpTo rule.now.numbers.order named.old head.old }
+    requires rows { HaveFirst rule.now.numbers.order rows.old named.old.trail.entries }
     ensures can { CanMake rule.now.numbers.order named.new }
     ensures closed { IsClosedUpTo rule.now.numbers.order named.new head.new }
+    ensures rows { HaveFirst rule.now.numbers.order rows.new named.new.trail.entries }
     ensures grows { Grows rule.now.numbers.order named.old named.new }
     ensures rest { OnOk result (IsAtRest named.new head.new) }
     ensures stop { IfErr result (IsStop named.new.trail) }
@@ -35,7 +41,7 @@ pub fn close_all(
                 return Ok(());
             }
         }
-        close_head(alloc, rule, named, head)?;
+        close_head(alloc, rule, rows, named, head)?;
     }
 }
 
@@ -43,44 +49,83 @@ pub fn close_all(
 fn close_head(
     alloc: Global,
     rule: &Rule,
+    rows: &mut OrderRows,
     named: &mut NamedTrail,
     head: &mut u32,
 ) -> Result<(), Stop>
     requires can { CanMake rule.now.numbers.order named.old }
     requires closed { IsClosedUpTo rule.now.numbers.order named.old head.old }
+    requires rows { HaveFirst rule.now.numbers.order rows.old named.old.trail.entries }
     requires some { head.old < length named.old.trail.entries }
     requires room { head.old + 1 < 2 ^ 32 }
     ensures can { CanMake rule.now.numbers.order named.new }
     ensures closed { IsClosedUpTo rule.now.numbers.order named.new head.new }
+    ensures rows { HaveFirst rule.now.numbers.order rows.new named.new.trail.entries }
     ensures grows { Grows rule.now.numbers.order named.old named.new }
     ensures next { OnOk result (head.new ≡ head.old + 1) }
     ensures stop { IfErr result (IsStop named.new.trail) }
 {
     named.propagate_next()?;
-    let lit = named.trail.at(*head);
-    close_lit(alloc, rule, named, lit)?;
+    catch_up(rows, &named.trail)?;
+    let lit = rows.at(*head as usize);
+    close_lit(alloc, rule, rows, named, lit)?;
     *head += 1;
     Ok(())
 }
 
 /// Makes the clauses that force a literal, or are false, because of this one.
-fn close_lit(alloc: Global, rule: &Rule, named: &mut NamedTrail, lit: Lit) -> Result<(), Stop>
+fn close_lit(
+    alloc: Global,
+    rule: &Rule,
+    rows: &mut OrderRows,
+    named: &mut NamedTrail,
+    lit: OrderLit,
+) -> Result<(), Stop>
     requires can { CanMake rule.now.numbers.order named.old }
-    requires holds { IsSetTrue (values_of named.old.trail.entries) lit }
+    requires rows { HaveAll rule.now.numbers.order rows.old named.old.trail.entries }
+    requires pair { HasPair rule.now.numbers.order lit }
+    requires holds { IsSetTrue (values_of named.old.trail.entries) lit.lit }
     ensures can { CanMake rule.now.numbers.order named.new }
+    ensures rows { HaveFirst rule.now.numbers.order rows.new named.new.trail.entries }
     ensures grows { Grows rule.now.numbers.order named.old named.new }
     ensures closed { let known = values_of named.old.trail.entries in
         let now = values_of named.new.trail.entries in
-        OnOk result (ClosesLit rule.now.numbers.order known named.new.names now lit) }
+        OnOk result (ClosesLit rule.now.numbers.order known named.new.names now lit.lit) }
     ensures stop { IfErr result (IsStop named.new.trail) }
 {
-    let Some(pair) = rule.pair(lit) else {
+    let Some(pair) = lit.pair else {
         return Ok(());
     };
-    for kind in 1..rule.numbers.order.kinds + 1 {
-        if kind != pair.first && kind != pair.second {
-            close_cycle(alloc, rule, named, pair.first, pair.second, kind)?;
-        }
+    close_pair(alloc, rule, rows, named, pair)
+}
+
+/// Makes the clauses that force a literal, or are false, because the first kind of the pair comes
+/// before the second. Only kinds for which the rows miss something are looked at.
+fn close_pair(
+    alloc: Global,
+    rule: &Rule,
+    rows: &mut OrderRows,
+    named: &mut NamedTrail,
+    pair: KindPair,
+) -> Result<(), Stop>
+    requires can { CanMake rule.now.numbers.order named.old }
+    requires rows { HaveAll rule.now.numbers.order rows.old named.old.trail.entries }
+    requires kinds { AreTwoKinds rule.now.numbers.order pair.first pair.second }
+    requires before { let values = values_of named.old.trail.entries in
+        Precedes rule.now.numbers.order values pair.first pair.second }
+    ensures can { CanMake rule.now.numbers.order named.new }
+    ensures rows { HaveFirst rule.now.numbers.order rows.new named.new.trail.entries }
+    ensures grows { Grows rule.now.numbers.order named.old named.new }
+    ensures closed { let known = values_of named.old.trail.entries in
+        let now = values_of named.new.trail.entries in
+        OnOk result (ClosesPair rule.now.numbers.order known named.new.names now pair) }
+    ensures stop { IfErr result (IsStop named.new.trail) }
+{
+    let mut from = 1;
+    while let Some(kind) = rows.next_missing(pair.first, pair.second, from) {
+        close_cycle(alloc, rule, named, pair.first, pair.second, kind)?;
+        catch_up(rows, &named.trail)?;
+        from = kind + 1;
     }
     Ok(())
 }

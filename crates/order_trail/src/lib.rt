@@ -5,6 +5,7 @@
 mod closing;
 mod named_trail;
 mod reading;
+mod row_update;
 mod rule;
 mod stop;
 mod trail;

@@ -1,6 +1,5 @@
 ghost use Rattle.std.specs.Prelude.{◌≡◌, All, IfOk, IfSome, IfNone};
 ghost use Rattle.clause_core.specs.Clause.{VariablesExist};
-ghost use Rattle.order_clauses.specs.Cycles.{IsNoPair, IsPair};
 ghost use Rattle.order_clauses.specs.Order.{AreKinds, order_list};
 ghost use Rattle.sat_trail.specs.Entry.{values_of};
 ghost use Rattle.sat_trail.specs.State.{IsNumberUpTo};
@@ -9,7 +8,7 @@ ghost use Rattle.order_trail.specs.inner.Rule.{IsMissing, IsTruth, NeedsNone, is
 
 use clause_core::Lit;
 use list_base::NoMemory;
-use order_clauses::{KindPair, Order, OrderNumbers, cycles_are_forbidden};
+use order_clauses::{Order, OrderNumbers, cycles_are_forbidden};
 use sat_trail::Trail;
 use std::alloc::Global;
 
@@ -27,15 +26,6 @@ impl Rule {
         Ok(Rule {
             numbers: OrderNumbers::new(alloc, order)?,
         })
-    }
-
-    /// The two kinds of which the literal says that the first comes before the second, if there
-    /// are such.
-    pub fn pair(&self, lit: Lit) -> Option<KindPair>
-        ensures some { IfSome result (IsPair self.now.numbers.order lit) }
-        ensures none { IfNone result (IsNoPair self.now.numbers.order lit) }
-    {
-        self.numbers.order.pair(lit)
     }
 
     /// The number of the clause that forbids the cycle of the three kinds, of which the first comes

@@ -17,6 +17,7 @@ use super::stop::Stop;
 use clause_core::{Clause, Formula, Lit};
 use list_base::{NoMemory, NumberList, Seq};
 use order_clauses::{Order, clauses_forbid_cycles};
+use order_rows::OrderRows;
 use sat_trail::Trail;
 use std::alloc::Global;
 use std::marker::Model;
@@ -28,6 +29,8 @@ use std::marker::Model;
 pub struct OrderTrail<'f> {
     alloc: Global,
     pub(crate) rule: Rule,
+    /// Which kinds come before which by the first entries.
+    rows: OrderRows,
     pub(crate) named: NamedTrail<'f>,
     /// For each clause after those of the order its number in the trail.
     pub(crate) places: NumberList,
@@ -38,14 +41,15 @@ pub struct OrderTrail<'f> {
 
 impl<'f> Model for OrderTrail<'f> {
     ghost use Rattle.sat_trail.specs.State.{State};
-    ghost use Rattle.order_trail.specs.inner.Closing.{IsKept};
+    ghost use Rattle.order_trail.specs.inner.Rows.{IsKeptWithRows};
     ghost use Rattle.order_trail.specs.inner.Whole.{whole_state};
 
     ghost Value = { State };
 
     ghost view = { λ a. whole_state a.rule.numbers.order a.named a.places a.ready };
 
-    ghost invariant = { λ a. IsKept a.rule.numbers.order a.named a.places a.head a.ready };
+    ghost invariant = { λ a. IsKeptWithRows a.rule.numbers.order a.rows a.named a.places a.head
+        a.ready };
 }
 
 impl<'f> OrderTrail<'f> {
@@ -61,6 +65,7 @@ impl<'f> OrderTrail<'f> {
         // law: each clause of an order forbids a cycle of three kinds
         clauses_forbid_cycles();
         let rule = Rule::new(alloc, order)?;
+        let rows = OrderRows::new(alloc, order)?;
         let first = rule.numbers.count();
         let stored = f.clauses.len() as u32;
         let names = numbers_after(alloc, first, stored)?;
@@ -69,6 +74,7 @@ impl<'f> OrderTrail<'f> {
         Ok(OrderTrail {
             alloc,
             rule,
+            rows,
             named: NamedTrail { trail, names },
             places,
             head: 0,
@@ -118,7 +124,13 @@ impl<'f> OrderTrail<'f> {
         // law: each clause of an order forbids a cycle of three kinds
         clauses_forbid_cycles();
         self.ready = false;
-        match close_all(self.alloc, &self.rule, &mut self.named, &mut self.head) {
+        match close_all(
+            self.alloc,
+            &self.rule,
+            &mut self.rows,
+            &mut self.named,
+            &mut self.head,
+        ) {
             Ok(()) => {
                 self.ready = true;
                 Ok(None)
@@ -157,7 +169,9 @@ impl<'f> OrderTrail<'f> {
         clauses_forbid_cycles();
         self.ready = false;
         self.named.trail.back_to(level);
-        self.head = self.head.min(self.named.trail.len());
+        let count = self.named.trail.len();
+        self.head = self.head.min(count);
+        self.rows.truncate(count as usize);
     }
 
     /// A law: what every trail keeps.

@@ -3,6 +3,7 @@ use Rattle.std.specs.Prelude.{◌≡◌, ℕ, ◌+◌, ◌^◌, ◌<◌, ◌≤�
 use Rattle.std.specs.Prelude.{length, take}
 use Rattle.clause_core.specs.declared.literal.Lit.{Lit}
 use Rattle.clause_core.specs.Propagation.{IsFalsified}
+use Rattle.order_clauses.specs.declared.kind_pair.KindPair.{KindPair}
 use Rattle.order_clauses.specs.declared.order.Order.{Order}
 use Rattle.order_clauses.specs.Order.{AreKinds, comes_before, order_list}
 use Rattle.sat_trail.specs.Entry.{values_of}
@@ -19,6 +20,12 @@ pub record ClosesCycle (order : Order) (known : ℕ → Option Bool) (names : Li
     (now : ℕ → Option Bool) (x y z : ℕ) : Type 0 where
   pub after : Precedes order known y z → Follows order names now x y z
   pub before : Precedes order known z x → Follows order names now z x y
+
+-- with each third kind, what follows from the two is set, or its clause is made
+abbrev pub ClosesPair :
+    Order → (ℕ → Option Bool) → List ℕ → (ℕ → Option Bool) → KindPair → Type 0
+ClosesPair order known names now pair = (z : ℕ) → AreKinds order pair.first pair.second z →
+    ClosesCycle order known names now pair.first pair.second z
 
 -- what follows from the two kinds of which the literal speaks is set, or its clause is made
 abbrev pub ClosesLit :

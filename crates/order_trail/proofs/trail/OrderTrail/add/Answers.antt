@@ -4,13 +4,14 @@ use Rattle.order_clauses.specs.Order.{order_list}
 use Rattle.order_trail.proofs.AddLemmas.{adds-whole, popped, two-unnamed}
 use Rattle.order_trail.proofs.NumberLemmas.{whole-length}
 use Rattle.order_trail.proofs.RestLemmas.{IsKept-add, trail-kept}
+use Rattle.order_trail.proofs.RowLemmas.{rows-add}
 use Rattle.order_trail.proofs.trail.OrderTrail.add.Goals as goal
 
 pub returns-in_err-number-clause-sound : goal.returns-in_err-number-clause-sound
-returns-in_err-number-clause-sound c = rw (← c.self.view_is) (trail-kept _ _ _ c.self.inside.head _ c.clauses_forbid_cycles.ensures c.self.invariant)
+returns-in_err-number-clause-sound c = rw (← c.self.view_is) (trail-kept _ _ _ c.self.inside.head _ c.clauses_forbid_cycles.ensures c.self.invariant.kept)
 
 pub returns-in_err-push-clause-sound : goal.returns-in_err-push-clause-sound
-returns-in_err-push-clause-sound c = rw c.in_err-push.ensures.err (trail-kept _ _ _ c.self.inside.head _ c.clauses_forbid_cycles.ensures c.self.invariant)
+returns-in_err-push-clause-sound c = rw c.in_err-push.ensures.err (trail-kept _ _ _ c.self.inside.head _ c.clauses_forbid_cycles.ensures c.self.invariant.kept)
 
 pub add-requires-clause-open : goal.add-requires-clause-open
 add-requires-clause-open c = two-unnamed c.self.inside.named.names c.self.inside.named.trail.entries c.self.inside.named.trail.level c.args.c (rw (← c.self.view_is) at c.requires.open)
@@ -21,8 +22,11 @@ invariant_of-self-in-Ok c =
     let name = c.last_number-name.result + 1 in
     let name_is : name ≡ length (order_list order) + length c.self.inside.places + 1 = omega (arith, rw (← c.self.view_is) at c.last_number-name.ensures, whole-length order c.self.inside.named.trail.clauses c.self.inside.places) in
     let few : name < 2 ^ 32 = omega (arith, c.requires.few, c.last_number-name.ensures) in
-    IsKept-add order c.self.inside.named c.add.new.self c.self.inside.places c.push.new.self c.args.c name c.in_ok-number.number c.self.inside.head c.self.inside.ready
-    c.self.invariant c.in-Ok.ensures.ok c.add.ensures.sound name_is c.in_ok-number.ensures few c.in_ok-push.ensures.ok
+    record {
+      kept = IsKept-add order c.self.inside.named c.add.new.self c.self.inside.places c.push.new.self c.args.c name c.in_ok-number.number c.self.inside.head c.self.inside.ready
+          c.self.invariant.kept c.in-Ok.ensures.ok c.add.ensures.sound name_is c.in_ok-number.ensures few c.in_ok-push.ensures.ok;
+      first = rows-add order c.self.inside.rows c.self.inside.named c.add.new.self c.args.c name c.in-Ok.ensures.ok c.self.invariant.first;
+    }
 
 pub returns-in-Ok-clause-ok : goal.returns-in-Ok-clause-ok
 returns-in-Ok-clause-ok c =
@@ -31,7 +35,7 @@ returns-in-Ok-clause-ok c =
     let name_is : name ≡ length (order_list order) + length c.self.inside.places + 1 = omega (arith, rw (← c.self.view_is) at c.last_number-name.ensures, whole-length order c.self.inside.named.trail.clauses c.self.inside.places) in
     rw (← c.self.view_is, c.in_ok-push.ensures.ok)
     (adds-whole order c.self.inside.named c.add.new.self c.self.inside.places c.args.c name c.in_ok-number.number c.self.inside.ready
-    c.self.invariant.can_make c.self.invariant.placed c.in-Ok.ensures.ok name_is c.in_ok-number.ensures)
+    c.self.invariant.kept.can_make c.self.invariant.kept.placed c.in-Ok.ensures.ok name_is c.in_ok-number.ensures)
 
 pub returns-in-Ok-clause-sound : goal.returns-in-Ok-clause-sound
 returns-in-Ok-clause-sound c =
@@ -41,9 +45,9 @@ returns-in-Ok-clause-sound c =
     let few : name < 2 ^ 32 = omega (arith, c.requires.few, c.last_number-name.ensures) in
     trail-kept order c.add.new.self c.push.new.self c.self.inside.head _ c.clauses_forbid_cycles.ensures
     (IsKept-add order c.self.inside.named c.add.new.self c.self.inside.places c.push.new.self c.args.c name c.in_ok-number.number c.self.inside.head c.self.inside.ready
-    c.self.invariant c.in-Ok.ensures.ok c.add.ensures.sound name_is c.in_ok-number.ensures few c.in_ok-push.ensures.ok)
+    c.self.invariant.kept c.in-Ok.ensures.ok c.add.ensures.sound name_is c.in_ok-number.ensures few c.in_ok-push.ensures.ok)
 
 pub returns-in-Err-clause-sound : goal.returns-in-Err-clause-sound
 returns-in-Err-clause-sound c =
     let places = popped c.self.inside.places c.push.new.self c.pop-place.new.self c.in_ok-number.number c.pop-place.result c.in_ok-push.ensures.ok c.pop-place.ensures.last c.pop-place.ensures.empty in
-    rw (c.in-Err.ensures.err, places) (trail-kept _ _ _ c.self.inside.head _ c.clauses_forbid_cycles.ensures c.self.invariant)
+    rw (c.in-Err.ensures.err, places) (trail-kept _ _ _ c.self.inside.head _ c.clauses_forbid_cycles.ensures c.self.invariant.kept)

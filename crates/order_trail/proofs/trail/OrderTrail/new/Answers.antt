@@ -1,16 +1,19 @@
 -- The formula's clauses follow those of the order, of which none is made.
-use Rattle.std.proofs.Common.{◌+◌, ◌∙◌, ap₂}
+use Rattle.std.proofs.Common.{◌+◌, ◌∙◌, ap₂, sym}
 use Rattle.std.specs.List.{range_with_len}
 use Rattle.order_trail.proofs.NewLemmas.{IsKept-new, IsStart-whole}
 use Rattle.order_trail.proofs.RestLemmas.{trail-kept}
+use Rattle.order_trail.proofs.RowLemmas.{first-none, first-of}
 use Rattle.order_trail.proofs.trail.OrderTrail.new.Goals as goal
 
 pub invariant_of-result : goal.invariant_of-result
-invariant_of-result c =
-    IsKept-new c.in_ok-rule.rule.numbers.order c.args.f.now c.in_ok-trail.trail c.in_ok-names.names c.in_ok-places.places c.in_ok-trail.ensures.start c.in_ok-trail.ensures.sound (rw c.in_ok-rule.ensures c.requires.exist)
-    (c.in_ok-names.ensures ∙ ap₂ (λ m n. range_with_len (m + 1) n) c.count-first.ensures c.len-stored.ensures)
-    (c.in_ok-places.ensures ∙ ap₂ (λ m n. range_with_len 1 n) c.count-first.ensures c.len-stored.ensures)
-    (rw c.in_ok-rule.ensures c.requires.few)
+invariant_of-result c = record {
+  kept = IsKept-new c.in_ok-rule.rule.numbers.order c.args.f.now c.in_ok-trail.trail c.in_ok-names.names c.in_ok-places.places c.in_ok-trail.ensures.start c.in_ok-trail.ensures.sound (rw c.in_ok-rule.ensures c.requires.exist)
+      (c.in_ok-names.ensures ∙ ap₂ (λ m n. range_with_len (m + 1) n) c.count-first.ensures c.len-stored.ensures)
+      (c.in_ok-places.ensures ∙ ap₂ (λ m n. range_with_len 1 n) c.count-first.ensures c.len-stored.ensures)
+      (rw c.in_ok-rule.ensures c.requires.few);
+  first = first-of c.in_ok-rule.rule.numbers.order c.args.order c.in_ok-rows.rows c.in_ok-trail.trail.entries (sym c.in_ok-rule.ensures) (first-none c.args.order c.in_ok-rows.rows c.in_ok-trail.trail.entries c.in_ok-rows.ensures);
+}
 
 pub returns-clause-start : goal.returns-clause-start
 returns-clause-start c = λ whole is.

@@ -6,10 +6,10 @@ use Rattle.order_trail.proofs.ViewLemmas.{reason-number, reason-whole}
 use Rattle.order_trail.proofs.trail.OrderTrail.reason.Goals as goal
 
 pub name-requires-clause-from_one : goal.name-requires-clause-from_one
-name-requires-clause-from_one c = (reason-number _ c.self.inside.named c.args.var c.in-Some.number c.self.invariant.can_make (sym c.reason.ensures ∙ c.in-Some.is)).0
+name-requires-clause-from_one c = (reason-number _ c.self.inside.named c.args.var c.in-Some.number c.self.invariant.kept.can_make (sym c.reason.ensures ∙ c.in-Some.is)).0
 
 pub name-requires-clause-within : goal.name-requires-clause-within
-name-requires-clause-within c = (reason-number _ c.self.inside.named c.args.var c.in-Some.number c.self.invariant.can_make (sym c.reason.ensures ∙ c.in-Some.is)).1
+name-requires-clause-within c = (reason-number _ c.self.inside.named c.args.var c.in-Some.number c.self.invariant.kept.can_make (sym c.reason.ensures ∙ c.in-Some.is)).1
 
 pub returns-in-Some : goal.returns-in-Some
 returns-in-Some c = rw (← c.self.view_is) (reason-whole c.self.inside.rule.numbers.order c.self.inside.named c.args.var c.in-Some.number c.name.result (sym c.reason.ensures ∙ c.in-Some.is) c.name.ensures)

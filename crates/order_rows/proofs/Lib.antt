@@ -1,0 +1,4 @@
+mod BitLemmas
+mod KeepLemmas
+mod PairLemmas
+mod RowLemmas

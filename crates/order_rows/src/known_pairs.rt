@@ -1,0 +1,91 @@
+ghost use Rattle.std.specs.Prelude.{◌≡◌, IfOk, IfSome, IfNone};
+ghost use Rattle.order_clauses.specs.Cycles.{IsNoPair, IsPair};
+ghost use Rattle.order_rows.specs.inner.Pairs.{positive};
+
+use clause_core::Lit;
+use list_base::NoMemory;
+use order_clauses::{KindPair, Order};
+use std::alloc::Global;
+use std::marker::Model;
+
+/// The pairs of kinds of which an order's variables are, each kept once it was found.
+#[derive(Drop)]
+pub struct KnownPairs {
+    order: Order,
+    /// The pairs of the variables from the first one of the order on.
+    cells: Vec<Option<KindPair>>,
+}
+
+impl Model for KnownPairs {
+    ghost use Rattle.order_clauses.specs.declared.order.Order.{Order};
+    ghost use Rattle.order_rows.specs.inner.Pairs.{ArePairs};
+
+    ghost Value = { Order };
+
+    ghost view = { λ p. p.order };
+
+    ghost invariant = { λ p. ArePairs p.order p.cells.items };
+}
+
+impl KnownPairs {
+    /// No pair is known.
+    pub fn new(alloc: Global, order: Order) -> Result<KnownPairs, NoMemory>
+        ensures { IfOk result (λ pairs. pairs ≡ order) }
+    {
+        let kinds = order.kinds as usize;
+        let variables = kinds * kinds.saturating_sub(1) / 2;
+        Ok(KnownPairs {
+            order,
+            cells: vec![in alloc; None; variables]?,
+        })
+    }
+
+    /// The order.
+    pub fn order(&self) -> Order
+        ensures { result ≡ self.now }
+    {
+        self.order
+    }
+
+    /// The two kinds of which the literal says that the first comes before the second, if there
+    /// are such.
+    pub fn pair(&mut self, lit: Lit) -> Option<KindPair>
+        ensures some { IfSome result (IsPair self.old lit) }
+        ensures none { IfNone result (IsNoPair self.old lit) }
+        ensures order { self.new ≡ self.old }
+    {
+        match self.rising(lit.var) {
+            Some(pair) if lit.positive => Some(pair),
+            Some(pair) => Some(KindPair {
+                first: pair.second,
+                second: pair.first,
+            }),
+            None => None,
+        }
+    }
+
+    /// The same for the literal of a variable.
+    fn rising(&mut self, var: u32) -> Option<KindPair>
+        ensures some { IfSome result (IsPair self.old (positive var)) }
+        ensures none { IfNone result (IsNoPair self.old (positive var)) }
+        ensures order { self.new ≡ self.old }
+    {
+        let lit = Lit {
+            var,
+            positive: true,
+        };
+        if var <= self.order.base {
+            return self.order.pair(lit);
+        }
+        let index = (var - self.order.base - 1) as usize;
+        if index >= self.cells.len() {
+            return self.order.pair(lit);
+        }
+        if let Some(pair) = self.cells[index] {
+            return Some(pair);
+        }
+        let found = self.order.pair(lit);
+        self.cells[index] = found;
+        found
+    }
+}

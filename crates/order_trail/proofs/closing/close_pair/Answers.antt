@@ -1,0 +1,63 @@
+-- With each kind that misses something its clause is made, and with the kinds between nothing is missing.
+use Rattle.std.proofs.Common.{inl, inr, ap, arith}
+use Rattle.std.proofs.lemmas.Bool.{cases_lt}
+use Rattle.order_clauses.specs.declared.order.Order.{Order}
+use Rattle.order_trail.proofs.GrowthLemmas.{Grows-more, Grows-none}
+use Rattle.order_trail.proofs.KeepLemmas.{precedes-grows}
+use Rattle.order_trail.proofs.RowLemmas.{all-of, closes-complete, closes-next, first-all, first-grows, first-own, holds-said, one-way}
+use Rattle.order_trail.proofs.closing.close_pair.Goals as goal
+
+pub loop-kind-init : goal.loop-kind-init
+loop-kind-init c = record {
+  can = c.requires.can;
+  rows = c.requires.rows;
+  grows = Grows-none _ _;
+  from_one = omega arith;
+  up_to = omega arith;
+  closed = λ z less kinds. absurd (omega (arith, less, kinds.from_one.2));
+}
+
+pub next_missing-requires-clause-says : goal.next_missing-requires-clause-says
+next_missing-requires-clause-says c = holds-said c.args.rule.now.numbers.order c.loop-kind.rows c.loop-kind.named.trail.entries c.args.pair.first c.args.pair.second c.loop-kind.invariant.rows c.requires.kinds
+    (precedes-grows c.args.rule.now.numbers.order c.args.named.now c.loop-kind.named c.args.pair.first c.args.pair.second c.loop-kind.invariant.grows c.requires.before)
+
+pub next_missing-requires-clause-one_way : goal.next_missing-requires-clause-one_way
+next_missing-requires-clause-one_way c = one-way c.args.rule.now.numbers.order c.loop-kind.rows c.loop-kind.named.trail c.args.pair.first c.args.pair.second c.loop-kind.invariant.can.trail c.loop-kind.invariant.rows c.requires.kinds
+    (precedes-grows c.args.rule.now.numbers.order c.args.named.now c.loop-kind.named c.args.pair.first c.args.pair.second c.loop-kind.invariant.grows c.requires.before)
+
+pub close_cycle-requires-clause-before : goal.close_cycle-requires-clause-before
+close_cycle-requires-clause-before c = precedes-grows c.args.rule.now.numbers.order c.args.named.now c.loop-kind.named c.args.pair.first c.args.pair.second c.loop-kind.invariant.grows c.requires.before
+
+pub returns-in_err-close_cycle-clause-rows : goal.returns-in_err-close_cycle-clause-rows
+returns-in_err-close_cycle-clause-rows c = first-grows c.args.rule.now.numbers.order c.loop-kind.rows c.loop-kind.named c.close_cycle.new.named c.close_cycle.ensures.grows
+    (first-all c.args.rule.now.numbers.order c.loop-kind.rows c.loop-kind.named.trail.entries c.loop-kind.invariant.rows)
+
+pub returns-in_err-close_cycle-clause-grows : goal.returns-in_err-close_cycle-clause-grows
+returns-in_err-close_cycle-clause-grows c = Grows-more _ _ c.loop-kind.named _ c.loop-kind.invariant.grows c.close_cycle.ensures.grows
+
+pub catch_up-requires-clause-first : goal.catch_up-requires-clause-first
+catch_up-requires-clause-first c = first-own c.args.rule.now.numbers.order c.loop-kind.rows c.close_cycle.new.named.trail.entries
+    (first-grows c.args.rule.now.numbers.order c.loop-kind.rows c.loop-kind.named c.close_cycle.new.named c.close_cycle.ensures.grows
+    (first-all c.args.rule.now.numbers.order c.loop-kind.rows c.loop-kind.named.trail.entries c.loop-kind.invariant.rows))
+
+pub returns-in_err-catch_up-clause-grows : goal.returns-in_err-catch_up-clause-grows
+returns-in_err-catch_up-clause-grows c = Grows-more _ _ c.loop-kind.named _ c.loop-kind.invariant.grows c.close_cycle.ensures.grows
+
+pub loop-kind-preserved : goal.loop-kind-preserved
+loop-kind-preserved c = record {
+  can = c.close_cycle.ensures.can;
+  rows = all-of c.args.rule.now.numbers.order c.loop-kind.rows.order c.catch_up.new.rows c.close_cycle.new.named.trail.entries c.loop-kind.invariant.rows.of_order c.in_ok-catch_up.ensures.all;
+  grows = Grows-more _ _ c.loop-kind.named _ c.loop-kind.invariant.grows c.close_cycle.ensures.grows;
+  from_one = omega arith;
+  up_to = omega (arith, c.in-Some.ensures.some.kinds.up_to.2, ap (λ (o : Order). o.kinds) c.loop-kind.invariant.rows.of_order);
+  closed = λ z less kinds.
+      closes-next c.args.rule.now.numbers.order c.args.named.now c.loop-kind.named c.close_cycle.new.named c.loop-kind.rows c.args.pair.first c.args.pair.second c.loop-kind.from c.in-Some.kind z
+      c.loop-kind.invariant.can.trail c.loop-kind.invariant.rows c.loop-kind.invariant.grows c.close_cycle.ensures.grows c.loop-kind.invariant.closed c.in-Some.ensures.some.passed c.in_ok-close_cycle.ensures.closed less kinds;
+}
+
+pub returns-clause-closed : goal.returns-clause-closed
+returns-clause-closed c = λ z kinds. elim (cases_lt z c.loop-kind.from) [
+  | inl under ↦ c.loop-kind.invariant.closed z under kinds
+  | inr over ↦ closes-complete c.args.rule.now.numbers.order c.args.named.now c.loop-kind.named c.loop-kind.rows c.args.pair.first c.args.pair.second z
+      c.loop-kind.invariant.can.trail c.loop-kind.invariant.rows c.loop-kind.invariant.grows kinds (c.in_default.ensures.none z over)
+]
