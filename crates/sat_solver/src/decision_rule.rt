@@ -23,6 +23,8 @@ const RESTART_INTERVAL: u32 = 5;
 pub struct DecisionRule {
     /// How many clauses were learned.
     learned: u32,
+    /// The clauses after this number are satisfied until the next backjump.
+    walked: u32,
     queue: VariableQueue,
 }
 
@@ -41,17 +43,25 @@ impl DecisionRule {
     {
         Ok(DecisionRule {
             learned: 0,
+            walked: 0,
             queue: VariableQueue::new(alloc, vars)?,
         })
     }
 
+    /// Takes note that the trail has backjumped, or is new.
+    pub fn begin(&mut self, trail: &OrderTrail)
+        ensures { self.new.vars ≡ self.old.vars }
+    {
+        self.walked = trail.last_number();
+    }
+
     /// A literal to decide, if the rule has one. Whoever takes it looks whether it is unset.
-    pub fn propose(&mut self, trail: &OrderTrail, mark: &mut u32) -> Option<Lit>
+    pub fn propose(&mut self, trail: &OrderTrail) -> Option<Lit>
         requires { self.old.vars ≡ trail.now.vars }
         ensures { self.new.vars ≡ self.old.vars }
     {
         if self.learned < BERKMIN_CONFLICTS {
-            newest_unsatisfied(trail, mark)
+            newest_unsatisfied(trail, &mut self.walked)
         } else {
             self.queue.newest_unset(trail)
         }

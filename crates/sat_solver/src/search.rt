@@ -1,4 +1,4 @@
-use super::choice::{Marks, choose};
+use super::choice::choose;
 use super::learner::Learner;
 use super::search_stats::SearchStats;
 use list_base::NoMemory;
@@ -22,20 +22,17 @@ impl<'f> Learner<'f> {
     {
         // law: what every trail keeps
         self.trail.is_trail();
-        let mut marks = Marks {
-            clause: self.trail.last_number(),
-            lowest: 0,
-        };
+        self.rule.begin(&self.trail);
+        let mut lowest = 0;
         'deciding: loop {
             let before = self.trail.len();
             let found = self.trail.propagate()?;
             let propagated = self.trail.len().saturating_sub(before);
             stats.propagations = stats.propagations.saturating_add(propagated);
             if found.is_some() {
-                stats.conflicts = stats.conflicts.saturating_add(1);
                 return Ok(found);
             }
-            let Some(lit) = choose(&self.trail, &mut self.rule, &mut marks) else {
+            let Some(lit) = choose(&self.trail, &mut self.rule, &mut lowest) else {
                 return Ok(None);
             };
             self.trail.decide(lit);

@@ -2,7 +2,7 @@
 /// The numbers are counted and not proved: no contract says how large they are.
 #[derive(Clone, Copy, Debug, PartialEq, Eq)]
 pub struct SearchStats {
-    /// How many clauses were found false.
+    /// How many clauses were found false and led to a step of the log.
     pub conflicts: u32,
     /// How many literals were decided.
     pub decisions: u32,

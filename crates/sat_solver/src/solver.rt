@@ -22,12 +22,13 @@ pub enum Ending {
     Model(Assignment),
     /// The last step derives the empty clause.
     Refuted,
-    /// Each conflict of the budget had its step.
+    /// Each conflict of the budget had its step, and one more was found.
     Spent,
 }
 
 /// Decides the formula by learning a clause at each conflict, as GRASP and Chaff do. A log has no
-/// more steps than the budget says.
+/// more steps than the budget says. After the last of them the search goes on to the next conflict,
+/// and a model that it comes to before is the answer.
 pub fn solve(alloc: Global, f: &Formula, budget: u32) -> Result<Outcome, NoMemory>
     requires some { 1 ≤ budget }
     requires few { length f.now.clauses + budget < 2 ^ 32 }
@@ -88,7 +89,8 @@ fn solve_given(
     }
 }
 
-/// Searches and learns until the formula is decided or the budget is spent.
+/// Searches and learns until the formula is decided, or one more conflict is found after the budget
+/// is spent. A model that needs no further clause is found before that.
 fn search_within(
     alloc: Global,
     f: &GivenFormula,
@@ -107,15 +109,20 @@ fn search_within(
     step_appends();
     // law: new clauses stay new if a new one comes after them
     new_clause_appends();
-    for _ in 0..budget {
+    let mut learned = 0;
+    'learning: loop {
         let Some(number) = learner.search(stats)? else {
             return Ok(Ending::Model(model(alloc, &learner.trail)?));
         };
+        if learned == budget {
+            return Ok(Ending::Spent);
+        }
+        stats.conflicts = stats.conflicts.saturating_add(1);
         if learner.trail.level() == 0 {
             learner.refute(alloc, number)?;
             return Ok(Ending::Refuted);
         }
         learner.learn(alloc, number)?;
+        learned += 1;
     }
-    Ok(Ending::Spent)
 }

@@ -6,7 +6,7 @@ use Rattle.sat_solver.proofs.learner.Learner.search.Given as goal
 
 abbrev pub invariant-deciding : goal.invariant-deciding
 invariant-deciding l =
-    KeepsClauses l.fn.self.trail l.self.trail × AreSetUpTo l.self.trail l.marks.lowest
+    KeepsClauses l.fn.self.trail l.self.trail × AreSetUpTo l.self.trail l.lowest
     × (l.self.steps ≡ l.fn.self.steps)
 
 abbrev pub decreases-deciding : goal.decreases-deciding
