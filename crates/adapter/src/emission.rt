@@ -5,12 +5,12 @@ ghost use Rattle.adapter.specs.Kept.{IsFor, IsKept};
 ghost use Rattle.adapter.specs.Next.{IsAtWork};
 ghost use Rattle.adapter.specs.Posted.{envelope_of};
 ghost use Rattle.adapter.specs.Steps.{IsNextEnvelope, after_emission, with_emission};
-ghost use Rattle.adapter.specs.inner.NextStep.{IsNextStep, IsPlan, IsPossible};
+ghost use Rattle.adapter.specs.inner.NextStep.{IsNextStep, IsPlan, IsPossible, IsReady};
 
 use super::desk::Desk;
 use super::laws::is_orderly;
 use super::next::{next_at, row_of};
-use super::step::{Planned, Step};
+use super::step::{Planned, Ready, Step};
 use agent_scripts::Job;
 use bspl_types::{Envelope, Stamped, equal_values_are_one};
 use local_store::Store;
@@ -27,7 +27,8 @@ pub fn desk_emit(desk: &mut Desk, job: &Job, n: u64) -> Option<Envelope>
     ensures changed { desk.new ≡ after_emission desk.old result }
     ensures posted { IfSome result (λ e. 0 < e.copies → IsFor job.now e.to e) }
 {
-    let planned = plan(desk, job, n)?;
+    let ready = next_ready(desk, job, n)?;
+    let planned = plan(desk, job, n, &ready);
     emit_planned(desk, job, n, &planned);
     Some(planned.envelope)
 }
@@ -41,25 +42,41 @@ pub fn desk_plan(desk: &Desk, job: &Job, n: u64) -> Option<Envelope>
     ensures mailed { IfSome result
         (λ e. 0 < e.copies → IsPosted job.now desk.now.store.role e.to e) }
 {
-    let planned = plan(desk, job, n)?;
+    let ready = next_ready(desk, job, n)?;
+    let planned = plan(desk, job, n, &ready);
     Some(planned.envelope)
 }
 
-/// The emission of the agent's next step at the workload number, if it has one.
-pub(crate) fn plan(desk: &Desk, job: &Job, n: u64) -> Option<Planned>
+/// The message that the agent can emit at the workload number, if there is one and the clock can go
+/// on. Most turns end here, so what it answers is small.
+pub(crate) fn next_ready(desk: &Desk, job: &Job, n: u64) -> Option<Ready>
     requires { IsAtWork job.now desk.now n }
     ensures { MatchOption result
         (IsNextEnvelope job.now desk.now.store n None)
-        (IsPlan job.now desk.now.store n) }
+        (IsReady job.now desk.now.store n) }
+{
+    if desk.store.clock() == u64::MAX {
+        return None;
+    }
+    let row = row_of(desk, job, n);
+    let message = next_at(desk, job, row, n)?;
+    Some(Ready { message, row })
+}
+
+/// The emission of the message that is ready at the workload number.
+pub(crate) fn plan(desk: &Desk, job: &Job, n: u64, ready: &Ready) -> Planned
+    requires at_work { IsAtWork job.now desk.now n }
+    requires ready { IsReady job.now desk.now.store n ready.now }
+    ensures { IsPlan job.now desk.now.store n result }
 {
     // law: the script fits its protocol
     is_orderly(job);
-    let step = next_step(desk, job, n)?;
+    let step = step_of(desk, job, n, ready);
     let message = plan_step(&desk.store, &step);
-    Some(Planned {
+    Planned {
         row: step.row,
         envelope: envelope_of(job, desk.store.role(), message, n),
-    })
+    }
 }
 
 /// The store emits what was planned.
@@ -79,25 +96,19 @@ pub(crate) fn emit_planned(desk: &mut Desk, job: &Job, n: u64, planned: &Planned
     desk.store.is_consistent();
 }
 
-/// The agent's step at the workload number, if it has one and the clock can go on.
-fn next_step(desk: &Desk, job: &Job, n: u64) -> Option<Step>
-    requires { IsAtWork job.now desk.now n }
-    ensures { MatchOption result
-        (IsNextEnvelope job.now desk.now.store n None)
-        (IsNextStep job.now desk.now.store n) }
+/// The agent's step of the message that is ready at the workload number.
+fn step_of(desk: &Desk, job: &Job, n: u64, ready: &Ready) -> Step
+    requires at_work { IsAtWork job.now desk.now n }
+    requires ready { IsReady job.now desk.now.store n ready.now }
+    ensures { IsNextStep job.now desk.now.store n result }
 {
-    if desk.store.clock() == u64::MAX {
-        return None;
-    }
-    let row = row_of(desk, job, n);
-    let message = next_at(desk, job, row, n)?;
     let script = job.script();
-    Some(Step {
-        message,
-        row,
+    Step {
+        message: ready.message,
+        row: ready.row,
         key: script.key(n),
-        outs: script.values(job.admitted(), message, n),
-    })
+        outs: script.values(job.admitted(), ready.message, n),
+    }
 }
 
 /// The envelope of the message that the role emitted at the workload number.

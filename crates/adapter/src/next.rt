@@ -65,7 +65,7 @@ fn can_emit_next(store: &Store, script: &Script, message: u32, row: usize, n: u6
     ensures passed { result ≡ false →
         IsPassedOver script.now store.now n (key_at store.now row) message }
 {
-    if !store.can_emit_at(row, message) || store.emitted_at(row, message) {
+    if store.emitted_at(row, message) || !store.can_emit_at(row, message) {
         return false;
     }
     !script.declined(message, n)

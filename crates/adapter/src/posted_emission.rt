@@ -6,7 +6,7 @@ ghost use Rattle.adapter.specs.Posted.{arriving};
 ghost use Rattle.adapter.specs.State.{IsStateKept};
 ghost use Rattle.adapter.specs.StateSteps.{EmitsNext, IsStateAtWork};
 
-use super::emission::{emit_planned, plan};
+use super::emission::{emit_planned, next_ready, plan};
 use super::laws::is_orderly;
 use super::role_state::RoleState;
 use agent_scripts::{Job, Scene};
@@ -34,9 +34,10 @@ pub fn step_emit<N: Scene, W: Wait>(
     // laws: of the script; equal keys are one key
     is_orderly(job);
     equal_values_are_one();
-    let Some(planned) = plan(&state.desk, job, n) else {
+    let Some(ready) = next_ready(&state.desk, job, n) else {
         return Ok(None);
     };
+    let planned = plan(&state.desk, job, n, &ready);
     post_planned(rt, post, &mut state.passes, &planned.envelope)?;
     emit_planned(&mut state.desk, job, n, &planned);
     Ok(Some(planned.envelope))

@@ -1,5 +1,12 @@
 use bspl_types::{Envelope, Key, Values};
 
+/// A message that an agent can emit next, under the row's key.
+#[derive(Clone, Copy, Debug)]
+pub(crate) struct Ready {
+    pub(crate) message: u32,
+    pub(crate) row: usize,
+}
+
 /// A message that an agent is to emit under the row's key, with these values of its own.
 #[derive(Clone, Copy, Debug)]
 pub(crate) struct Step {

@@ -1,6 +1,7 @@
-ghost use Rattle.std.specs.Prelude.{◌≡◌, ◌<◌, ◌↔◌, ◌++◌, ◌≢◌, [], ◌∷◌, length, slice_get, Some};
-ghost use Rattle.std.specs.Prelude.{IfSome, IsTrue, MatchOption, OnOk, OnErr};
+ghost use Rattle.std.specs.Prelude.{◌≡◌, ℕ, ◌<◌, ◌↔◌, ◌++◌, ◌≢◌, [], ◌∷◌, length, slice_get, Some};
+ghost use Rattle.std.specs.Prelude.{IsTrue, MatchOption, OnOk, OnErr};
 ghost use Rattle.std.specs.List.{AllPairs, Contains};
+ghost use Rattle.key_table.specs.inner.KeyIndex.{index_by_number};
 
 use super::sorted_key::SortedKey;
 use bspl_types::{Key, Value};
@@ -11,8 +12,9 @@ use std::marker::Model;
 
 /// Distinct keys, in the order of adding. Contracts see their list.
 ///
-/// A map finds each by the order of its values, whichever keys are chosen; a key that is numbered by
-/// its first value is found at once.
+/// A key whose first value is its number, from 1 in the order of adding, is found by that number. A
+/// map has the indices of all other keys, and finds each by the order of its values, whichever keys
+/// are chosen.
 #[derive(Drop)]
 pub struct KeyTable {
     keys: Seq<Key>,
@@ -68,15 +70,13 @@ impl KeyTable {
         self.indices.get(&SortedKey::of(key)).copied()
     }
 
-    /// The index of a key whose first value is its number, from 1 in the order of adding. Such keys
-    /// are common, and they are found without a search.
+    /// The index of the key, if its first value is its number.
     fn numbered(&self, key: &Key) -> Option<usize>
-        ensures { IfSome result (λ i. slice_get self.now i ≡ Some key.now) }
+        ensures { MatchOption result
+            ((i : ℕ) → index_by_number key.now ≡ Some i → slice_get self.now i ≢ Some key.now)
+            (λ i. slice_get self.now i ≡ Some key.now) }
     {
-        let Some(Value::Number(number)) = key.as_slice().first() else {
-            return None;
-        };
-        let index = number.checked_sub(1)? as usize;
+        let index = index_by_number(key)?;
         if index < self.keys.len() && self.keys.at(index).same(key) {
             Some(index)
         } else {
@@ -99,6 +99,9 @@ impl KeyTable {
     {
         let index = self.keys.len();
         self.keys.push(*key)?;
+        if is_numbered(key, index) {
+            return Ok(());
+        }
         match self.indices.insert(SortedKey::of(key), index) {
             Ok(_) => Ok(()),
             Err(_) => {
@@ -113,5 +116,25 @@ impl KeyTable {
         ensures { AllPairs (λ k l. k ≢ l) self.now }
     {
         let _ = &self.keys;
+    }
+}
+
+/// The index that the key has if its first value is its number.
+fn index_by_number(key: &Key) -> Option<usize>
+    ensures { result ≡ index_by_number key.now }
+{
+    match key.as_slice().first() {
+        Some(Value::Number(number)) => Some(number.checked_sub(1)? as usize),
+        _ => None,
+    }
+}
+
+/// Whether the index is the one that the key has by its number.
+fn is_numbered(key: &Key, index: usize) -> bool
+    ensures { IsTrue result ↔ (index_by_number key.now ≡ Some index) }
+{
+    match index_by_number(key) {
+        Some(found) => found == index,
+        None => false,
     }
 }

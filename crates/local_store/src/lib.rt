@@ -21,6 +21,7 @@ mod reception;
 mod row_values;
 mod store;
 
+pub use act::Kind;
 pub use laws::next_stays_local;
 pub use receipt::Receipt;
 pub use store::Store;

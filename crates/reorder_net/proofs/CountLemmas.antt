@@ -181,23 +181,23 @@ none_counted width wide = record {
 }
 
 -- the next search is within its list
-pub next_blocks : (marks : List Bool) (blocks groups : List ℕ) (i g left : ℕ) → AreCounts 64 marks blocks → AreCounts 4096 marks groups → i < count_by is_held marks → IsAbove groups i g left → left < sum (drop (g * 64) blocks)
+pub next_blocks : (marks : List Bool) (blocks groups : List ℕ) (i g left : ℕ) → AreCounts 32 marks blocks → AreCounts 1024 marks groups → i < count_by is_held marks → IsAbove groups i g left → left < sum (drop (g * 32) blocks)
 next_blocks marks blocks groups i g left are_blocks are_groups within above =
-    let same : 64 * (g * 64) ≡ 4096 * g = omega arith in
-    let first : sum (take (g * 64) blocks) ≡ sum (take g groups) = are_blocks.sums (g * 64) ∙ ap (λ n. count_by is_held (take n marks)) same ∙ sym (are_groups.sums g) in
-    let both : sum (take (g * 64) blocks) + sum (drop (g * 64) blocks) ≡ sum blocks = sum_by-take-drop (λ x. x) blocks (g * 64) in
-    let all = total 64 marks blocks are_blocks in
+    let same : 32 * (g * 32) ≡ 1024 * g = omega arith in
+    let first : sum (take (g * 32) blocks) ≡ sum (take g groups) = are_blocks.sums (g * 32) ∙ ap (λ n. count_by is_held (take n marks)) same ∙ sym (are_groups.sums g) in
+    let both : sum (take (g * 32) blocks) + sum (drop (g * 32) blocks) ≡ sum blocks = sum_by-take-drop (λ x. x) blocks (g * 32) in
+    let all = total 32 marks blocks are_blocks in
     omega (arith, first, both, all, within, above.before)
 
 -- as many are held before the group and left there as the index says
-pub all_before : (marks : List Bool) (blocks groups : List ℕ) (i g left : ℕ) → AreCounts 64 marks blocks → AreCounts 4096 marks groups → IsAbove groups i g left → sum (take (g * 64) blocks) + left ≡ i
+pub all_before : (marks : List Bool) (blocks groups : List ℕ) (i g left : ℕ) → AreCounts 32 marks blocks → AreCounts 1024 marks groups → IsAbove groups i g left → sum (take (g * 32) blocks) + left ≡ i
 all_before marks blocks groups i g left are_blocks are_groups above =
-    let same : 64 * (g * 64) ≡ 4096 * g = omega arith in
-    let first : sum (take (g * 64) blocks) ≡ sum (take g groups) = are_blocks.sums (g * 64) ∙ ap (λ n. count_by is_held (take n marks)) same ∙ sym (are_groups.sums g) in
+    let same : 32 * (g * 32) ≡ 1024 * g = omega arith in
+    let first : sum (take (g * 32) blocks) ≡ sum (take g groups) = are_blocks.sums (g * 32) ∙ ap (λ n. count_by is_held (take n marks)) same ∙ sym (are_groups.sums g) in
     omega (arith, first, above.before)
 
-pub next_slots : (marks : List Bool) (blocks : List ℕ) (i b left : ℕ) → AreCounts 64 marks blocks → i < count_by is_held marks → IsAbove blocks i b left → (left < count_by is_held (drop (b * 64) marks)) × (i ≡ count_by is_held (take (b * 64) marks) + left)
+pub next_slots : (marks : List Bool) (blocks : List ℕ) (i b left : ℕ) → AreCounts 32 marks blocks → i < count_by is_held marks → IsAbove blocks i b left → (left < count_by is_held (drop (b * 32) marks)) × (i ≡ count_by is_held (take (b * 32) marks) + left)
 next_slots marks blocks i b left are within above =
-    let first : sum (take b blocks) ≡ count_by is_held (take (b * 64) marks) = are.sums b ∙ ap (λ n. count_by is_held (take n marks)) (omega arith) in
-    let both : count_by is_held (take (b * 64) marks) + count_by is_held (drop (b * 64) marks) ≡ count_by is_held marks = sum_by-take-drop (λ x. cond (is_held x) 1 0) marks (b * 64) in
+    let first : sum (take b blocks) ≡ count_by is_held (take (b * 32) marks) = are.sums b ∙ ap (λ n. count_by is_held (take n marks)) (omega arith) in
+    let both : count_by is_held (take (b * 32) marks) + count_by is_held (drop (b * 32) marks) ≡ count_by is_held marks = sum_by-take-drop (λ x. cond (is_held x) 1 0) marks (b * 32) in
     (omega (arith, first, both, within, above.before), omega (arith, first, above.before))

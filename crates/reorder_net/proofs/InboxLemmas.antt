@@ -16,10 +16,10 @@ use Rattle.reorder_net.proofs.CountLemmas.{IsBlockOf, counts_lowered, counts_rai
 use Rattle.reorder_net.proofs.SlotLemmas.{passes_at, passes_no_more, passes_still}
 
 -- the blocks and groups of a slot
-pub block_of : (s : ℕ) → IsBlockOf 64 (s / 64) s
+pub block_of : (s : ℕ) → IsBlockOf 32 (s / 32) s
 block_of s b = (λ less. omega arith, λ more. omega arith)
 
-pub group_of : (s : ℕ) → IsBlockOf 4096 (s / 64 / 64) s
+pub group_of : (s : ℕ) → IsBlockOf 1024 (s / 32 / 32) s
 group_of s b = (λ less. omega arith, λ more. omega arith)
 
 -- an envelope with copies passes the test, and one without does not
@@ -42,21 +42,21 @@ count_marks : (slots : List Envelope) → count_by is_held (map has_copies slots
 count_marks slots = marks_after slots 0
 
 -- one more is marked and counted in the next slot
-pub tallied_more : (slots : List Envelope) (marks : List Bool) (blocks groups : List ℕ) (all n : ℕ) (e : Envelope) → n ≡ length slots → 0 < e.copies → AreTallied slots marks blocks groups all → AreTallied (slots ++ e ∷ []) (marks ++ true ∷ []) (raised blocks (n / 64)) (raised groups (n / 64 / 64)) (all + 1)
+pub tallied_more : (slots : List Envelope) (marks : List Bool) (blocks groups : List ℕ) (all n : ℕ) (e : Envelope) → n ≡ length slots → 0 < e.copies → AreTallied slots marks blocks groups all → AreTallied (slots ++ e ∷ []) (marks ++ true ∷ []) (raised blocks (n / 32)) (raised groups (n / 32 / 32)) (all + 1)
 tallied_more slots marks blocks groups all n e number some are =
     let test = passes e some in
     let long : n ≡ length marks = number ∙ sym (ap length are.marks_are ∙ length-map slots has_copies) in
-    let block : IsBlockOf 64 (n / 64) (length marks) = subst (IsBlockOf 64 (n / 64)) long (block_of n) in
-    let group : IsBlockOf 4096 (n / 64 / 64) (length marks) = subst (IsBlockOf 4096 (n / 64 / 64)) long (group_of n) in
+    let block : IsBlockOf 32 (n / 32) (length marks) = subst (IsBlockOf 32 (n / 32)) long (block_of n) in
+    let group : IsBlockOf 1024 (n / 32 / 32) (length marks) = subst (IsBlockOf 1024 (n / 32 / 32)) long (group_of n) in
     record {
       marks_are = ap (λ l. l ++ true ∷ []) are.marks_are ∙ ap (λ mark. map has_copies slots ++ mark ∷ []) (sym test) ∙ sym (map-append has_copies slots (e ∷ []));
       all_is = ap (λ k. k + 1) are.all_is ∙ sym (sum_by_push (λ x. cond (is_held x) 1 0) marks true);
-      blocks_are = counts_raised 64 marks blocks (n / 64) true are.blocks_are block (next_block 64 marks blocks (n / 64) are.blocks_are block) refl;
-      groups_are = counts_raised 4096 marks groups (n / 64 / 64) true are.groups_are group (next_block 4096 marks groups (n / 64 / 64) are.groups_are group) refl;
+      blocks_are = counts_raised 32 marks blocks (n / 32) true are.blocks_are block (next_block 32 marks blocks (n / 32) are.blocks_are block) refl;
+      groups_are = counts_raised 1024 marks groups (n / 32 / 32) true are.groups_are group (next_block 1024 marks groups (n / 32 / 32) are.groups_are group) refl;
     }
 
 -- one less is marked and counted, as a slot loses its last copy
-pub tallied_less : (slots : List Envelope) (marks : List Bool) (blocks groups : List ℕ) (all i s : ℕ) (e : Envelope) → IsHeldSlot marks i s → e.copies ≡ 0 → AreTallied slots marks blocks groups all → AreTallied (slice_set slots s e) (slice_set marks s false) (lowered blocks (s / 64)) (lowered groups (s / 64 / 64)) (all - 1)
+pub tallied_less : (slots : List Envelope) (marks : List Bool) (blocks groups : List ℕ) (all i s : ℕ) (e : Envelope) → IsHeldSlot marks i s → e.copies ≡ 0 → AreTallied slots marks blocks groups all → AreTallied (slice_set slots s e) (slice_set marks s false) (lowered blocks (s / 32)) (lowered groups (s / 32 / 32)) (all - 1)
 tallied_less slots marks blocks groups all i s e is none are =
     let weight : Bool → ℕ = λ mark. cond (is_held mark) 1 0 in
     let was : weight (get_or marks s false) ≡ 1 = ap (λ p. cond p 1 0) is.held in
@@ -64,8 +64,8 @@ tallied_less slots marks blocks groups all i s e is none are =
     record {
       marks_are = ap (λ l. slice_set l s false) are.marks_are ∙ ap (slice_set (map has_copies slots) s) (sym (fails e none)) ∙ sym (map-set has_copies slots s e);
       all_is = omega (arith, changed, was, are.all_is);
-      blocks_are = counts_lowered 64 marks blocks (s / 64) s false are.blocks_are (block_of s) is.within is.held refl;
-      groups_are = counts_lowered 4096 marks groups (s / 64 / 64) s false are.groups_are (group_of s) is.within is.held refl;
+      blocks_are = counts_lowered 32 marks blocks (s / 32) s false are.blocks_are (block_of s) is.within is.held refl;
+      groups_are = counts_lowered 1024 marks groups (s / 32 / 32) s false are.groups_are (group_of s) is.within is.held refl;
     }
 
 -- an index below the number of envelopes is counted

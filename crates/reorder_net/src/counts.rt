@@ -43,17 +43,16 @@ pub(crate) fn first_above(counts: &[usize], from: usize, many: usize) -> (usize,
     (index, left)
 }
 
-/// The slot from one on whose envelope is held, after as many that are held.
+/// The slot from one on whose envelope is held, after as many that are held. Which marks are set is
+/// hard to foresee, so a mark is subtracted and not tested.
 pub(crate) fn slot_after(marks: &[bool], from: usize, many: usize) -> usize
     requires { many < count_by is_held (drop from marks.now) }
     ensures { IsHeldSlot marks.now (count_by is_held (take from marks.now) + many) result }
 {
     let mut slot = from;
     let mut left = many;
-    while !marks[slot] || left > 0 {
-        if marks[slot] {
-            left -= 1;
-        }
+    while left >= usize::from(marks[slot]) {
+        left -= usize::from(marks[slot]);
         slot += 1;
     }
     slot

@@ -13,7 +13,7 @@ use std::alloc::Global;
 use std::marker::Model;
 
 /// How many slots a block has, and how many blocks a group.
-const WIDTH: usize = 64;
+const WIDTH: usize = 32;
 
 /// The envelopes that a role can take, in the order in which they came. Contracts see their list,
 /// and beside it a number of puts for which there is room.
@@ -62,18 +62,21 @@ impl Inbox {
         }
     }
 
-    /// Makes room for this number of puts.
+    /// Makes room for this number of puts, unless there is more.
     pub fn reserve(&mut self, n: usize) -> Result<(), NoMemory>
         ensures ok { OnOk result (n ≤ self.new.spare) }
         ensures same { self.new.envelopes ≡ self.old.envelopes }
         ensures kept { self.old.spare ≤ self.new.spare }
         ensures err { OnErr result (self.new ≡ self.old) }
     {
+        if n <= self.spare {
+            return Ok(());
+        }
         self.slots.reserve(n)?;
         self.marks.reserve(n)?;
         self.blocks.reserve(n / WIDTH + 1)?;
         self.groups.reserve(n / WIDTH / WIDTH + 1)?;
-        self.spare = self.spare.max(n);
+        self.spare = n;
         Ok(())
     }
 
@@ -166,8 +169,8 @@ impl Inbox {
 
 /// The slot of the envelope that is held at the index.
 fn slot_of(marks: &[bool], blocks: &[usize], groups: &[usize], i: usize) -> usize
-    requires blocks { AreCounts 64 marks.now blocks.now }
-    requires groups { AreCounts 4096 marks.now groups.now }
+    requires blocks { AreCounts 32 marks.now blocks.now }
+    requires groups { AreCounts 1024 marks.now groups.now }
     requires within { i < count_by is_held marks.now }
     ensures { IsHeldSlot marks.now i result }
 {

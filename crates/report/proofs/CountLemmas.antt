@@ -6,12 +6,14 @@ use Rattle.std.proofs.lemmas.Bool.{cases_eq, cases_lt}
 use Rattle.std.proofs.lemmas.Bool.Decides.{nat_tests}
 use Rattle.std.proofs.lemmas.List.{get_or-replicate, get_or_past, length-replicate, length-set, take_more}
 use Rattle.std.proofs.lemmas.List.Sums.{count_by-le-length, sum_by-append, sum_by-cons}
-use Rattle.std.proofs.lemmas.Option.{get_or_from_slice_get, slice_get_within}
+use Rattle.std.proofs.lemmas.Option.{get_or_from_slice_get, same_Some, slice_get_within}
 use Rattle.bspl_types.specs.declared.event.Event.{Event}
 use Rattle.bspl_types.specs.declared.event.Event.TheVariants.{Emit, Receive}
 use Rattle.bspl_types.specs.declared.event.Instance.{Instance}
 use Rattle.bspl_types.specs.Limits.{message_limit}
-use Rattle.local_store.specs.State.{StoreState, acts_of, stamped_events}
+use Rattle.local_store.specs.declared.act.Kind.{Kind}
+use Rattle.local_store.specs.Outline.{outline_of, outlines}
+use Rattle.local_store.specs.State.{StoreState, acts_of}
 use Rattle.stamped_history.specs.declared.entry.Entry.{Entry}
 use Rattle.report.specs.declared.count.Count.{Count}
 use Rattle.report.specs.WorldText.{receives, sends}
@@ -156,20 +158,20 @@ room_for_store events counts roles grown few low =
       ];
     }
 
--- the event of a pair that is there
-abbrev event_or : Event → Option (Event × ℕ) → Event
-event_or event None = event
-event_or event (Some pair) = pair.0
+-- the events of the entries, with one of that outline at the index
+entries_more : (entries : List Entry) (i : ℕ) (outline : Kind × ℕ) → slice_get {X = Kind × ℕ} (map (λ e. outline_of e.event) entries) i ≡ Some outline → (event : Event) × (outline_of event ≡ outline) × (slice_get (map (λ e. e.event) entries) i ≡ Some event)
+entries_more [] i outline at = absurd (cc)
+entries_more (e ∷ entries) zero outline at = (e.event, same_Some (outline_of e.event) outline at, refl)
+entries_more (e ∷ entries) (suc i) outline at = entries_more entries i outline at
 
--- the events of the entries, with the one at the index
-entries_more : (entries : List Entry) (i : ℕ) (event : Event) (stamp : ℕ) → slice_get {X = Event × ℕ} (map (λ e. (e.event, e.stamp)) entries) i ≡ Some (event, stamp) → slice_get (map (λ e. e.event) entries) i ≡ Some event
-entries_more [] i event stamp at = absurd (cc)
-entries_more (e ∷ entries) zero event stamp at = ap Some (ap (event_or event) at)
-entries_more (e ∷ entries) (suc i) event stamp at = entries_more entries i event stamp at
-
--- the events of a store, with the one at the index
-pub acts_more : (s : StoreState) (i : ℕ) (event : Event) (stamp : ℕ) → slice_get {X = Event × ℕ} (stamped_events s) i ≡ Some (event, stamp) → take (i + 1) (acts_of s) ≡ take i (acts_of s) ++ event ∷ []
-acts_more s i event stamp at =
-    let here : slice_get (acts_of s) i ≡ Some event = entries_more s.entries i event stamp at in
-    let within : i < length (acts_of s) = slice_get_within (acts_of s) i event here in
-    take_more (acts_of s) i event within ∙ ap (λ (e : Event). take i (acts_of s) ++ e ∷ []) (get_or_from_slice_get (acts_of s) i event event here)
+-- the events of a store, with one of that outline at the index
+pub acts_more : (s : StoreState) (i : ℕ) (outline : Kind × ℕ) → slice_get {X = Kind × ℕ} (outlines s) i ≡ Some outline → (event : Event) × (outline_of event ≡ outline) × (take (i + 1) (acts_of s) ≡ take i (acts_of s) ++ event ∷ [])
+acts_more s i outline at =
+    let more = entries_more s.entries i outline at in
+    let event : Event = more.0 in
+    let here : slice_get (acts_of s) i ≡ Some event = more.2 in
+    let within : i < length (acts_of s) = slice_get_within (acts_of s) i event here in (
+      event,
+      more.1,
+      take_more (acts_of s) i event within ∙ ap (λ (e : Event). take i (acts_of s) ++ e ∷ []) (get_or_from_slice_get (acts_of s) i event event here),
+    )

@@ -1,11 +1,13 @@
-ghost use Rattle.std.specs.Prelude.{◌∷◌, [], ◌≤◌, length};
+ghost use Rattle.std.specs.Prelude.{◌≡◌, ◌∷◌, [], ◌≤◌, length};
+ghost use Rattle.bspl_types.specs.declared.event.Event.{Event};
+ghost use Rattle.local_store.specs.Outline.{outline_of};
 ghost use Rattle.local_store.specs.State.{acts_of};
 ghost use Rattle.world_run.specs.World.{AreDesksOf};
 ghost use Rattle.report.specs.inner.Counts.{GrowBy, HaveRoom, acts_of_all, no_counts};
 
 use super::count::Count;
-use bspl_types::{Event, Expanded, MESSAGE_LIMIT};
-use local_store::Store;
+use bspl_types::{Expanded, MESSAGE_LIMIT};
+use local_store::{Kind, Store};
 use world_run::World;
 
 /// How often each message was sent and received over all stores, by the messages' indices.
@@ -31,28 +33,23 @@ fn add_store(counts: &mut [Count], store: &Store)
     ensures few { length store.now.entries ≤ 4294967295 }
 {
     for i in 0..store.len() {
-        let event = store.event(i).0;
-        add_event(counts, &event);
+        let (kind, message) = store.outline(i);
+        add_event(counts, kind, message);
     }
 }
 
-/// Counts the event too, if there is a count of its message.
-fn add_event(counts: &mut [Count], event: &Event)
+/// Counts the event with that outline too, if there is a count of its message.
+fn add_event(counts: &mut [Count], kind: Kind, message: u32)
     requires { HaveRoom 1 counts.old }
-    ensures { GrowBy (event.now ∷ []) counts.old counts.new }
+    ensures { (event : Event) → outline_of event ≡ (kind, message) →
+        GrowBy (event ∷ []) counts.old counts.new }
 {
-    match event {
-        Event::Emit(instance) => {
-            let m = instance.message as usize;
-            if m < counts.len() {
-                counts[m].sent += 1;
-            }
-        }
-        Event::Receive(instance) => {
-            let m = instance.message as usize;
-            if m < counts.len() {
-                counts[m].received += 1;
-            }
-        }
+    let m = message as usize;
+    if m >= counts.len() {
+        return;
+    }
+    match kind {
+        Kind::Emitted => counts[m].sent += 1,
+        Kind::Received => counts[m].received += 1,
     }
 }

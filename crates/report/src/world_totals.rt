@@ -1,12 +1,14 @@
-ghost use Rattle.std.specs.Prelude.{◌∷◌, [], ◌≤◌, length};
+ghost use Rattle.std.specs.Prelude.{◌≡◌, ◌∷◌, [], ◌≤◌, length};
+ghost use Rattle.bspl_types.specs.declared.event.Event.{Event};
+ghost use Rattle.local_store.specs.Outline.{outline_of};
 ghost use Rattle.local_store.specs.State.{acts_of};
 ghost use Rattle.world_run.specs.World.{AreDesksOf};
 ghost use Rattle.report.specs.inner.Counts.{acts_of_all, no_count};
 ghost use Rattle.report.specs.inner.Totals.{GrowsBy, HasRoom};
 
 use super::count::Count;
-use bspl_types::{Event, Expanded};
-use local_store::Store;
+use bspl_types::Expanded;
+use local_store::{Kind, Store};
 use world_run::World;
 
 /// How many emissions and receptions all stores have.
@@ -31,18 +33,18 @@ fn add_all(total: &mut Count, store: &Store)
     ensures few { length store.now.entries ≤ 4294967295 }
 {
     for i in 0..store.len() {
-        let event = store.event(i).0;
-        add_one(total, &event);
+        add_one(total, store.outline(i).0);
     }
 }
 
-/// Counts the event too.
-fn add_one(total: &mut Count, event: &Event)
+/// Counts the event of that kind too.
+fn add_one(total: &mut Count, kind: Kind)
     requires { HasRoom 1 total.old }
-    ensures { GrowsBy (event.now ∷ []) total.old total.new }
+    ensures { (event : Event) → (outline_of event).0 ≡ kind →
+        GrowsBy (event ∷ []) total.old total.new }
 {
-    match event {
-        Event::Emit(_) => total.sent += 1,
-        Event::Receive(_) => total.received += 1,
+    match kind {
+        Kind::Emitted => total.sent += 1,
+        Kind::Received => total.received += 1,
     }
 }

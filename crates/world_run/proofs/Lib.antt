@@ -11,6 +11,7 @@ pub mod JoinedLemmas
 pub mod LockLemmas
 pub mod MergeLemmas
 pub mod OpenLemmas
+pub mod OutlineLemmas
 pub mod UndeliveredLemmas
 pub mod RenewalLemmas
 pub mod RoundLemmas

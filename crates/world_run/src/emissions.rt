@@ -1,4 +1,4 @@
-ghost use Rattle.std.specs.Prelude.{◌≡◌, ◌<◌, length, slice_get, Some, MatchOption};
+ghost use Rattle.std.specs.Prelude.{◌≡◌, ◌<◌, length, slice_get, IsTrue, Some, MatchOption};
 ghost use Rattle.stamped_history.specs.Explained.{history_at};
 ghost use Rattle.stamped_history.specs.declared.entry.Entry.{Entry};
 ghost use Rattle.world_run.specs.World.{histories_of};
@@ -9,6 +9,7 @@ use super::world::DeskList;
 use adapter::is_orderly;
 use agent_scripts::Job;
 use bspl_types::{Envelope, Event, Stamped};
+use local_store::Kind;
 use reorder_net::copies;
 
 /// The undelivered envelope of the role's event at the index: the event is an emission that the
@@ -62,4 +63,26 @@ pub fn undelivered_envelope(
         message,
         copies,
     })
+}
+
+/// Whether nothing is undelivered of the role's event at the index, since it is a receipt, or has
+/// been received. Its values are not read.
+pub fn is_delivered(desks: &DeskList, job: &Job, role: usize, index: u32) -> bool
+    requires sound { AreSound job.now desks.now }
+    requires role { role < length desks.now }
+    requires index { index < length (history_at (histories_of desks.now) role) }
+    ensures { IsTrue result → (entry : Entry) →
+        slice_get (history_at (histories_of desks.now) role) index ≡ Some entry →
+        OwesNothing job.now desks.now entry }
+{
+    let store = desks.at(role).store();
+    let (kind, message) = store.outline(index);
+    match kind {
+        Kind::Received => true,
+        Kind::Emitted => {
+            let messages = &job.admitted().expanded().messages;
+            let to = messages.at(message as usize).receiver;
+            desks.at(to as usize).store().has_received(store, index)
+        }
+    }
 }

@@ -6,7 +6,7 @@ ghost use Rattle.world_run.specs.World.{AreKept, histories_of};
 ghost use Rattle.world_run.specs.inner.Undelivered.{ArePosted, ArriveUpTo, EntryArrives};
 ghost use Rattle.world_run.specs.inner.InProgress.{AreSound, AreWhole, Extend};
 
-use super::emissions::undelivered_envelope;
+use super::emissions::{is_delivered, undelivered_envelope};
 use super::laws::kept_desks_merge;
 use super::world::DeskList;
 use adapter::{Desk, deliver, is_orderly};
@@ -86,6 +86,9 @@ fn post(desks: &mut DeskList, job: &Job, role: usize, index: u32) -> Result<(), 
         EntryArrives job.now desks.new entry) }
     ensures step { OnOk result (Reposts job.now role index desks.old desks.new) }
 {
+    if is_delivered(desks, job, role, index) {
+        return Ok(());
+    }
     let Some(envelope) = undelivered_envelope(desks, job, role, index) else {
         return Ok(());
     };

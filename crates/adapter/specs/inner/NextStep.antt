@@ -8,10 +8,17 @@ use Rattle.local_store.specs.Emission.{IsAttempt, IsPlannedAt}
 use Rattle.local_store.specs.State.{StoreState, acts_of}
 use Rattle.reorder_net.specs.Mail.{IsPosted}
 use Rattle.adapter.specs.declared.step.Planned.{Planned}
+use Rattle.adapter.specs.declared.step.Ready.{Ready}
 use Rattle.adapter.specs.declared.step.Step.{Step}
 use Rattle.adapter.specs.Next.{IsNext}
 use Rattle.adapter.specs.Rules.{key_of}
 use Rattle.adapter.specs.Steps.{IsPlanned}
+
+-- the message is the next one of the role's order at the number, whose key has the row
+pub record IsReady (job : Job) (s : StoreState) (n : ℕ) (r : Ready) : Type 0 where
+  pub clock : last_stamp s.entries < clock_limit
+  pub next : IsNext job s n (Some r.message)
+  pub row_is : slice_get s.keys r.row ≡ Some (key_of job n)
 
 -- the next message of the role's order at the number, under its key, with the script's values
 pub record IsNextStep (job : Job) (s : StoreState) (n : ℕ) (t : Step) : Type 0 where

@@ -33,18 +33,18 @@ pub record IsHeldSlot (marks : List Bool) (many slot : ℕ) : Type 0 where
   pub held : slice_index_or marks slot false ≡ true
   pub before : many ≡ count_by is_held (take slot marks)
 
--- the marks of the slots; the counts of an inbox: of all slots, of blocks of 64, and of groups of
--- 64 blocks
+-- the marks of the slots; the counts of an inbox: of all slots, of blocks of 32, and of groups of
+-- 32 blocks
 pub record AreTallied (slots : List Envelope) (marks : List Bool) (blocks groups : List ℕ)
     (all : ℕ) : Type 0 where
   pub marks_are : marks ≡ marks_of slots
   pub all_is : all ≡ count_by is_held marks
-  pub blocks_are : AreCounts 64 marks blocks
-  pub groups_are : AreCounts 4096 marks groups
+  pub blocks_are : AreCounts 32 marks blocks
+  pub groups_are : AreCounts 1024 marks groups
 
 -- there is room for as many more slots
 pub record HaveRoom (used spare slots marks blocks groups : ℕ) : Type 0 where
   pub slot_room : used + spare ≤ slots
   pub mark_room : used + spare ≤ marks
-  pub block_room : used + spare ≤ 64 * blocks
-  pub group_room : used + spare ≤ 4096 * groups
+  pub block_room : used + spare ≤ 32 * blocks
+  pub group_room : used + spare ≤ 1024 * groups

@@ -4,5 +4,5 @@ use Rattle.adapter.proofs.emission.desk_emit.Goals as goal
 
 pub returns-clause-posted : goal.returns-clause-posted
 returns-clause-posted c some =
-    let e = c.in_ok-planned.planned.envelope in
-    is_for c.args.job.now c.args.desk.now.store.role e.to e (c.in_ok-planned.ensures.mailed some)
+    let e = c.plan-planned.result.envelope in
+    is_for c.args.job.now c.args.desk.now.store.role e.to e (c.plan-planned.ensures.mailed some)

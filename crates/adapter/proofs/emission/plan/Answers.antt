@@ -8,13 +8,13 @@ use Rattle.adapter.proofs.emission.plan.Goals as goal
 
 pub plan_step-message-requires : goal.plan_step-message-requires
 plan_step-message-requires c =
-    subst (λ (d : DeskState). IsPossible d.store c.in_ok-step.step) (sym c.desk.view_is)
-    (possible c.args.job.now c.args.desk.now c.args.n c.in_ok-step.step c.is_orderly.ensures c.requires.kept c.requires.number c.in_ok-step.ensures)
+    subst (λ (d : DeskState). IsPossible d.store c.step_of-step.result) (sym c.desk.view_is)
+    (possible c.args.job.now c.args.desk.now c.args.n c.step_of-step.result c.is_orderly.ensures c.requires.at_work.kept c.requires.at_work.number c.step_of-step.ensures)
 
 pub returns : goal.returns
 returns c =
-    let step = c.in_ok-step.step in
+    let step = c.step_of-step.result in
     let role_is : c.role.result ≡ c.args.desk.now.store.role = c.role.ensures ∙ ap (λ (d : DeskState). d.store.role) c.desk.view_is in
     let emission = subst (λ (d : DeskState). IsEmission d.store step.message step.key step.outs c.plan_step-message.result) c.desk.view_is c.plan_step-message.ensures in
     plan_is c.args.job.now c.args.desk.now c.args.n c.role.result step c.plan_step-message.result c.envelope_of.result
-    c.is_orderly.ensures c.requires.kept c.requires.number c.in_ok-step.ensures emission role_is c.envelope_of.ensures
+    c.is_orderly.ensures c.requires.at_work.kept c.requires.at_work.number c.step_of-step.ensures emission role_is c.envelope_of.ensures

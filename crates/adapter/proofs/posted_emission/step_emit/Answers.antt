@@ -20,8 +20,8 @@ returns-clause-kept g c =
     let desk = c.emit_planned.new.desk in
     let s : StateView = record { desk = c.state.inside.desk; passes = c.state.inside.passes } in
     let work : IsStateAtWork job boxes s c.args.n = subst (λ (x : StateView). IsStateAtWork job boxes x c.args.n) (sym c.state.view_is) c.requires.at_work in
-    let keeps = step_keeps c.equal_values_are_one.ensures.lists job boxes s c.args.n c.in-Some.planned.envelope desk c.post_planned.new.passes c.is_orderly.ensures work
-    c.in-Some.ensures.next c.emit_planned.ensures.kept c.emit_planned.ensures.changed c.in_ok-post_planned.ensures.ok in
+    let keeps = step_keeps c.equal_values_are_one.ensures.lists job boxes s c.args.n c.plan-planned.result.envelope desk c.post_planned.new.passes c.is_orderly.ensures work
+    c.plan-planned.ensures.next c.emit_planned.ensures.kept c.emit_planned.ensures.changed c.in_ok-post_planned.ensures.ok in
     subst (λ (x : StateView). IsStateKept job x.desk.store.role boxes (record { desk = desk; passes = c.post_planned.new.passes })) c.state.view_is keeps.0
 
 pub returns-clause-ok : goal.returns-clause-ok
@@ -31,6 +31,6 @@ returns-clause-ok g c =
     let desk = c.emit_planned.new.desk in
     let s : StateView = record { desk = c.state.inside.desk; passes = c.state.inside.passes } in
     let work : IsStateAtWork job boxes s c.args.n = subst (λ (x : StateView). IsStateAtWork job boxes x c.args.n) (sym c.state.view_is) c.requires.at_work in
-    let keeps = step_keeps c.equal_values_are_one.ensures.lists job boxes s c.args.n c.in-Some.planned.envelope desk c.post_planned.new.passes c.is_orderly.ensures work
-    c.in-Some.ensures.next c.emit_planned.ensures.kept c.emit_planned.ensures.changed c.in_ok-post_planned.ensures.ok in
-    subst (λ (x : StateView). EmitsNext job c.args.n x (Some c.in-Some.planned.envelope) (record { desk = desk; passes = c.post_planned.new.passes })) c.state.view_is keeps.1
+    let keeps = step_keeps c.equal_values_are_one.ensures.lists job boxes s c.args.n c.plan-planned.result.envelope desk c.post_planned.new.passes c.is_orderly.ensures work
+    c.plan-planned.ensures.next c.emit_planned.ensures.kept c.emit_planned.ensures.changed c.in_ok-post_planned.ensures.ok in
+    subst (λ (x : StateView). EmitsNext job c.args.n x (Some c.plan-planned.result.envelope) (record { desk = desk; passes = c.post_planned.new.passes })) c.state.view_is keeps.1

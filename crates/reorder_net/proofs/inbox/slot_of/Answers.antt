@@ -5,7 +5,7 @@ use Rattle.reorder_net.proofs.CountLemmas.{all_before, next_blocks, next_slots, 
 use Rattle.reorder_net.proofs.inbox.slot_of.Goals as goal
 
 pub first_above-group-requires : goal.first_above-group-requires
-first_above-group-requires c = subst (λ n. c.args.i < n) (sym (total 4096 c.args.marks.now c.args.groups.now c.requires.groups)) c.requires.within
+first_above-group-requires c = subst (λ n. c.args.i < n) (sym (total 1024 c.args.marks.now c.args.groups.now c.requires.groups)) c.requires.within
 
 pub first_above-block-requires : goal.first_above-block-requires
 first_above-block-requires c =

@@ -19,9 +19,9 @@ add_event-requires c =
 pub loop-i-preserved : goal.loop-i-preserved
 loop-i-preserved c =
     let before = take c.loop-i.i (acts_of c.args.store.now) in
-    let pair = c.event-event.result in
-    let grown = both_grow before (pair.0 ∷ []) c.args.counts.now c.loop-i.counts c.add_event.new.counts c.loop-i.invariant c.add_event.ensures in
-    subst (λ (events : List Event). GrowBy events c.args.counts.now c.add_event.new.counts) (sym (acts_more c.args.store.now c.loop-i.i pair.0 pair.1 c.event-event.ensures)) grown
+    let more = acts_more c.args.store.now c.loop-i.i c.outline-kind.result c.outline-kind.ensures in
+    let grown = both_grow before (more.0 ∷ []) c.args.counts.now c.loop-i.counts c.add_event.new.counts c.loop-i.invariant (c.add_event.ensures more.0 more.1) in
+    subst (λ (events : List Event). GrowBy events c.args.counts.now c.add_event.new.counts) (sym more.2) grown
 
 pub returns-clause-grow : goal.returns-clause-grow
 returns-clause-grow c =

@@ -1,7 +1,8 @@
 -- One event of the store more.
-use Rattle.std.proofs.Common.{◌∷◌, [], List, take, subst, sym, arith}
+use Rattle.std.proofs.Common.{ℕ, ◌∷◌, [], List, take, ap, subst, sym, arith}
 use Rattle.std.proofs.lemmas.List.{length-map, length-take, take_all}
 use Rattle.bspl_types.specs.declared.event.Event.{Event}
+use Rattle.local_store.specs.declared.act.Kind.{Kind}
 use Rattle.local_store.specs.State.{acts_of}
 use Rattle.stamped_history.specs.declared.entry.Entry.{Entry}
 use Rattle.report.specs.inner.Totals.{GrowsBy}
@@ -20,9 +21,9 @@ add_one-requires c =
 pub loop-i-preserved : goal.loop-i-preserved
 loop-i-preserved c =
     let before = take c.loop-i.i (acts_of c.args.store.now) in
-    let pair = c.event-event.result in
-    let grown = grows_both before (pair.0 ∷ []) c.args.total.now c.loop-i.total c.add_one.new.total c.loop-i.invariant c.add_one.ensures in
-    subst (λ (events : List Event). GrowsBy events c.args.total.now c.add_one.new.total) (sym (acts_more c.args.store.now c.loop-i.i pair.0 pair.1 c.event-event.ensures)) grown
+    let more = acts_more c.args.store.now c.loop-i.i c.outline.result c.outline.ensures in
+    let grown = grows_both before (more.0 ∷ []) c.args.total.now c.loop-i.total c.add_one.new.total c.loop-i.invariant (c.add_one.ensures more.0 (ap (λ (o : Kind × ℕ). o.0) more.1)) in
+    subst (λ (events : List Event). GrowsBy events c.args.total.now c.add_one.new.total) (sym more.2) grown
 
 pub returns-clause-grows : goal.returns-clause-grows
 returns-clause-grows c =

@@ -58,3 +58,14 @@ returns-clause-step c =
       undelivered = (c.in-Some.ensures entry.0 entry.1).undelivered;
       posted = record { receiver = c.at_mut.result.now; at = c.at_mut.ensures.item; after = c.deliver.new.desk; accepted = c.in_ok-deliver.ensures.ok; desks = refl };
     }
+
+pub returns-then-is_delivered-clause-posted : goal.returns-then-is_delivered-clause-posted
+returns-then-is_delivered-clause-posted c = posted_none c.args.job.now c.args.desks.now c.requires.sound
+
+pub returns-then-is_delivered-clause-arrive : goal.returns-then-is_delivered-clause-arrive
+returns-then-is_delivered-clause-arrive c = λ entry at. (c.is_delivered.ensures c.if-is_delivered.true entry at).arrives
+
+pub returns-then-is_delivered-clause-step : goal.returns-then-is_delivered-clause-step
+returns-then-is_delivered-clause-step c =
+    let entry = item_there (history_at (histories_of c.args.desks.now) c.args.role) c.args.index c.requires.index in
+    record { entry = entry.0; at = entry.1; envelope = None; undelivered = (c.is_delivered.ensures c.if-is_delivered.true entry.0 entry.1).nothing; posted = refl }

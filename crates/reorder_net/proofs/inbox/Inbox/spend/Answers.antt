@@ -45,14 +45,14 @@ lower-requires-clause-some c =
     let slots = c.self.inside.slots.items in
     let s = c.slot_of-slot.result in
     let marked = rw c.deref.ensures.value at c.slot_of-slot.ensures in
-    block_some 64 c.self.inside.marks.items c.self.inside.blocks.items (s / 64) s c.self.invariant.0.blocks_are (block_of s) marked.within marked.held
+    block_some 32 c.self.inside.marks.items c.self.inside.blocks.items (s / 32) s c.self.invariant.0.blocks_are (block_of s) marked.within marked.held
 
 pub lower-requires-2-clause-some : goal.lower-requires-2-clause-some
 lower-requires-2-clause-some c =
     let slots = c.self.inside.slots.items in
     let s = c.slot_of-slot.result in
     let marked = rw c.deref.ensures.value at c.slot_of-slot.ensures in
-    block_some 4096 c.self.inside.marks.items c.self.inside.groups.items (s / 64 / 64) s c.self.invariant.0.groups_are (group_of s) marked.within marked.held
+    block_some 1024 c.self.inside.marks.items c.self.inside.groups.items (s / 32 / 32) s c.self.invariant.0.groups_are (group_of s) marked.within marked.held
 
 pub invariant_of-self-2 : goal.invariant_of-self-2
 invariant_of-self-2 c =
