@@ -1,0 +1,115 @@
+ghost use Rattle.std.specs.Prelude.{◌≡◌, ◌↔◌, ◌++◌, ◌∷◌, [], length, IfOk, IsTrue, OnErr, OnOk};
+ghost use Rattle.role_server.specs.Replies.{Acts, Answers, HasNoRoom, IsLast, KeepsRole, Replies, key_of, stamp_of};
+ghost use Rattle.role_server.specs.inner.Acts.{HoldsKey, IsBeforeLast, IsOwn, IsReady};
+
+use bspl_types::Key;
+use list_base::NoMemory;
+use local_store::Store;
+use std::alloc::Global;
+use wire_form::{Act, Reading, Refusal, Reply, read_line};
+
+/// The most keys that are held.
+const HELD_LIMIT: u32 = 10_000;
+
+/// The last value of a clock.
+const LAST_STAMP: u64 = u64::MAX;
+
+/// Answers the line with this body, and an LF after it.
+#[tactic(auto, using(crate::proofs::ActLemmas::own_act))]
+pub fn answer_line(alloc: Global, store: &mut Store, body: &[u8]) -> Result<Reply, NoMemory>
+    ensures reply { IfOk result (λ reply.
+        Replies store.old (body.now ++ 10 ∷ []) reply store.new) }
+    ensures err { OnErr result (store.new ≡ store.old) }
+    ensures role { KeepsRole store.old store.new }
+{
+    match read_line(alloc, store.admitted(), store.role(), body)? {
+        Reading::NotRead => Ok(Reply::Refused(Refusal::F1)),
+        Reading::NotMeant => Ok(Reply::Refused(Refusal::F2)),
+        Reading::Meant(act) => answer_act(store, &act),
+    }
+}
+
+/// Answers what a line asks for.
+#[tactic(auto, using(crate::proofs::ActLemmas::own_key, crate::proofs::ActLemmas::ready, crate::proofs::ActLemmas::keeps_after))]
+fn answer_act(store: &mut Store, act: &Act) -> Result<Reply, NoMemory>
+    requires { IsOwn store.old.protocol store.old.role act.now }
+    ensures reply { IfOk result (λ reply. Answers store.old act.now reply store.new) }
+    ensures err { OnErr result (store.new ≡ store.old) }
+    ensures role { KeepsRole store.old store.new }
+{
+    let key = key_of(act);
+    if has_no_room(store, &key) {
+        return Ok(Reply::Refused(Refusal::F3));
+    }
+    if is_last(store, act) {
+        return Ok(Reply::Refused(Refusal::F4));
+    }
+    hold(store, &key)?;
+    Ok(reply_to(store, act))
+}
+
+/// The key under which the act is.
+fn key_of(act: &Act) -> Key
+    ensures { result ≡ key_of act.now }
+{
+    match act {
+        Act::Arrival(message) => message.instance.key,
+        Act::Attempt { key, .. } => *key,
+    }
+}
+
+/// Whether there is no room for a further event or for the key.
+fn has_no_room(store: &Store, key: &Key) -> bool
+    ensures { IsTrue result ↔ HasNoRoom store.now key.now }
+{
+    store.spare() == 0 || (!store.holds(key) && store.held() >= HELD_LIMIT)
+}
+
+/// Whether the clock, or the stamp that comes, is at its last value.
+fn is_last(store: &Store, act: &Act) -> bool
+    ensures exact { IsTrue result ↔ IsLast store.now act.now }
+    ensures before { ¬ IsTrue result → IsBeforeLast store.now act.now }
+{
+    let stamp = stamp_of(act);
+    store.clock() == LAST_STAMP || stamp == LAST_STAMP
+}
+
+/// The stamp that comes with the act, or 0.
+fn stamp_of(act: &Act) -> u64
+    ensures { result ≡ stamp_of act.now }
+{
+    match act {
+        Act::Arrival(message) => message.stamp,
+        Act::Attempt { .. } => 0,
+    }
+}
+
+/// Makes the key held, for which there is room.
+#[tactic(auto, using(crate::proofs::ActLemmas::held_before, crate::proofs::ActLemmas::held_then, crate::proofs::ActLemmas::few_held))]
+fn hold(store: &mut Store, key: &Key) -> Result<(), NoMemory>
+    requires whole { length key.now ≡ length store.old.protocol.keys }
+    requires room { ¬ HasNoRoom store.old key.now }
+    ensures ok { OnOk result (HoldsKey store.old key.now store.new) }
+    ensures err { OnErr result (store.new ≡ store.old) }
+{
+    if store.holds(key) {
+        return Ok(());
+    }
+    store.add_key(key)
+}
+
+/// Does the act, and gives the reply to it.
+#[tactic(auto, using(crate::proofs::ActLemmas::receipt_keeps))]
+fn reply_to(store: &mut Store, act: &Act) -> Reply
+    requires { IsReady store.old act.now }
+    ensures reply { Acts store.old act.now result store.new }
+    ensures role { KeepsRole store.old store.new }
+{
+    match act {
+        Act::Arrival(message) => Reply::Received(store.receive(message)),
+        Act::Attempt { message, key, outs } => match store.emit(*message, key, outs.as_slice()) {
+            Ok(sent) => Reply::Sent(sent),
+            Err(block) => Reply::Blocked(block),
+        },
+    }
+}
