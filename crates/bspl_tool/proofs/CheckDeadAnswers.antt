@@ -6,14 +6,14 @@ use Rattle.enactability.specs.Check.{AcceptsDead, FailsDead}
 use Rattle.enactability.specs.DeadText.{IsDeadText}
 use Rattle.enactability.specs.Enactable.{Enactable}
 use Rattle.enactability.specs.Refusal.{IsOneMessage, IsRefusedDead}
+use Rattle.log_lines.specs.LogLines.{log_rejection, reject_line}
 use Rattle.log_checker.specs.declared.refusal.Reject.{Reject}
 use Rattle.refutation_log.specs.declared.refusal.LogRefusal.{LogRefusal}
 use Rattle.refutation_log.specs.declared.refutation.Log.{Log}
 use Rattle.tool_input.specs.declared.status.Status.TheVariants.{Done, Refuted}
 use Rattle.tool_input.specs.Lines.{line}
-use Rattle.bspl_tool.specs.CheckAnswer.{log_rejection}
 use Rattle.bspl_tool.specs.CheckDeadAnswer.{IsCheckDeadAnswer, IsCheckDeadRefused}
-use Rattle.bspl_tool.specs.Texts.{accepted_dead_line, reject_text}
+use Rattle.bspl_tool.specs.Texts.{accepted_dead_line}
 use Rattle.bspl_tool.specs.inner.Error.{RejectsFor, error_for}
 
 -- a text that is no log's on a message is refused at its first bad line
@@ -29,5 +29,5 @@ pub accepted_dead : (x : Expanded) (part out : List ℕ) (m : ℕ) (log : Log) �
 accepted_dead x part out m log read accepts dead is = record { message = m; log = log; read = read; answer = inl (record { accepts = accepts; dead = dead; text = is; done = refl }) }
 
 -- and one that is not
-pub rejected_dead : (x : Expanded) (part out : List ℕ) (m : ℕ) (log : Log) (reject : Reject) → IsDeadText x part (m ∷ []) log → FailsDead x (m ∷ []) log reject → out ≡ line (reject_text reject) → IsCheckDeadAnswer x part out Refuted
+pub rejected_dead : (x : Expanded) (part out : List ℕ) (m : ℕ) (log : Log) (reject : Reject) → IsDeadText x part (m ∷ []) log → FailsDead x (m ∷ []) log reject → out ≡ reject_line reject → IsCheckDeadAnswer x part out Refuted
 rejected_dead x part out m log reject read fails is = record { message = m; log = log; read = read; answer = inr (record { reject = reject; fails = fails; text = is; refuted = refl }) }

@@ -6,14 +6,14 @@ use Rattle.bspl_types.specs.Expansion.{message_name}
 use Rattle.enactability.specs.DeadText.{IsDeadText}
 use Rattle.enactability.specs.Laws.{AcceptedDeadDoesNotFail, DeadLogFailsOnce, DeadLogIsNotRefused, TextHasOneDeadLog, TextHasOneDeadRefusal}
 use Rattle.enactability.specs.Refusal.{IsOneMessage}
+use Rattle.log_lines.specs.LogLines.{log_rejection, reject_line}
 use Rattle.refutation_log.specs.declared.refutation.Log.{Log}
 use Rattle.tool_input.specs.declared.rejection.Rejection.{Rejection}
 use Rattle.tool_input.specs.declared.status.Status.{Status}
 use Rattle.tool_input.specs.Lines.{line}
-use Rattle.bspl_tool.specs.CheckAnswer.{log_rejection}
 use Rattle.bspl_tool.specs.CheckDeadAnswer.{IsCheckDeadAnswer, IsCheckDeadRefused, SaysAcceptedDead, SaysRejectedDead, check_dead_rules}
 use Rattle.bspl_tool.specs.Laws.{IsOutput}
-use Rattle.bspl_tool.specs.Texts.{accepted_dead_line, reject_text}
+use Rattle.bspl_tool.specs.Texts.{accepted_dead_line}
 use Rattle.bspl_tool.proofs.CheckLaws.{line_names, not_memory, reject_claims_nothing}
 use Rattle.bspl_tool.proofs.ClaimsNothing.{ClaimsNothing, line_claims_nothing}
 use Rattle.bspl_tool.proofs.CommandLaws.{CommandLaws, honest_nothing}
@@ -56,7 +56,7 @@ same_answer once x m log out out' status status' (inl one) (inl other) = (one.te
 same_answer once x m log out out' status status' (inl one) (inr other) = absurd (once.accepted x (m ∷ []) log other.reject one.accepts other.fails)
 same_answer once x m log out out' status status' (inr one) (inl other) = absurd (once.accepted x (m ∷ []) log one.reject other.accepts one.fails)
 same_answer once x m log out out' status status' (inr one) (inr other) =
-    (one.text ∙ ap (λ reject. line (reject_text reject)) (once.failure x (m ∷ []) log one.reject other.reject one.fails other.fails) ∙ sym other.text, one.refuted ∙ sym other.refuted)
+    (one.text ∙ ap (λ reject. reject_line reject) (once.failure x (m ∷ []) log one.reject other.reject one.fails other.fails) ∙ sym other.text, one.refuted ∙ sym other.refuted)
 
 -- and so on one part
 checked_once : OneCheckDead → (x : Expanded) (part out out' : List ℕ) (status status' : Status) → IsCheckDeadAnswer x part out status → IsCheckDeadAnswer x part out' status' → IsOutput out status out' status'

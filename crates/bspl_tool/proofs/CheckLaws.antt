@@ -3,6 +3,7 @@ use Rattle.std.proofs.Common.{◌≡◌, ◌≢◌, ◌⊎◌, ℕ, false, List,
 use Rattle.std.specs.Fmt.{decimal}
 use Rattle.std.specs.Prelude.{IfSome}
 use Rattle.bspl_types.specs.declared.expanded.Expanded.{Expanded}
+use Rattle.log_lines.specs.LogLines.{log_rejection, reject_line, reject_words}
 use Rattle.log_checker.specs.declared.refusal.Reject.{Reject}
 use Rattle.log_checker.specs.declared.refusal.Reject.TheVariants.{NoClause, NoDrop, NoMemory, NoPivot, NotEmpty}
 use Rattle.protocol_check.specs.Laws.{AcceptedLivenessDoesNotFail, AcceptedSafetyDoesNotFail, LivenessFailsOnce, SafetyFailsOnce}
@@ -18,9 +19,7 @@ use Rattle.tool_input.specs.declared.status.Status.{Status}
 use Rattle.bspl_tool.specs.CheckAnswer.{Accepts, Fails, IsCheckAnswer, IsCheckRefused, SaysAccepted, SaysRejected, check_rules, claim_of}
 use Rattle.bspl_tool.specs.Claims.{IsClaimTrue, claim_line}
 use Rattle.bspl_tool.specs.Laws.{IsOutput}
-use Rattle.bspl_tool.specs.CheckAnswer.{log_rejection}
 use Rattle.tool_input.specs.Lines.{line}
-use Rattle.bspl_tool.specs.Texts.{reject_text}
 use Rattle.bspl_tool.proofs.ClaimsNothing.{ClaimsNothing, line_claims_nothing}
 use Rattle.bspl_tool.proofs.CommandLaws.{CommandLaws, IsHonest, honest_if, honest_nothing}
 use Rattle.bspl_tool.proofs.RejectedNames.{HasNames}
@@ -52,7 +51,7 @@ refused_once once part r s one other =
     cc
 
 -- a first failure has no LF
-reject_has_no_lf : (reject : Reject) → has_lf (reject_text reject) ≡ false
+reject_has_no_lf : (reject : Reject) → has_lf (reject_words reject) ≡ false
 reject_has_no_lf (NoClause step) =
     let front = codes "rejected step " in
     joined_has_none 10 (front ++ decimal step) (codes " clause") (joined_has_none 10 front (decimal step) refl (decimal_has_no_lf step)) refl
@@ -68,12 +67,12 @@ reject_has_no_lf NotEmpty = refl
 reject_has_no_lf NoMemory = refl
 
 -- and claims nothing
-pub reject_claims_nothing : (reject : Reject) → ClaimsNothing (line (reject_text reject))
-reject_claims_nothing (NoClause step) = line_claims_nothing (reject_text (NoClause step)) (reject_has_no_lf (NoClause step)) refl
-reject_claims_nothing (NoPivot step link) = line_claims_nothing (reject_text (NoPivot step link)) (reject_has_no_lf (NoPivot step link)) refl
-reject_claims_nothing (NoDrop after item) = line_claims_nothing (reject_text (NoDrop after item)) (reject_has_no_lf (NoDrop after item)) refl
-reject_claims_nothing NotEmpty = line_claims_nothing (reject_text NotEmpty) refl refl
-reject_claims_nothing NoMemory = line_claims_nothing (reject_text NoMemory) refl refl
+pub reject_claims_nothing : (reject : Reject) → ClaimsNothing (reject_line reject)
+reject_claims_nothing (NoClause step) = line_claims_nothing (reject_words (NoClause step)) (reject_has_no_lf (NoClause step)) refl
+reject_claims_nothing (NoPivot step link) = line_claims_nothing (reject_words (NoPivot step link)) (reject_has_no_lf (NoPivot step link)) refl
+reject_claims_nothing (NoDrop after item) = line_claims_nothing (reject_words (NoDrop after item)) (reject_has_no_lf (NoDrop after item)) refl
+reject_claims_nothing NotEmpty = line_claims_nothing (reject_words NotEmpty) refl refl
+reject_claims_nothing NoMemory = line_claims_nothing (reject_words NoMemory) refl refl
 
 -- the line of an accepted log claims one property, which is true
 accepted_is_honest : (x : Expanded) (kind : Kind) (n : ℕ) → IsClaimTrue (claim_of kind) x → IsHonest x (take n (line (claim_line (claim_of kind))))
@@ -117,7 +116,7 @@ same_answer once x kind of out out' status status' (inl one) (inl other) =
 same_answer once x kind of out out' status status' (inl one) (inr other) = absurd (accepted_or_fails once x kind of other.reject one.accepted.accepts other.fails)
 same_answer once x kind of out out' status status' (inr one) (inl other) = absurd (accepted_or_fails once x kind of one.reject other.accepted.accepts one.fails)
 same_answer once x kind of out out' status status' (inr one) (inr other) =
-    (one.text ∙ ap (λ reject. line (reject_text reject)) (fails_once once x kind of one.reject other.reject one.fails other.fails) ∙ sym other.text, one.refuted ∙ sym other.refuted)
+    (one.text ∙ ap (λ reject. reject_line reject) (fails_once once x kind of one.reject other.reject one.fails other.fails) ∙ sym other.text, one.refuted ∙ sym other.refuted)
 
 -- and so on one part
 checked_once : OneCheck → (x : Expanded) (part out out' : List ℕ) (status status' : Status) → IsCheckAnswer x part out status → IsCheckAnswer x part out' status' → IsOutput out status out' status'

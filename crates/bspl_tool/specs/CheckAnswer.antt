@@ -2,9 +2,9 @@
 use Rattle.std.specs.Prelude.{◌≡◌, ◌⊎◌, ℕ, List, Option, None, Some, ⊤}
 use Rattle.bspl_types.specs.declared.expanded.Expanded.{Expanded}
 use Rattle.log_checker.specs.declared.refusal.Reject.{Reject}
+use Rattle.log_lines.specs.LogLines.{log_rejection, reject_line}
 use Rattle.protocol_check.specs.Check.{AcceptsLiveness, AcceptsSafety, FailsLiveness, FailsSafety}
 use Rattle.refutation_log.specs.declared.refusal.LogRefusal.{LogRefusal}
-use Rattle.refutation_log.specs.declared.refusal.LogRefusal.TheVariants as log
 use Rattle.refutation_log.specs.declared.refutation.Kind.{Kind}
 use Rattle.refutation_log.specs.declared.refutation.Kind.TheVariants.{Liveness, Safety}
 use Rattle.refutation_log.specs.declared.refutation.Log.{Log}
@@ -13,16 +13,12 @@ use Rattle.refutation_log.specs.Refusal.{IsRefusedLog}
 use Rattle.bspl_tool.specs.declared.claim.Claim.{Claim}
 use Rattle.bspl_tool.specs.declared.claim.Claim.TheVariants.{AcceptedLiveness, AcceptedSafety}
 use Rattle.tool_input.specs.declared.parts.Part.TheVariants as part
-use Rattle.tool_input.specs.declared.rejection.Code.TheVariants.{L}
-use Rattle.tool_input.specs.declared.rejection.Field.TheVariants as field
 use Rattle.tool_input.specs.declared.rejection.Rejection.{Rejection}
-use Rattle.tool_input.specs.Rejection.{with_one}
 use Rattle.tool_input.specs.declared.status.Status.{Status}
 use Rattle.tool_input.specs.declared.status.Status.TheVariants.{Done, Refuted}
 use Rattle.bspl_tool.specs.Rules.{CommandRules}
 use Rattle.bspl_tool.specs.Claims.{IsClaimTrue, claim_line}
 use Rattle.tool_input.specs.Lines.{line}
-use Rattle.bspl_tool.specs.Texts.{reject_text}
 
 -- the log derives the empty clause from the protocol's formula of its kind
 abbrev pub Accepts : Expanded → Kind → Log → Type 0
@@ -58,7 +54,7 @@ pub record SaysRejected (x : Expanded) (kind : Kind) (log : Log) (out : List ℕ
     : Type 0 where
   pub reject : Reject
   pub fails : Fails x kind log reject
-  pub text : out ≡ line (reject_text reject)
+  pub text : out ≡ reject_line reject
   pub refuted : status ≡ Refuted
 
 -- the part is the text of a log of a kind, and the answer says whether it is accepted
@@ -67,12 +63,6 @@ pub record IsCheckAnswer (x : Expanded) (part out : List ℕ) (status : Status) 
   pub log : Log
   pub read : IsTextOf part kind log
   pub answer : SaysAccepted x kind log out status ⊎ SaysRejected x kind log out status
-
--- a refusal of a log's text, by its code: its first bad line
-abbrev pub log_rejection : LogRefusal → Option Rejection
-log_rejection (log.Form number) = Some (with_one (L 1) (field.Number number))
-log_rejection (log.Number number) = Some (with_one (L 2) (field.Number number))
-log_rejection log.NoMemory = None
 
 -- the part is the text of no log, and has a first bad line
 pub record IsCheckRefused (part : List ℕ) (rejection : Rejection) : Type 0 where

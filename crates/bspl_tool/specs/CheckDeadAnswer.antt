@@ -14,9 +14,9 @@ use Rattle.tool_input.specs.declared.rejection.Rejection.{Rejection}
 use Rattle.tool_input.specs.declared.status.Status.{Status}
 use Rattle.tool_input.specs.declared.status.Status.TheVariants.{Done, Refuted}
 use Rattle.tool_input.specs.Lines.{line}
-use Rattle.bspl_tool.specs.CheckAnswer.{log_rejection}
+use Rattle.log_lines.specs.LogLines.{log_rejection, reject_line}
 use Rattle.bspl_tool.specs.Rules.{CommandRules}
-use Rattle.bspl_tool.specs.Texts.{accepted_dead_line, reject_text}
+use Rattle.bspl_tool.specs.Texts.{accepted_dead_line}
 
 -- the log is accepted, so that no legal run emits the message, and the text says so
 pub record SaysAcceptedDead (x : Expanded) (m : ℕ) (log : Log) (out : List ℕ) (status : Status)
@@ -31,7 +31,7 @@ pub record SaysRejectedDead (x : Expanded) (m : ℕ) (log : Log) (out : List ℕ
     : Type 0 where
   pub reject : Reject
   pub fails : FailsDead x (m ∷ []) log reject
-  pub text : out ≡ line (reject_text reject)
+  pub text : out ≡ reject_line reject
   pub refuted : status ≡ Refuted
 
 -- the part is the text of a log on a message, and the answer says whether it is accepted

@@ -2,8 +2,6 @@
 use Rattle.std.specs.Prelude.{ℕ, List, [], ◌++◌, codes}
 use Rattle.std.specs.Fmt.{decimal}
 use Rattle.std.specs.List.{Contains}
-use Rattle.log_checker.specs.declared.refusal.Reject.{Reject}
-use Rattle.log_checker.specs.declared.refusal.Reject.TheVariants.{NoClause, NoDrop, NoMemory, NoPivot, NotEmpty}
 use Rattle.tool_input.specs.Lines.{line, lines}
 
 -- one of the text's lines is this one
@@ -29,13 +27,3 @@ undecided_line name steps = codes "message " ++ name ++ codes " undecided " ++ d
 -- and of one on which a log is accepted
 abbrev pub accepted_dead_line : List ℕ → List ℕ
 accepted_dead_line name = codes "accepted dead " ++ name
-
--- what the answer says of a log that is not accepted: its first failure
-abbrev pub reject_text : Reject → List ℕ
-reject_text (NoClause step) = codes "rejected step " ++ decimal step ++ codes " clause"
-reject_text (NoPivot step link) =
-    codes "rejected step " ++ decimal step ++ codes " link " ++ decimal link
-reject_text (NoDrop after item) =
-    codes "rejected drop " ++ decimal after ++ codes " " ++ decimal item
-reject_text NotEmpty = codes "rejected not-empty"
-reject_text NoMemory = []

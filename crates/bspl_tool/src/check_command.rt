@@ -1,20 +1,20 @@
 ghost use Rattle.std.specs.Prelude.{◌≡◌, ◌≢◌, ◌≤◌, IfErr, IfOk, length};
 ghost use Rattle.bspl_types.specs.Limits.{input_limit};
 ghost use Rattle.bspl_tool.specs.CheckAnswer.{Fails, IsAccepted, IsCheckAnswer, IsCheckRefused};
-ghost use Rattle.bspl_tool.specs.CheckAnswer.{log_rejection};
 ghost use Rattle.bspl_tool.specs.inner.Error.{RejectsFor};
 
 use super::answer_error::{AnswerError, error_for};
 use super::claim::Claim;
-use super::texts::{claim_text, reject_text};
+use super::texts::claim_text;
 use bspl_types::Admitted;
 use clause_encoding::{liveness_clauses_are_few, safety_clauses_are_few};
 use log_checker::Reject;
+use log_lines::{log_rejection, reject_line};
 use program_frame::Reply;
 use protocol_check::{check_liveness, check_safety};
 use refutation_log::{Kind, Log, LogRefusal, read_log, steps_are_fewer_than_bytes};
 use std::alloc::Global;
-use tool_input::{Code, Field, Rejection, Status};
+use tool_input::Status;
 
 /// Answers `check` on the text of a log.
 pub fn check(alloc: Global, protocol: &Admitted, part: &[u8]) -> Result<Reply<Status>, AnswerError>
@@ -34,7 +34,7 @@ pub fn check(alloc: Global, protocol: &Admitted, part: &[u8]) -> Result<Reply<St
         Err(Reject::NoMemory) => Err(AnswerError::NoMemory),
         Err(reject) => Ok(Reply {
             status: Status::Refuted,
-            text: reject_text(alloc, reject)?,
+            text: reject_line(alloc, reject)?,
         }),
     }
 }
@@ -62,22 +62,9 @@ fn claim_of(alloc: Global, protocol: &Admitted, kind: Kind, log: &Log) -> Result
     }
 }
 
-/// The rejection of a log's text, unless memory ran out.
-pub fn log_rejection(refusal: LogRefusal) -> Option<Rejection>
-    ensures { result ≡ log_rejection refusal }
-{
-    match refusal {
-        LogRefusal::Form { line } => { Some(Rejection::with_one(Code::L(1), Field::Number(line))) }
-        LogRefusal::Number { line } => {
-            Some(Rejection::with_one(Code::L(2), Field::Number(line)))
-        }
-        LogRefusal::NoMemory => None,
-    }
-}
-
 impl From<LogRefusal> for AnswerError {
     ghost use Rattle.std.specs.Prelude.{◌≡◌};
-    ghost use Rattle.bspl_tool.specs.CheckAnswer.{log_rejection};
+    ghost use Rattle.log_lines.specs.LogLines.{log_rejection};
     ghost use Rattle.bspl_tool.specs.inner.Error.{error_for};
 
     ghost from_gives = { λ refusal error. error ≡ error_for (log_rejection refusal) };

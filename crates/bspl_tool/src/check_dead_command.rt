@@ -7,10 +7,10 @@ ghost use Rattle.bspl_tool.specs.Texts.{accepted_dead_line};
 ghost use Rattle.bspl_tool.specs.inner.Error.{RejectsFor};
 
 use super::answer_error::AnswerError;
-use super::texts::reject_text;
 use bspl_types::{Admitted, Bytes, Expanded, NoMemory};
 use enactability::{dead_steps_are_fewer_than_bytes, enact_clauses_are_few, read_dead};
 use log_checker::Reject;
+use log_lines::reject_line;
 use program_frame::Reply;
 use std::alloc::Global;
 use tool_input::Status;
@@ -39,7 +39,7 @@ pub fn check_dead(
         Err(Reject::NoMemory) => Err(AnswerError::NoMemory),
         Err(reject) => Ok(Reply {
             status: Status::Refuted,
-            text: reject_text(alloc, reject)?,
+            text: reject_line(alloc, reject)?,
         }),
     }
 }

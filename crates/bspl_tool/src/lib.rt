@@ -27,7 +27,6 @@ mod world_report;
 pub use agents::script_rejection;
 pub use audit_command::histories_rejection;
 pub use call::{bspl, bspl_alone};
-pub use check_command::log_rejection;
 pub use claim::Claim;
 pub use laws::answers_are_distinct;
 pub use replay_command::run_rejection;

@@ -10,7 +10,7 @@ use Rattle.refutation_log.specs.declared.refutation.Kind.{Kind}
 use Rattle.refutation_log.specs.declared.refutation.Log.{Log}
 use Rattle.tool_input.specs.declared.status.Status.{Status}
 use Rattle.tool_input.specs.declared.status.Status.TheVariants.{Done, Refuted}
-use Rattle.lrat_export.specs.Texts.{reject_line}
+use Rattle.log_lines.specs.LogLines.{reject_line}
 
 -- the text is a proof that refutes the protocol's formula of the log's kind, by the log
 pub record SaysProof (x : Expanded) (kind : Kind) (log : Log) (out : List ℕ) (status : Status)

@@ -20,7 +20,7 @@ use Rattle.tool_input.specs.Rejection.{lacks_part, over_limit, rejection_line, t
 use Rattle.tool_input.specs.TextRefusal.{RefusesText}
 use Rattle.lrat_export.specs.Answer.{IsLogAnswer}
 use Rattle.lrat_export.specs.Request.{IsUsage, Requests}
-use Rattle.lrat_export.specs.Texts.{log_rejection}
+use Rattle.log_lines.specs.LogLines.{log_rejection}
 
 -- the line for invalid arguments
 abbrev pub lrat_usage : List ℕ

@@ -2,11 +2,11 @@ ghost use Rattle.std.specs.Prelude.{◌≤◌, length, IfOk};
 ghost use Rattle.bspl_types.specs.Limits.{input_limit};
 ghost use Rattle.lrat_export.specs.Answer.{IsLogAnswer};
 
-use super::rejection::reject_line;
 use bspl_types::Admitted;
 use clause_encoding::formula_of;
 use list_base::NoMemory;
 use log_checker::Reject;
+use log_lines::reject_line;
 use lrat_text::lrat_proof;
 use program_frame::Reply;
 use protocol_check::property_of;

@@ -3,7 +3,6 @@
 
 mod answer;
 mod call;
-mod rejection;
 mod reply;
 mod request;
 

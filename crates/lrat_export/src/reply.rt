@@ -7,9 +7,9 @@ ghost use Rattle.lrat_export.specs.Request.{Requests};
 ghost use Rattle.lrat_export.specs.inner.Reply.{IsPartReply, IsRefusal, IsReply};
 
 use super::answer::log_answer;
-use super::rejection::log_rejection;
 use bspl_types::Admitted;
 use list_base::{Bytes, NoMemory};
+use log_lines::log_rejection;
 use program_frame::Reply;
 use refutation_log::{read_log, steps_are_fewer_than_bytes};
 use std::alloc::Global;

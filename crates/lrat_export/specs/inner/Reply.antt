@@ -12,7 +12,7 @@ use Rattle.tool_input.specs.declared.status.Status.{Status}
 use Rattle.tool_input.specs.declared.status.Status.TheVariants.{Refused}
 use Rattle.tool_input.specs.Rejection.{rejection_line}
 use Rattle.lrat_export.specs.Answer.{IsLogAnswer}
-use Rattle.lrat_export.specs.Texts.{log_rejection}
+use Rattle.log_lines.specs.LogLines.{log_rejection}
 
 -- the reply has this text and this status
 pub record IsReply (text : List ℕ) (status : Status) (reply : Reply Status) : Type 0 where

@@ -15,6 +15,6 @@ returns-in-Ok-clause-ok c =
 
 pub returns : goal.returns
 returns c = record {
-  ok = rejected_answer c.args.protocol.now c.args.part.now c.in_ok-reject_text-in-Err.field-0 c.in_ok-kind.kind c.in_ok-kind.log c.in-Err.reject c.in_ok-kind.ensures.ok (c.in-Err.ensures.rejected (search rules)) c.in_ok-reject_text-in-Err.ensures;
+  ok = rejected_answer c.args.protocol.now c.args.part.now c.in_ok-reject_line-in-Err.field-0 c.in_ok-kind.kind c.in_ok-kind.log c.in-Err.reject c.in_ok-kind.ensures.ok (c.in-Err.ensures.rejected (search rules)) c.in_ok-reject_line-in-Err.ensures;
   refused = tt;
 }

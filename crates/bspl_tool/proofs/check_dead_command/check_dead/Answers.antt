@@ -29,6 +29,6 @@ returns-in-Ok-clause-ok c =
 
 pub returns : goal.returns
 returns c = record {
-  ok = rejected_dead c.args.protocol.now c.args.part.now c.in_ok-reject_text-in-Err.field-0 c.in_ok-message.message c.in_ok-message.log c.in-Err.reject c.in_ok-message.ensures.ok ((c.in-Err.ensures.rejects (search rules) c.in-Err.reject).0 refl) c.in_ok-reject_text-in-Err.ensures;
+  ok = rejected_dead c.args.protocol.now c.args.part.now c.in_ok-reject_line-in-Err.field-0 c.in_ok-message.message c.in_ok-message.log c.in-Err.reject c.in_ok-message.ensures.ok ((c.in-Err.ensures.rejects (search rules) c.in-Err.reject).0 refl) c.in_ok-reject_line-in-Err.ensures;
   refused = tt;
 }

@@ -1,17 +1,16 @@
 ghost use Rattle.std.specs.Prelude.{◌≡◌, ◌++◌, IfOk};
-ghost use Rattle.list_base.specs.Numeral.{numeral};
+ghost use Rattle.std.specs.Fmt.{decimal};
 ghost use Rattle.log_checker.specs.declared.refusal.Reject.TheVariants as rejects;
-ghost use Rattle.lrat_export.specs.Texts.{log_rejection, reject_line, reject_words};
+ghost use Rattle.log_lines.specs.LogLines.{log_rejection, reject_line, reject_words};
 
 use list_base::{Bytes, NoMemory};
 use log_checker::Reject;
 use refutation_log::LogRefusal;
 use std::alloc::Global;
-use text_lines::push_decimal;
 use tool_input::{Code, Field, Rejection};
 
 /// The rejection of a log's text, unless memory ran out.
-pub(crate) fn log_rejection(refusal: LogRefusal) -> Option<Rejection>
+pub fn log_rejection(refusal: LogRefusal) -> Option<Rejection>
     ensures { result ≡ log_rejection refusal }
 {
     match refusal {
@@ -21,8 +20,8 @@ pub(crate) fn log_rejection(refusal: LogRefusal) -> Option<Rejection>
     }
 }
 
-/// The line that names the first failure of a log.
-pub(crate) fn reject_line(alloc: Global, reject: Reject) -> Result<Bytes, NoMemory>
+/// The line that names the first failure of a log. Out of memory is none.
+pub fn reject_line(alloc: Global, reject: Reject) -> Result<Bytes, NoMemory>
     ensures { IfOk result (λ text. text ≡ reject_line reject) }
 {
     let mut text = reject_words(alloc, reject)?;
@@ -30,7 +29,7 @@ pub(crate) fn reject_line(alloc: Global, reject: Reject) -> Result<Bytes, NoMemo
     Ok(text)
 }
 
-/// The words that name the first failure of a log. Out of memory is none.
+/// The words that name the first failure of a log.
 fn reject_words(alloc: Global, reject: Reject) -> Result<Bytes, NoMemory>
     ensures { IfOk result (λ text. text ≡ reject_words reject) }
 {
@@ -63,19 +62,19 @@ fn two_numbers(
     next_number: u64,
 ) -> Result<Bytes, NoMemory>
     ensures { IfOk result (λ text.
-        text ≡ word.now ++ numeral number ++ next_word.now ++ numeral next_number) }
+        text ≡ word.now ++ decimal number ++ next_word.now ++ decimal next_number) }
 {
     let mut text = one_number(alloc, word, number)?;
     text.append(next_word)?;
-    push_decimal(&mut text, next_number)?;
+    text.append(next_number.to_string(alloc)?.as_bytes())?;
     Ok(text)
 }
 
 /// A word and a number.
 fn one_number(alloc: Global, word: &[u8], number: u32) -> Result<Bytes, NoMemory>
-    ensures { IfOk result (λ text. text ≡ word.now ++ numeral number) }
+    ensures { IfOk result (λ text. text ≡ word.now ++ decimal number) }
 {
     let mut text = Bytes::from_slice(alloc, word)?;
-    push_decimal(&mut text, u64::from(number))?;
+    text.append(number.to_string(alloc)?.as_bytes())?;
     Ok(text)
 }

@@ -1,6 +1,6 @@
--- The lines that are written in place of a proof.
+-- The lines for a log that is not accepted, and for a text that is none.
 use Rattle.std.specs.Prelude.{ℕ, List, [], ◌++◌, codes, Option, None, Some}
-use Rattle.list_base.specs.Numeral.{numeral}
+use Rattle.std.specs.Fmt.{decimal}
 use Rattle.log_checker.specs.declared.refusal.Reject.{Reject}
 use Rattle.log_checker.specs.declared.refusal.Reject.TheVariants.{NoClause, NoDrop, NoMemory, NoPivot, NotEmpty}
 use Rattle.refutation_log.specs.declared.refusal.LogRefusal.{LogRefusal}
@@ -13,11 +13,11 @@ use Rattle.tool_input.specs.declared.rejection.Rejection.{Rejection}
 
 -- the words for the first failure of a log
 abbrev pub reject_words : Reject → List ℕ
-reject_words (NoClause step) = codes "rejected step " ++ numeral step ++ codes " clause"
+reject_words (NoClause step) = codes "rejected step " ++ decimal step ++ codes " clause"
 reject_words (NoPivot step link) =
-    codes "rejected step " ++ numeral step ++ codes " link " ++ numeral link
+    codes "rejected step " ++ decimal step ++ codes " link " ++ decimal link
 reject_words (NoDrop after item) =
-    codes "rejected drop " ++ numeral after ++ codes " " ++ numeral item
+    codes "rejected drop " ++ decimal after ++ codes " " ++ decimal item
 reject_words NotEmpty = codes "rejected not-empty"
 reject_words NoMemory = []
 
