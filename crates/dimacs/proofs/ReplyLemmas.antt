@@ -2,6 +2,7 @@
 use Rattle.std.proofs.Common.{◌≡◌, ℕ, ◌<◌, ◌≤◌, Bool, List, length, Option, Some, None, sym, ◌∙◌}
 use Rattle.std.specs.Prelude.{◌↔◌, IsTrue, is_some}
 use Rattle.std.proofs.lemmas.Bool.{false≢true}
+use Rattle.dimacs.specs.declared.arguments.Options.{Options}
 use Rattle.dimacs.specs.declared.status.Status.{Status}
 use Rattle.dimacs.specs.declared.status.Status.TheVariants as status
 use Rattle.dimacs.specs.declared.verdict.Verdict.{Verdict}
@@ -16,13 +17,13 @@ use Rattle.dimacs.specs.Verdict.{IsRightVerdict}
 use Rattle.dimacs.specs.inner.Request.{IsRequest}
 
 -- a verdict is written with its lines and its status
-pub verdict_decides : (budget : ℕ) (input : List ℕ) (verdict : Verdict) (out : List ℕ) (end : Status) → length input ≤ dimacs_input_limit → IsRightVerdict input budget verdict → out ≡ answer_text verdict → end ≡ status_of verdict → Decides budget input out end
-verdict_decides budget input verdict out end short right text_is status_is =
+pub verdict_decides : (options : Options) (input : List ℕ) (verdict : Verdict) (out : List ℕ) (end : Status) → length input ≤ dimacs_input_limit → IsRightVerdict input options verdict → out ≡ answer_text verdict → end ≡ status_of verdict → Decides options input out end
+verdict_decides options input verdict out end short right text_is status_is =
     rw (text_is, status_is) (decided verdict short right)
 
 -- a text that is no formula is refused with the line at which reading stops
-pub refusal_decides : (budget : ℕ) (input : List ℕ) (line : ℕ) (out : List ℕ) → length input ≤ dimacs_input_limit → IsNoFormula input → StopsAt (text_lines input) line → out ≡ refused_line line → Decides budget input out status.Refused
-refusal_decides budget input line out short none stops text_is = rw text_is (no_formula line short none stops)
+pub refusal_decides : (options : Options) (input : List ℕ) (line : ℕ) (out : List ℕ) → length input ≤ dimacs_input_limit → IsNoFormula input → StopsAt (text_lines input) line → out ≡ refused_line line → Decides options input out status.Refused
+refusal_decides options input line out short none stops text_is = rw text_is (no_formula line short none stops)
 
 -- invalid arguments get the usage line
 pub usage_output : (args : List (List ℕ)) (input out : List ℕ) (end : Status) → IsUsage args → out ≡ dimacs_usage → end ≡ status.Usage → DimacsOutput args input out end
@@ -30,14 +31,14 @@ usage_output args input out end invalid text_is status_is = rw (text_is, status_
 
 -- an input that is too long is refused
 pub long_output : (args : List (List ℕ)) (input out : List ℕ) (end : Status) → AsksForInput args → dimacs_input_limit < length input → out ≡ refused_length → end ≡ status.Refused → DimacsOutput args input out end
-long_output args input out end (budget, has) long text_is status_is = rw (text_is, status_is) (read budget refused_length status.Refused has (too_long long))
+long_output args input out end (options, has) long text_is status_is = rw (text_is, status_is) (read options refused_length status.Refused has (too_long long))
 
 -- what is answered to arguments that ask for no input is right for each input
 pub unasked_output : (args : List (List ℕ)) → ¬ AsksForInput args → (bytes other out : List ℕ) (end : Status) → DimacsOutput args bytes out end → DimacsOutput args other out end
 unasked_output args none bytes other _ _ (usage invalid) = usage invalid
-unasked_output args none bytes other _ _ (read budget out end has decides) = absurd (none (budget, has))
+unasked_output args none bytes other _ _ (read options out end has decides) = absurd (none (options, has))
 
--- arguments ask for the input exactly if they give a budget
-pub asks_with_budget : (args : List (List ℕ)) (budget : Option ℕ) (asked : Bool) → asked ≡ is_some budget → IsRequest args budget → IsTrue asked ↔ AsksForInput args
-asks_with_budget args None asked is invalid = (λ on. absurd (false≢true (sym is ∙ on)), λ asks. absurd (invalid asks.0 asks.1))
-asks_with_budget args (Some budget) asked is has = (λ on. (budget, has.0), λ asks. is)
+-- arguments ask for the input exactly if they give options
+pub asks_with_options : (args : List (List ℕ)) (options : Option Options) (asked : Bool) → asked ≡ is_some options → IsRequest args options → IsTrue asked ↔ AsksForInput args
+asks_with_options args None asked is invalid = (λ on. absurd (false≢true (sym is ∙ on)), λ asks. absurd (invalid asks.0 asks.1))
+asks_with_options args (Some options) asked is has = (λ on. (options, has.0), λ asks. is)

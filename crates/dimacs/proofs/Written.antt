@@ -7,8 +7,9 @@ use Rattle.clause_core.specs.declared.formula.Formula.{Formula}
 use Rattle.clause_core.specs.Clause.{Satisfies, SatisfiesAll, IsUnsatisfiable}
 use Rattle.refutation_log.specs.declared.refutation.Log.{Log}
 use Rattle.sat_solver.specs.Outcome.{IsModel, Refutes}
-use Rattle.dimacs.specs.Dimacs.{IsDimacs}
-use Rattle.dimacs.specs.Verdict.{HaveExactly, IsFormulaOf, IsRefuted, IsSatisfied}
+use Rattle.lrat_text.specs.Proof.{IsProofOf}
+use Rattle.dimacs.specs.Dimacs.{IsDimacs, clause_limit}
+use Rattle.dimacs.specs.Verdict.{HaveExactly, IsFormulaOf, IsProved, IsRefuted, IsSatisfied}
 use Rattle.dimacs.specs.Refusal.{HasTooMany}
 use Rattle.dimacs.proofs.TokenLemmas.{exactly_as_many}
 
@@ -19,7 +20,7 @@ satisfied_moves v c w kept (k, l, within, is, makes) =
     (among.0, l, among.1, among.2, makes)
 
 -- the written clauses are satisfied where the clauses are
-written_satisfied : (v : ℕ → Bool) (clauses written : List (List Lit)) → HaveExactly clauses written → SatisfiesAll v clauses → SatisfiesAll v written
+pub written_satisfied : (v : ℕ → Bool) (clauses written : List (List Lit)) → HaveExactly clauses written → SatisfiesAll v clauses → SatisfiesAll v written
 written_satisfied v [] [] same all = all
 written_satisfied v [] (w ∷ ws) same all = absurd same
 written_satisfied v (c ∷ cs) [] same all = absurd same
@@ -27,12 +28,17 @@ written_satisfied v (c ∷ cs) (w ∷ ws) same all =
     All-cons (Satisfies v) w ws (satisfied_moves v c w (λ l. (same.0 l).0) (All-head (Satisfies v) c cs all)) (written_satisfied v cs ws same.1 (All-tail (Satisfies v) c cs all))
 
 -- and the other way
-clauses_satisfied : (v : ℕ → Bool) (clauses written : List (List Lit)) → HaveExactly clauses written → SatisfiesAll v written → SatisfiesAll v clauses
+pub clauses_satisfied : (v : ℕ → Bool) (clauses written : List (List Lit)) → HaveExactly clauses written → SatisfiesAll v written → SatisfiesAll v clauses
 clauses_satisfied v [] [] same all = all
 clauses_satisfied v [] (w ∷ ws) same all = absurd same
 clauses_satisfied v (c ∷ cs) [] same all = absurd same
 clauses_satisfied v (c ∷ cs) (w ∷ ws) same all =
     All-cons (Satisfies v) c cs (satisfied_moves v w c (λ l. (same.0 l).1) (All-head (Satisfies v) w ws all)) (clauses_satisfied v cs ws same.1 (All-tail (Satisfies v) w ws all))
+
+-- its formula has no more clauses than a header may say
+pub few_clauses : (text : List ℕ) (f : Formula) → IsFormulaOf text f → length f.clauses ≤ clause_limit
+few_clauses text f read =
+    subst (λ n. n ≤ clause_limit) (sym (exactly_as_many f.clauses read.written read.same)) read.read.header.header.few_clauses
 
 -- what satisfies the formula of a text, and has its variables, satisfies the text
 pub read_satisfied : (text : List ℕ) (f : Formula) (assignment : List Bool) → IsFormulaOf text f → IsModel f assignment → IsSatisfied text assignment
@@ -50,6 +56,14 @@ read_refuted text f budget log is_formula refutes none = record {
   log = log;
   refutes = refutes;
   none = λ v all. none v (clauses_satisfied v f.clauses is_formula.written is_formula.same all);
+}
+
+-- and a proof by that log is one of the formula
+pub read_proved : (text : List ℕ) (f : Formula) (budget : ℕ) (log : Log) (proof : List ℕ) → IsFormulaOf text f → Refutes f budget log → IsUnsatisfiable f.clauses → IsProofOf f log proof → IsProved text budget proof
+unfolding read_refuted
+read_proved text f budget log proof is_formula refutes none proves = record {
+  refuted = read_refuted text f budget log is_formula refutes none;
+  proves = proves;
 }
 
 -- a formula whose clauses and the budget are too many

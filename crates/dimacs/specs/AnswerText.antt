@@ -5,7 +5,7 @@ use Rattle.list_base.specs.Numeral.{numeral}
 use Rattle.refutation_log.specs.LogText.{pivot_text}
 use Rattle.sat_solver.specs.declared.search_stats.SearchStats.{SearchStats}
 use Rattle.dimacs.specs.declared.verdict.Verdict.{Verdict}
-use Rattle.dimacs.specs.declared.verdict.Verdict.TheVariants.{Satisfiable, Unsatisfiable, Unknown}
+use Rattle.dimacs.specs.declared.verdict.Verdict.TheVariants.{Satisfiable, Unsatisfiable, Proved, Unknown}
 
 -- the line of a literal that is true
 abbrev pub value_line : Lit → List ℕ
@@ -29,22 +29,13 @@ stats_line stats =
     count_text (codes " propagations ") stats.propagations ++
     codes "\n"
 
--- how much was done for a verdict
-abbrev pub stats_of : Verdict → SearchStats
-stats_of (Satisfiable assignment stats) = stats
-stats_of (Unsatisfiable stats) = stats
-stats_of (Unknown stats) = stats
-
 -- the lines of an assignment that satisfies
 abbrev pub assignment_lines : List Bool → List ℕ
 assignment_lines assignment = codes "s SATISFIABLE\n" ++ value_lines 0 assignment ++ codes "v 0\n"
 
--- the lines of what is known
-abbrev pub verdict_lines : Verdict → List ℕ
-verdict_lines (Satisfiable assignment stats) = assignment_lines assignment
-verdict_lines (Unsatisfiable stats) = codes "s UNSATISFIABLE\n"
-verdict_lines (Unknown stats) = codes "s UNKNOWN\n"
-
--- a verdict, as solvers print it at their competitions
+-- a verdict, as solvers print it at their competitions; a proof stands for itself
 abbrev pub answer_text : Verdict → List ℕ
-answer_text verdict = stats_line (stats_of verdict) ++ verdict_lines verdict
+answer_text (Satisfiable assignment stats) = stats_line stats ++ assignment_lines assignment
+answer_text (Unsatisfiable stats) = stats_line stats ++ codes "s UNSATISFIABLE\n"
+answer_text (Proved proof) = proof
+answer_text (Unknown stats) = stats_line stats ++ codes "s UNKNOWN\n"

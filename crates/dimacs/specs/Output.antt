@@ -1,11 +1,12 @@
 -- What is written for the arguments and the bytes of the input, and with which status.
 use Rattle.std.specs.Prelude.{ℕ, ◌<◌, ◌≤◌, List, ◌++◌, length, codes}
 use Rattle.list_base.specs.Numeral.{numeral}
+use Rattle.dimacs.specs.declared.arguments.Options.{Options}
 use Rattle.dimacs.specs.declared.status.Status.{Status}
 use Rattle.dimacs.specs.declared.status.Status.TheVariants as status
 use Rattle.dimacs.specs.declared.verdict.Verdict.{Verdict}
 use Rattle.dimacs.specs.AnswerText.{answer_text}
-use Rattle.dimacs.specs.Arguments.{HasBudget, IsUsage}
+use Rattle.dimacs.specs.Arguments.{HasOptions, IsUsage}
 use Rattle.dimacs.specs.Dimacs.{IsNoFormula, text_lines}
 use Rattle.dimacs.specs.RefusedLine.{StopsAt}
 use Rattle.dimacs.specs.Status.{status_of}
@@ -17,7 +18,7 @@ dimacs_input_limit = 536870912
 
 -- the line for invalid arguments
 abbrev pub dimacs_usage : List ℕ
-dimacs_usage = codes "usage: dimacs_sat [--budget N]\n"
+dimacs_usage = codes "usage: dimacs_sat [--lrat] [--budget N]\n"
 
 -- the line for an input that is too long
 abbrev pub refused_length : List ℕ
@@ -27,24 +28,24 @@ refused_length = codes "refused length\n"
 abbrev pub refused_line : ℕ → List ℕ
 refused_line line = codes "refused line " ++ numeral line ++ codes "\n"
 
--- the output and the status for an input that was read with that budget
-pub data Decides (budget : ℕ) (input : List ℕ) : List ℕ → Status → Type 0 where
+-- the output and the status for an input that was read with these options
+pub data Decides (options : Options) (input : List ℕ) : List ℕ → Status → Type 0 where
   -- the input is too long
-  too_long : dimacs_input_limit < length input → Decides budget input refused_length status.Refused
+  too_long : dimacs_input_limit < length input → Decides options input refused_length status.Refused
   -- it is no formula
   no_formula : (line : ℕ) → length input ≤ dimacs_input_limit → IsNoFormula input
       → StopsAt (text_lines input) line
-      → Decides budget input (refused_line line) status.Refused
+      → Decides options input (refused_line line) status.Refused
   -- it is one, and the verdict on it is right
   decided : (verdict : Verdict) → length input ≤ dimacs_input_limit
-      → IsRightVerdict input budget verdict
-      → Decides budget input (answer_text verdict) (status_of verdict)
+      → IsRightVerdict input options verdict
+      → Decides options input (answer_text verdict) (status_of verdict)
 
 -- the output and the status for the arguments and the input
 pub data DimacsOutput (args : List (List ℕ)) (input : List ℕ) : List ℕ → Status → Type 0 where
   -- the arguments are invalid
   usage : IsUsage args → DimacsOutput args input dimacs_usage status.Usage
-  -- they give a budget
-  read : (budget : ℕ) (out : List ℕ) (end : Status) → HasBudget args budget
-      → Decides budget input out end
+  -- they give options
+  read : (options : Options) (out : List ℕ) (end : Status) → HasOptions args options
+      → Decides options input out end
       → DimacsOutput args input out end

@@ -1,5 +1,5 @@
 -- When a verdict on a text is right.
-use Rattle.std.specs.Prelude.{ℕ, Bool, List, [], ◌∷◌, length, ⊤}
+use Rattle.std.specs.Prelude.{◌≡◌, ℕ, Bool, true, false, List, [], ◌∷◌, length, ⊤}
 use Rattle.clause_core.specs.declared.literal.Lit.{Lit}
 use Rattle.clause_core.specs.declared.formula.Formula.{Formula}
 use Rattle.clause_core.specs.Assignment.{valuation}
@@ -7,7 +7,9 @@ use Rattle.clause_core.specs.Clause.{HasExactly, SatisfiesAll, IsUnsatisfiable}
 use Rattle.refutation_log.specs.declared.refutation.Log.{Log}
 use Rattle.sat_solver.specs.Outcome.{Refutes, Spends}
 use Rattle.dimacs.specs.declared.verdict.Verdict.{Verdict}
-use Rattle.dimacs.specs.declared.verdict.Verdict.TheVariants.{Satisfiable, Unsatisfiable, Unknown}
+use Rattle.dimacs.specs.declared.verdict.Verdict.TheVariants.{Satisfiable, Unsatisfiable, Proved, Unknown}
+use Rattle.lrat_text.specs.Proof.{IsProofOf}
+use Rattle.dimacs.specs.declared.arguments.Options.{Options}
 use Rattle.dimacs.specs.Dimacs.{IsDimacs}
 
 -- each clause holds the literals of the written one at its index
@@ -37,6 +39,11 @@ pub record IsRefuted (text : List ℕ) (budget : ℕ) : Type 0 where
   pub refutes : Refutes formula budget log
   pub none : IsUnsatisfiable read.written
 
+-- so it is, and the proof is that of the log
+pub record IsProved (text : List ℕ) (budget : ℕ) (proof : List ℕ) : Type 0 where
+  pub refuted : IsRefuted text budget
+  pub proves : IsProofOf refuted.formula refuted.log proof
+
 -- the text is a formula, of which a log of as many new clauses as the budget has no empty one
 pub record IsUndecided (text : List ℕ) (budget : ℕ) : Type 0 where
   pub formula : Formula
@@ -44,8 +51,10 @@ pub record IsUndecided (text : List ℕ) (budget : ℕ) : Type 0 where
   pub log : Log
   pub spends : Spends formula budget log
 
--- the verdict on the text is right; the budget binds the log of a refutation, and that of `unknown`
-abbrev pub IsRightVerdict : List ℕ → ℕ → Verdict → Type 0
-IsRightVerdict text budget (Satisfiable assignment stats) = IsSatisfied text assignment
-IsRightVerdict text budget (Unsatisfiable stats) = IsRefuted text budget
-IsRightVerdict text budget (Unknown stats) = IsUndecided text budget
+-- the verdict on the text is right; the budget binds the log of a refutation, and that of `unknown`,
+-- and a refutation comes with its proof exactly if one is asked for
+abbrev pub IsRightVerdict : List ℕ → Options → Verdict → Type 0
+IsRightVerdict text o (Satisfiable assignment stats) = IsSatisfied text assignment
+IsRightVerdict text o (Unsatisfiable stats) = (o.lrat ≡ false) × IsRefuted text o.budget
+IsRightVerdict text o (Proved proof) = (o.lrat ≡ true) × IsProved text o.budget proof
+IsRightVerdict text o (Unknown stats) = IsUndecided text o.budget

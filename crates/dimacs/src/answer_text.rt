@@ -1,5 +1,5 @@
 ghost use Rattle.std.specs.Prelude.{◌≡◌, ◌++◌, IfOk, OnOk};
-ghost use Rattle.dimacs.specs.AnswerText.{answer_text, assignment_lines, count_text, stats_line, value_line, value_lines, verdict_lines};
+ghost use Rattle.dimacs.specs.AnswerText.{answer_text, assignment_lines, count_text, stats_line, value_line, value_lines};
 
 use super::verdict::Verdict;
 use clause_core::{Assignment, Lit};
@@ -10,24 +10,37 @@ use std::alloc::Global;
 use text_lines::push_decimal;
 
 /// The lines of a verdict.
-pub fn answer_of(alloc: Global, verdict: &Verdict) -> Result<Bytes, NoMemory>
-    ensures { IfOk result (λ text. text ≡ answer_text verdict.now) }
+pub fn answer_of(alloc: Global, verdict: Verdict) -> Result<Bytes, NoMemory>
+    ensures { IfOk result (λ text. text ≡ answer_text verdict) }
 {
-    let mut text = Bytes::new(alloc);
-    push_stats(&mut text, verdict.stats())?;
-    push_verdict(&mut text, verdict)?;
+    match verdict {
+        Verdict::Satisfiable { assignment, stats } => {
+            let mut text = stats_text(alloc, stats)?;
+            push_assignment(&mut text, &assignment)?;
+            Ok(text)
+        }
+        Verdict::Unsatisfiable { stats } => with_line(alloc, stats, b"s UNSATISFIABLE\n"),
+        Verdict::Proved { proof } => Ok(proof),
+        Verdict::Unknown { stats } => with_line(alloc, stats, b"s UNKNOWN\n"),
+    }
+}
+
+/// The line that says how much was done, and this one.
+fn with_line(alloc: Global, stats: SearchStats, line: &[u8]) -> Result<Bytes, NoMemory>
+    ensures { IfOk result (λ text. text ≡ stats_line stats ++ line.now) }
+{
+    let mut text = stats_text(alloc, stats)?;
+    text.append(line)?;
     Ok(text)
 }
 
-/// Appends the lines of what is known.
-fn push_verdict(text: &mut Bytes, verdict: &Verdict) -> Result<(), NoMemory>
-    ensures { OnOk result (text.new ≡ text.old ++ verdict_lines verdict.now) }
+/// The line that says how much was done.
+fn stats_text(alloc: Global, stats: SearchStats) -> Result<Bytes, NoMemory>
+    ensures { IfOk result (λ text. text ≡ stats_line stats) }
 {
-    match verdict {
-        Verdict::Satisfiable { assignment, .. } => push_assignment(text, assignment),
-        Verdict::Unsatisfiable { .. } => text.append(b"s UNSATISFIABLE\n"),
-        Verdict::Unknown { .. } => text.append(b"s UNKNOWN\n"),
-    }
+    let mut text = Bytes::new(alloc);
+    push_stats(&mut text, stats)?;
+    Ok(text)
 }
 
 /// Appends the lines of an assignment that satisfies.

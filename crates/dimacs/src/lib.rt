@@ -18,10 +18,13 @@ mod token;
 mod verdict;
 mod words;
 
+pub use arguments::Options;
 pub use call::run;
 pub use decision::decide;
-pub use laws::stops_once;
+pub use laws::{formulas_are_as_written, stops_once};
+pub use lines::formula_of;
 pub use refusal::Refusal;
+pub use reply::refused_line;
 pub use request::Request;
 pub use status::Status;
 pub use verdict::Verdict;

@@ -1,9 +1,9 @@
-ghost use Rattle.std.specs.Prelude.{ℕ, ◌+◌, ◌^◌, ◌<◌, ◌≤◌, [], length, IfOk, IfErr};
+ghost use Rattle.std.specs.Prelude.{◌+◌, ◌^◌, ◌<◌, ◌≤◌, [], length, IfOk, IfErr};
 ghost use Rattle.std.specs.Option.{option_copied};
 ghost use Rattle.dimacs.specs.Dimacs.{variable_limit};
 ghost use Rattle.dimacs.specs.Verdict.{IsFormulaOf};
 ghost use Rattle.dimacs.specs.inner.Reading.{AreRead, IsUnread, lines_in};
-ghost use Rattle.dimacs.specs.Refusal.{IsCauseOf};
+ghost use Rattle.dimacs.specs.Refusal.{IsUnreadable};
 
 use super::clauses::clauses_of;
 use super::header::start_of;
@@ -26,7 +26,7 @@ struct Tokens {
 /// The formula that the text is.
 pub fn formula_of(alloc: Global, text: &[u8]) -> Result<Formula, Refusal>
     ensures ok { IfOk result (IsFormulaOf text.now) }
-    ensures err { (budget : ℕ) → IfErr result (IsCauseOf text.now budget) }
+    ensures err { IfErr result (IsUnreadable text.now) }
 {
     let start = start_of(text)?;
     let header = start.header;

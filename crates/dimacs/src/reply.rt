@@ -2,6 +2,7 @@ ghost use Rattle.std.specs.Prelude.{◌≡◌, ◌≤◌, length, IfOk};
 ghost use Rattle.dimacs.specs.Output.{Decides, dimacs_input_limit, dimacs_usage, refused_length, refused_line};
 
 use super::answer_text::answer_of;
+use super::arguments::Options;
 use super::decision::decide;
 use super::refusal::Refusal;
 use super::status::Status;
@@ -15,7 +16,7 @@ pub fn usage(alloc: Global) -> Result<Reply<Status>, NoMemory>
     ensures { IfOk result (λ reply. (reply.text ≡ dimacs_usage) × (reply.status ≡ Status.Usage)) }
 {
     Ok(Reply {
-        text: Bytes::from_slice(alloc, b"usage: dimacs_sat [--budget N]\n")?,
+        text: Bytes::from_slice(alloc, b"usage: dimacs_sat [--lrat] [--budget N]\n")?,
         status: Status::Usage,
     })
 }
@@ -32,16 +33,16 @@ pub fn too_long(alloc: Global) -> Result<Reply<Status>, NoMemory>
 }
 
 /// The reply to an input that is not too long.
-pub fn decided(alloc: Global, budget: u32, text: &[u8]) -> Result<Reply<Status>, NoMemory>
-    requires some { 1 ≤ budget }
-    requires few { budget ≤ 2147483647 }
+pub fn decided(alloc: Global, options: Options, text: &[u8]) -> Result<Reply<Status>, NoMemory>
+    requires some { 1 ≤ options.budget }
+    requires few { options.budget ≤ 2147483647 }
     requires short { length text.now ≤ dimacs_input_limit }
-    ensures { IfOk result (λ reply. Decides budget text.now reply.text reply.status) }
+    ensures { IfOk result (λ reply. Decides options text.now reply.text reply.status) }
 {
-    match decide(alloc, budget, text) {
+    match decide(alloc, options, text) {
         Ok(verdict) => Ok(Reply {
-            text: answer_of(alloc, &verdict)?,
             status: verdict.status(),
+            text: answer_of(alloc, verdict)?,
         }),
         Err(Refusal::Line(line)) => Ok(Reply {
             text: refused_line(alloc, line)?,
@@ -53,7 +54,7 @@ pub fn decided(alloc: Global, budget: u32, text: &[u8]) -> Result<Reply<Status>,
 }
 
 /// The line of a refusal, with the number of the line at which reading stops.
-fn refused_line(alloc: Global, line: u64) -> Result<Bytes, NoMemory>
+pub fn refused_line(alloc: Global, line: u64) -> Result<Bytes, NoMemory>
     ensures { IfOk result (λ text. text ≡ refused_line line) }
 {
     let mut text = Bytes::from_slice(alloc, b"refused line ")?;

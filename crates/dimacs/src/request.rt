@@ -2,23 +2,23 @@ ghost use Rattle.dimacs.specs.Output.{DimacsOutput, dimacs_input_limit};
 ghost use Rattle.dimacs.specs.Call.{AsksForInput};
 ghost use Rattle.dimacs.specs.inner.Request.{IsRequest};
 
-use super::arguments::budget_of;
+use super::arguments::{Options, options_of};
 use super::reply::{decided, too_long, usage};
 use super::status::Status;
 use list_base::NoMemory;
 use program_frame::{Program, Reply};
 use std::alloc::Global;
 
-/// What the arguments request: a formula decided with their budget. Invalid ones give none.
+/// What the arguments request: a formula decided with their options. Invalid ones give none.
 #[derive(Clone, Copy, Debug)]
 pub struct Request {
-    budget: Option<u32>,
+    options: Option<Options>,
 }
 
 impl<'a> Program<'a> for Request {
     type Status = Status;
 
-    ghost requests = { λ args request. IsRequest args request.budget };
+    ghost requests = { λ args request. IsRequest args request.options };
 
     ghost asks = { AsksForInput };
 
@@ -28,7 +28,7 @@ impl<'a> Program<'a> for Request {
 
     fn request(alloc: Global, args: &'a [String]) -> Result<Request, NoMemory> {
         Ok(Request {
-            budget: budget_of(args),
+            options: options_of(args),
         })
     }
 
@@ -37,12 +37,12 @@ impl<'a> Program<'a> for Request {
     }
 
     fn asks_input(&self) -> bool {
-        self.budget.is_some()
+        self.options.is_some()
     }
 
     fn reply_to(&self, alloc: Global, input: &[u8]) -> Result<Reply<Status>, NoMemory> {
-        match self.budget {
-            Some(budget) => decided(alloc, budget, input),
+        match self.options {
+            Some(options) => decided(alloc, options, input),
             None => usage(alloc),
         }
     }

@@ -1,5 +1,6 @@
 use super::status::Status;
 use clause_core::Assignment;
+use list_base::Bytes;
 use sat_solver::SearchStats;
 
 /// What is known of a formula, and how much was done for it.
@@ -14,6 +15,10 @@ pub enum Verdict {
     Unsatisfiable {
         stats: SearchStats,
     },
+    /// No assignment satisfies it, as this proof in LRAT form shows.
+    Proved {
+        proof: Bytes,
+    },
     /// The allowed conflicts were not enough.
     Unknown {
         stats: SearchStats,
@@ -22,19 +27,7 @@ pub enum Verdict {
 
 impl Verdict {
     ghost use Rattle.std.specs.Prelude.{◌≡◌};
-    ghost use Rattle.dimacs.specs.AnswerText.{stats_of};
     ghost use Rattle.dimacs.specs.Status.{status_of};
-
-    /// How much was done for it.
-    pub fn stats(&self) -> SearchStats
-        ensures { result ≡ stats_of self.now }
-    {
-        match self {
-            Verdict::Satisfiable { stats, .. }
-            | Verdict::Unsatisfiable { stats }
-            | Verdict::Unknown { stats } => *stats,
-        }
-    }
 
     /// The status of a call that writes it.
     pub fn status(&self) -> Status
@@ -42,7 +35,7 @@ impl Verdict {
     {
         match self {
             Verdict::Satisfiable { .. } => Status::Satisfiable,
-            Verdict::Unsatisfiable { .. } => Status::Unsatisfiable,
+            Verdict::Unsatisfiable { .. } | Verdict::Proved { .. } => Status::Unsatisfiable,
             Verdict::Unknown { .. } => Status::Unknown,
         }
     }

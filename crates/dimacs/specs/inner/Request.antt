@@ -1,8 +1,9 @@
 -- What the arguments request, as the code keeps it.
 use Rattle.std.specs.Prelude.{ℕ, ◌≤◌, List, Option, None, Some}
-use Rattle.dimacs.specs.Arguments.{HasBudget, IsUsage}
+use Rattle.dimacs.specs.declared.arguments.Options.{Options}
+use Rattle.dimacs.specs.Arguments.{HasOptions, IsUsage}
 
--- they give this budget, which is in range, or none
-abbrev pub IsRequest : List (List ℕ) → Option ℕ → Type 0
+-- they give these options, whose budget is in range, or none
+abbrev pub IsRequest : List (List ℕ) → Option Options → Type 0
 IsRequest args None = IsUsage args
-IsRequest args (Some budget) = HasBudget args budget × (1 ≤ budget) × (budget ≤ 2147483647)
+IsRequest args (Some o) = HasOptions args o × (1 ≤ o.budget) × (o.budget ≤ 2147483647)

@@ -9,7 +9,7 @@ use Rattle.dimacs.proofs.lines.formula_of.Goals as goal
 
 pub returns-in_err-start-clause-err : goal.returns-in_err-start-clause-err
 returns-in_err-start-clause-err c =
-    λ budget. handed_on _ _ _ c.from_residual.ensures.1 (start_cause c.args.text.now budget _ c.in_err-start.ensures.err)
+    handed_on _ _ _ c.from_residual.ensures.1 (start_cause c.args.text.now _ c.in_err-start.ensures.err)
 
 pub tokens_of-requires-clause-short : goal.tokens_of-requires-clause-short
 tokens_of-requires-clause-short c =
@@ -18,19 +18,19 @@ tokens_of-requires-clause-short c =
 
 pub returns-in_err-tokens-clause-err : goal.returns-in_err-tokens-clause-err
 returns-in_err-tokens-clause-err c =
-    λ budget. handed_on _ _ _ c.from_residual-in_err-tokens.ensures.1 (words_cause c.args.text.now _ _ _ _ budget _ c.in_ok-start.ensures.ok c.in_ok-start.ensures.counted c.in_err-tokens.ensures.err)
+    handed_on _ _ _ c.from_residual-in_err-tokens.ensures.1 (words_cause c.args.text.now _ _ _ _ _ c.in_ok-start.ensures.ok c.in_ok-start.ensures.counted c.in_err-tokens.ensures.err)
 
 pub returns-in_default-clause-err : goal.returns-in_default-clause-err
 returns-in_default-clause-err c =
     let open_end = rw c.as_slice.ensures at (rw c.in_default.is at c.in_ok-clauses.ensures) in
     let read = c.in_ok-tokens.ensures.ok in
-    λ budget. (no_end c.args.text.now _ _ _ c.in_ok-tokens.tokens.items c.in_ok-start.ensures.ok (all_read _ _ _ _ _ read) read.exist open_end, end_stops _ _ _ _ _ _ _ c.in_ok-start.ensures.ok c.in_ok-start.ensures.counted read)
+    (no_end c.args.text.now _ _ _ c.in_ok-tokens.tokens.items c.in_ok-start.ensures.ok (all_read _ _ _ _ _ read) read.exist open_end, end_stops _ _ _ _ _ _ _ c.in_ok-start.ensures.ok c.in_ok-start.ensures.counted read)
 
 pub returns-then-len-from-clause-err : goal.returns-then-len-from-clause-err
 returns-then-len-from-clause-err c =
     let are = rw c.as_slice.ensures at (rw c.in-Some.is at c.in_ok-clauses.ensures) in
     let read = c.in_ok-tokens.ensures.ok in
-    λ budget. (other_count c.args.text.now _ _ _ c.in_ok-tokens.tokens.items c.in-Some.clauses c.in_ok-start.ensures.ok (all_read _ _ _ _ _ read) read.exist are (λ same. c.if-len-from.true (omega arith)), end_stops _ _ _ _ _ _ _ c.in_ok-start.ensures.ok c.in_ok-start.ensures.counted read)
+    (other_count c.args.text.now _ _ _ c.in_ok-tokens.tokens.items c.in-Some.clauses c.in_ok-start.ensures.ok (all_read _ _ _ _ _ read) read.exist are (λ same. c.if-len-from.true (omega arith)), end_stops _ _ _ _ _ _ _ c.in_ok-start.ensures.ok c.in_ok-start.ensures.counted read)
 
 pub returns-in-Some-of-clause-ok : goal.returns-in-Some-of-clause-ok
 returns-in-Some-of-clause-ok c =

@@ -1,4 +1,4 @@
--- The answer with the budget that the arguments give is an output, and so is the usage line to invalid ones.
+-- The answer with the options that the arguments give is an output, and so is the usage line to invalid ones.
 use Rattle.std.proofs.Common.{◌≡◌}
 use Rattle.std.proofs.lemmas.Result.{IfOk-weaker}
 use Rattle.program_frame.specs.declared.reply.Reply.{Reply}
@@ -11,8 +11,8 @@ use Rattle.dimacs.proofs.request.RequestProgram.reply_to.Goals as goal
 pub returns-in-Some : goal.returns-in-Some
 returns-in-Some c =
     λ args request. let has = (rw c.in-Some.is at request).0 in
-    IfOk-weaker c.decided.result (λ (r : Reply Status). Decides c.in-Some.budget c.args.input.now r.text r.status) (λ (r : Reply Status). DimacsOutput args c.args.input.now r.text r.status)
-    (λ r decides. read c.in-Some.budget r.text r.status has decides) c.decided.ensures
+    IfOk-weaker c.decided.result (λ (r : Reply Status). Decides c.in-Some.options c.args.input.now r.text r.status) (λ (r : Reply Status). DimacsOutput args c.args.input.now r.text r.status)
+    (λ r decides. read c.in-Some.options r.text r.status has decides) c.decided.ensures
 
 pub returns-in-None : goal.returns-in-None
 returns-in-None c =
