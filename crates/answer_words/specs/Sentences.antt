@@ -1,0 +1,75 @@
+-- The sentences: for each fault what is wrong, and what to do.
+use Rattle.std.specs.Prelude.{ℕ, List, [], ◌++◌, codes}
+use Rattle.answer_words.specs.declared.fault.Fault.{Fault}
+use Rattle.answer_words.specs.declared.fault.Fault.TheVariants as fault
+
+-- what is wrong: up to the first name of the refusal, or all of it
+abbrev pub opening : Fault → List ℕ
+opening fault.NoPart = codes "the command needs the part "
+opening fault.NoProtocol = codes "the text declares no protocol "
+opening fault.NoMessage = codes "the protocol has no message "
+opening fault.Cycle = codes "references lead from the protocol "
+opening fault.KeyMissing = codes "the message "
+opening fault.ToItself = codes "the message "
+opening fault.ParameterTwice = codes "the message "
+opening fault.TooLong = codes "the input has more bytes than may be read"
+opening fault.OverLimit = codes "this count is over its limit"
+opening fault.BadByte = codes "no word and no sign of the language begins with this byte"
+opening fault.BadToken = codes "no protocol has this there, or the text ends too early"
+opening fault.NameTwice = codes "this name is declared a second time"
+opening fault.UnknownName = codes "this name is not declared"
+opening fault.OtherArity = codes "this protocol has another number of roles or of parameters"
+opening fault.BadAdornment = codes "this adornment is not supported, or not the declared one"
+opening fault.NoKey = codes "no public parameter is a key, to tell enactments apart"
+opening fault.KeyElsewhere = codes "`key` is on a name that the protocol does not declare as a key"
+opening fault.LogForm = codes "a log has no such line there, or it ends too early"
+opening fault.LogNumber = codes "a number in this line is 0 or over 2147483647"
+opening fault.RunForm = codes "a run has no such line there, or it ends too early"
+opening fault.ScriptForm = codes "a script has no such line there"
+opening fault.ScriptName = codes "the protocol has no such role, message or parameter to script"
+opening fault.HistoryForm = codes "histories have no such line there, or they end too early"
+
+-- after the first name
+abbrev pub middle : Fault → List ℕ
+middle fault.NoPart = codes ", which no part line begins, or not the first"
+middle fault.Cycle = codes " back to it"
+middle fault.KeyMissing = codes " does not bind the key "
+middle fault.ToItself = codes " goes to the role that sends it"
+middle fault.ParameterTwice = codes " has the parameter "
+middle fault = []
+
+-- after the second
+abbrev pub ending : Fault → List ℕ
+ending fault.ParameterTwice = codes " twice"
+ending fault = []
+
+-- what is wrong, with the names of the refusal
+abbrev pub wrong : Fault → List ℕ → List ℕ → List ℕ
+wrong fault one other = opening fault ++ one ++ middle fault ++ other ++ ending fault
+
+-- what to do, unless the place says it
+abbrev pub advice : Fault → List ℕ
+advice fault.NoPart = codes "write it alone in its line, as `%% agents`, and end the line above"
+advice fault.TooLong = codes "give a shorter input"
+advice fault.BadToken = codes "write one of these, or mend what is before the mark"
+advice fault.NoProtocol =
+    codes "ask for a name that the text declares; that of the file does not count"
+advice fault.NoMessage = codes "ask for a message that `bspl expand` prints"
+advice fault.NameTwice = codes "give one of the two another name"
+advice fault.UnknownName = codes "correct the name, or declare it"
+advice fault.OtherArity = codes "give each of its roles and adorned public parameters, in its order"
+advice fault.BadAdornment = codes "write `in`, `out` or `nil`, and in a reference the declared one"
+advice fault.Cycle = codes "take one of these references away"
+advice fault.OverLimit = codes "split the protocol; docs/LANGUAGE.md has a table of the limits"
+advice fault.NoKey = codes "mark one, as in `parameters out ID key, out item`"
+advice fault.KeyMissing = codes "add it: `out` where an enactment begins, `in` elsewhere"
+advice fault.KeyElsewhere = codes "take `key` away there, or mark the public parameter"
+advice fault.ToItself = codes "let another role receive it; what one role does alone is no message"
+advice fault.ParameterTwice = codes "keep one; `out` includes the test of `nil`"
+advice fault.LogForm = codes "lines are `log 1 safety`, `step CLAUSE PIVOT CLAUSE ..` and `end`"
+advice fault.LogNumber = codes "clauses and variables are counted from 1"
+advice fault.RunForm = codes "lines are `run 1`, `send MESSAGE PARAM=VALUE ..`, `receive ..`, `end`"
+advice fault.ScriptName = codes "`order` lists messages of its role, and `value` an `out` parameter"
+advice fault.HistoryForm =
+    codes "after `histories 1` each role has `role ROLE` and its own events; then `end`"
+advice fault = []

@@ -1,0 +1,4 @@
+-- What only private functions cite.
+pub mod Common
+pub mod Added
+pub mod Choice

@@ -1,0 +1,66 @@
+ghost use Rattle.std.specs.Prelude.{◌≡◌};
+ghost use Rattle.std.specs.Option.{option_map};
+ghost use Rattle.tool_input.specs.Parts.{first_part};
+ghost use Rattle.answer_words.specs.Place.{spot_of};
+ghost use Rattle.answer_words.specs.Refusal.{field_place, name_of, number_of, part_place, shown_line};
+
+use super::place::{Place, line_of, place_of};
+use tool_input::{Code, Field, first_part};
+
+/// The place of a refusal in the whole input, if it has one.
+pub(crate) fn field_place<'a>(
+    input: &'a [u8],
+    code: Code,
+    field: &Option<Field>,
+) -> Option<Place<'a>>
+    ensures { option_map spot_of result ≡ field_place input.now code field.now }
+{
+    let Some(Field::Number(n)) = field else {
+        return None;
+    };
+    match code {
+        Code::P(_) => None,
+        Code::E(_) => Some(place_of(input, *n)),
+        Code::L(_) | Code::W(_) | Code::S(_) | Code::H(_) => part_place(input, *n),
+    }
+}
+
+/// The n-th line of the part, in the whole input.
+fn part_place(input: &[u8], n: u64) -> Option<Place<'_>>
+    ensures { option_map spot_of result ≡ part_place input.now n (first_part input.now) }
+{
+    let (_, part) = first_part(input)?;
+    let begin = place_of(input, (input.len() - part.len()) as u64);
+    Some(line_of(part, begin.line, n))
+}
+
+/// The number of a field, or 0.
+pub(crate) fn number_of(field: &Option<Field>) -> u64
+    ensures { result ≡ number_of field.now }
+{
+    match field {
+        Some(Field::Number(n)) => *n,
+        _ => 0,
+    }
+}
+
+/// The name of a field, if it is one.
+pub(crate) fn name_of(field: &Option<Field>) -> &[u8]
+    ensures { result.now ≡ name_of field.now }
+{
+    match field {
+        Some(Field::Name(name)) => name.as_slice(),
+        Some(Field::Part(part)) => part.name(),
+        _ => b"",
+    }
+}
+
+/// The line at the place.
+pub(crate) fn shown_line<'a>(place: &Option<Place<'a>>) -> &'a [u8]
+    ensures { result.now ≡ shown_line (option_map spot_of place.now) }
+{
+    match place {
+        Some(place) => place.shown,
+        None => b"",
+    }
+}

@@ -1,0 +1,132 @@
+ghost use Rattle.std.specs.Prelude.{◌≡◌, ◌++◌, OnOk};
+ghost use Rattle.answer_words.specs.Sentences.{advice, ending, middle, opening, wrong};
+
+use super::fault::Fault;
+use list_base::{Bytes, NoMemory};
+
+/// Appends what is wrong, with the names of the refusal.
+pub(crate) fn push_wrong(
+    text: &mut Bytes,
+    fault: Fault,
+    one: &[u8],
+    other: &[u8],
+) -> Result<(), NoMemory>
+    ensures { OnOk result (text.new ≡ text.old ++ wrong fault one.now other.now) }
+{
+    push_around(
+        text,
+        opening(fault),
+        one,
+        middle(fault),
+        other,
+        ending(fault),
+    )
+}
+
+/// Appends two names with what is around them.
+pub(crate) fn push_around(
+    text: &mut Bytes,
+    before: &[u8],
+    one: &[u8],
+    between: &[u8],
+    other: &[u8],
+    after: &[u8],
+) -> Result<(), NoMemory>
+    ensures { OnOk result (text.new ≡
+        text.old ++ before.now ++ one.now ++ between.now ++ other.now ++ after.now) }
+{
+    text.append(before)?;
+    text.append(one)?;
+    text.append(between)?;
+    text.append(other)?;
+    text.append(after)
+}
+
+/// What is wrong, up to the first name.
+fn opening(fault: Fault) -> &'static [u8]
+    ensures { result.now ≡ opening fault }
+{
+    match fault {
+        Fault::NoPart => b"the command needs the part ",
+        Fault::NoProtocol => b"the text declares no protocol ",
+        Fault::NoMessage => b"the protocol has no message ",
+        Fault::Cycle => b"references lead from the protocol ",
+        Fault::KeyMissing => b"the message ",
+        Fault::ToItself => b"the message ",
+        Fault::ParameterTwice => b"the message ",
+        Fault::TooLong => b"the input has more bytes than may be read",
+        Fault::OverLimit => b"this count is over its limit",
+        Fault::BadByte => b"no word and no sign of the language begins with this byte",
+        Fault::BadToken => b"no protocol has this there, or the text ends too early",
+        Fault::NameTwice => b"this name is declared a second time",
+        Fault::UnknownName => b"this name is not declared",
+        Fault::OtherArity => b"this protocol has another number of roles or of parameters",
+        Fault::BadAdornment => b"this adornment is not supported, or not the declared one",
+        Fault::NoKey => b"no public parameter is a key, to tell enactments apart",
+        Fault::KeyElsewhere => b"`key` is on a name that the protocol does not declare as a key",
+        Fault::LogForm => b"a log has no such line there, or it ends too early",
+        Fault::LogNumber => b"a number in this line is 0 or over 2147483647",
+        Fault::RunForm => b"a run has no such line there, or it ends too early",
+        Fault::ScriptForm => b"a script has no such line there",
+        Fault::ScriptName => b"the protocol has no such role, message or parameter to script",
+        Fault::HistoryForm => b"histories have no such line there, or they end too early",
+    }
+}
+
+/// What comes after the first name.
+fn middle(fault: Fault) -> &'static [u8]
+    ensures { result.now ≡ middle fault }
+{
+    match fault {
+        Fault::NoPart => b", which no part line begins, or not the first",
+        Fault::Cycle => b" back to it",
+        Fault::KeyMissing => b" does not bind the key ",
+        Fault::ToItself => b" goes to the role that sends it",
+        Fault::ParameterTwice => b" has the parameter ",
+        _ => b"",
+    }
+}
+
+/// What comes after the second name.
+fn ending(fault: Fault) -> &'static [u8]
+    ensures { result.now ≡ ending fault }
+{
+    match fault {
+        Fault::ParameterTwice => b" twice",
+        _ => b"",
+    }
+}
+
+/// What to do, unless the place says it.
+pub(crate) fn advice(fault: Fault) -> &'static [u8]
+    ensures { result.now ≡ advice fault }
+{
+    match fault {
+        Fault::NoPart => b"write it alone in its line, as `%% agents`, and end the line above",
+        Fault::TooLong => b"give a shorter input",
+        Fault::BadToken => b"write one of these, or mend what is before the mark",
+        Fault::NoProtocol => {
+            b"ask for a name that the text declares; that of the file does not count"
+        }
+        Fault::NoMessage => b"ask for a message that `bspl expand` prints",
+        Fault::NameTwice => b"give one of the two another name",
+        Fault::UnknownName => b"correct the name, or declare it",
+        Fault::OtherArity => b"give each of its roles and adorned public parameters, in its order",
+        Fault::BadAdornment => b"write `in`, `out` or `nil`, and in a reference the declared one",
+        Fault::Cycle => b"take one of these references away",
+        Fault::OverLimit => b"split the protocol; docs/LANGUAGE.md has a table of the limits",
+        Fault::NoKey => b"mark one, as in `parameters out ID key, out item`",
+        Fault::KeyMissing => b"add it: `out` where an enactment begins, `in` elsewhere",
+        Fault::KeyElsewhere => b"take `key` away there, or mark the public parameter",
+        Fault::ToItself => b"let another role receive it; what one role does alone is no message",
+        Fault::ParameterTwice => b"keep one; `out` includes the test of `nil`",
+        Fault::LogForm => b"lines are `log 1 safety`, `step CLAUSE PIVOT CLAUSE ..` and `end`",
+        Fault::LogNumber => b"clauses and variables are counted from 1",
+        Fault::RunForm => b"lines are `run 1`, `send MESSAGE PARAM=VALUE ..`, `receive ..`, `end`",
+        Fault::ScriptName => b"`order` lists messages of its role, and `value` an `out` parameter",
+        Fault::HistoryForm => {
+            b"after `histories 1` each role has `role ROLE` and its own events; then `end`"
+        }
+        _ => b"",
+    }
+}
