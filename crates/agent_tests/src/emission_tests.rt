@@ -1,9 +1,5 @@
-ghost use Rattle.std.specs.Prelude.{◌≡◌, ◌==◌, length};
-ghost use Rattle.std.specs.List.{filter, list_any};
-ghost use Rattle.bspl_types.specs.Choice.{is_chosen};
-
-use super::fixtures::{alone, has_room, hold, is_number, key, make_room, store};
-use bspl_types::{Adornment, Carried, Key, Stamped, Value};
+use super::fixtures::{alone, count_chosen, has_room, hold, is_number, key, make_room, store};
+use bspl_types::{Key, Stamped, Value};
 use local_store::Store;
 use role_knowledge::Block;
 use std::alloc::Global;
@@ -108,30 +104,6 @@ const CASES: &[Case] = &[
         events: 0,
     },
 ];
-
-/// How many values the sender chooses.
-fn count_chosen(keys: &[u32], carried: &[Carried]) -> usize
-    ensures { result ≡ length (filter (is_chosen keys.now) carried.now) }
-{
-    carried.iter().filter(|c| is_chosen(keys, **c)).count()
-}
-
-/// Whether the parameter is adorned `out` and is no key.
-fn is_chosen(keys: &[u32], c: Carried) -> bool
-    ensures { result ≡ is_chosen keys.now c }
-{
-    match c.adornment {
-        Adornment::Out => !is_key(keys, c.param),
-        Adornment::In | Adornment::Nil => false,
-    }
-}
-
-/// Whether the parameter is a key.
-fn is_key(keys: &[u32], param: u32) -> bool
-    ensures { result ≡ list_any (λ key. key == param) keys.now }
-{
-    keys.iter().any(|key| *key == param)
-}
 
 /// Whether the answer is the outcome.
 fn is_outcome(answer: &Result<Stamped, Block>, wanted: &Outcome) -> bool {

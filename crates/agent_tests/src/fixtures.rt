@@ -1,14 +1,23 @@
-ghost use Rattle.std.specs.Prelude.{◌≡◌, ◌<◌, [], ◌∷◌, IsTrue, IfOk};
-ghost use Rattle.std.specs.List.{Contains};
+ghost use Rattle.std.specs.Prelude.{◌≡◌, ◌==◌, ◌<◌, [], ◌∷◌, IsTrue, IfOk, length};
+ghost use Rattle.std.specs.List.{Contains, filter, list_any};
+ghost use Rattle.bspl_types.specs.Choice.{is_chosen};
 ghost use Rattle.stamped_history.specs.Entries.{clock_limit, last_stamp};
 
 use adornment_check::admit;
 use bspl_parser::{parse, reads_back};
-use bspl_types::{Admitted, Expanded, Key, NoMemory, Refusal, Seq, Value};
+use bspl_types::{Admitted, Adornment, Carried, Expanded, Key, NoMemory, Refusal, Seq, Value};
 use local_store::Store;
 use protocol_expand::expand;
 use std::alloc::Global;
 use std::test::Fail;
+
+/// A asks B (1) with a text x, and B tells A.
+pub(crate) const TALK: &[u8] = b"P {
+  roles A, B
+  parameters out ID key, out x, out y
+  A -> B: ask[out ID, out x]
+  B -> A: tell[in ID, in x, out y]
+}";
 
 /// The key of these numbers, if there are one or two.
 pub(crate) fn key(numbers: &[u64]) -> Option<Key> {
@@ -90,4 +99,28 @@ pub(crate) fn has_room(store: &Store, key: &Key) -> bool
     ensures clock { IsTrue result → last_stamp store.now.entries < clock_limit }
 {
     store.holds(key) && store.spare() > 0 && store.clock() < u64::MAX
+}
+
+/// How many values the sender chooses.
+pub(crate) fn count_chosen(keys: &[u32], carried: &[Carried]) -> usize
+    ensures { result ≡ length (filter (is_chosen keys.now) carried.now) }
+{
+    carried.iter().filter(|c| is_chosen(keys, **c)).count()
+}
+
+/// Whether the parameter is adorned `out` and is no key.
+fn is_chosen(keys: &[u32], c: Carried) -> bool
+    ensures { result ≡ is_chosen keys.now c }
+{
+    match c.adornment {
+        Adornment::Out => !is_key(keys, c.param),
+        Adornment::In | Adornment::Nil => false,
+    }
+}
+
+/// Whether the parameter is a key.
+fn is_key(keys: &[u32], param: u32) -> bool
+    ensures { result ≡ list_any (λ key. key == param) keys.now }
+{
+    keys.iter().any(|key| *key == param)
 }

@@ -4,6 +4,10 @@
 #[cfg(test)]
 mod audit_tests;
 #[cfg(test)]
+mod durable_fixtures;
+#[cfg(test)]
+mod durable_tests;
+#[cfg(test)]
 mod emission_tests;
 #[cfg(test)]
 mod fixtures;
@@ -13,5 +17,7 @@ mod loss_tests;
 mod reception_tests;
 #[cfg(test)]
 mod start_tests;
+#[cfg(test)]
+mod stop_tests;
 #[cfg(test)]
 mod world_tests;

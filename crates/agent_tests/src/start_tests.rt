@@ -1,18 +1,10 @@
-use super::fixtures::{admitted, alone};
+use super::fixtures::{TALK, admitted, alone};
 use bspl_types::{Admitted, Event, Instance, Key, Text32, Value, Values};
 use durable_store::{DurableStore, StartRefusal};
 use role_journal::{Disk, MemDisk, append, count_places};
 use stamped_history::Entry;
 use std::alloc::Global;
 use std::test::Fail;
-
-/// A asks B (1) with a text x, and B tells A.
-const TALK: &[u8] = b"P {
-  roles A, B
-  parameters out ID key, out x, out y
-  A -> B: ask[out ID, out x]
-  B -> A: tell[in ID, in x, out y]
-}";
 
 /// The bytes of three places.
 const SIZE: u64 = 1686;

@@ -4,10 +4,12 @@ use adapter::OpenGate;
 use bspl_io::{MemSink, MemSource};
 use bspl_tool::bspl;
 use dimacs::run;
+use formula_check::dimacs_check;
 use formula_text::bspl_formula;
 use joint_enactment::bspl_can;
 use list_base::{Bytes, NoMemory};
 use lrat_export::bspl_lrat;
+use protocol_page::bspl_page;
 use std::alloc::Global;
 use std::sync::Wait;
 use std::thread::Threads;
@@ -122,7 +124,9 @@ fn status_of<H: Threads + Wait + Sync>(
         "bspl_formula" => Some(formula_status(alloc, args, source, sink)),
         "bspl_can" => Some(can_status(alloc, args, source, sink)),
         "bspl_lrat" => Some(lrat_status(alloc, args, source, sink)),
+        "bspl_page" => Some(page_status(alloc, args, source, sink)),
         "dimacs_sat" => Some(dimacs_status(alloc, args, source, sink)),
+        "dimacs_check" => Some(check_status(alloc, args, source, sink)),
         _ => None,
     }
 }
@@ -154,8 +158,16 @@ fn lrat_status(alloc: Global, args: &[String], source: &mut MemSource, sink: &mu
     bspl_lrat(alloc, args, source, sink).number()
 }
 
+fn page_status(alloc: Global, args: &[String], source: &mut MemSource, sink: &mut MemSink) -> u8 {
+    bspl_page(alloc, args, source, sink).number()
+}
+
 fn dimacs_status(alloc: Global, args: &[String], source: &mut MemSource, sink: &mut MemSink) -> u8 {
     run(alloc, args, source, sink).number()
+}
+
+fn check_status(alloc: Global, args: &[String], source: &mut MemSource, sink: &mut MemSink) -> u8 {
+    dimacs_check(alloc, args, source, sink).number()
 }
 
 /// The words of a command, which are parted by blanks.
