@@ -3,11 +3,12 @@ import os
 import shutil
 import subprocess
 import sys
+import tempfile
 from pathlib import Path
 
 HERE = Path(__file__).resolve().parent
 TOP = HERE.parent.parent
-BUILT = Path(os.environ.get("BUILT", "/tmp/bspl-bench"))
+BUILT = Path(os.environ.get("BUILT", Path(tempfile.gettempdir()) / "bspl-bench"))
 
 
 def copy_crates():

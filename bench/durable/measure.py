@@ -3,8 +3,8 @@
 
     bench/durable/measure.py [EVENTS ..]
 
-A program in Rattle (speed.rattle), which is proved and built in a copy of the repository (BUILT, /tmp/bspl-bench),
-lets the middle role of Relay take EVENTS (20000 and 100000) events, half of them receipts and half emissions, each
+A program in Rattle (speed.rattle), which is proved and built in a copy of the repository (BUILT, or a folder among the
+temporary files), lets the middle role of Relay take EVENTS (20000 and 100000) events, half of them receipts and half emissions, each
 half under keys of their own: in a store alone, and in a durable store over a MemDisk; and it starts a store from the
 disk that then holds them. Before each call the program asks the store whether it may be made, in both. A program in C
 (sqlite.c) puts as many rows into a table, each in a transaction of its own, with the rollback journal in memory and

@@ -11,8 +11,8 @@ bytes, in each subset if at most ten are not 0, else a thousand times at random;
 each of the 256 bytes. A start has to find the entries before it, and this one too exactly if its gate is 1. The lines
 count what was found; `WRONG` is an error.
 
-The program (stops.rattle) is tried and not proved, in a copy of the repository (BUILT, /tmp/bspl-bench), and takes
-minutes for each protocol. SECONDS_EACH (600) is the most that the checked program may take.
+The program (stops.rattle) is tried and not proved, in a copy of the repository (BUILT, or a folder among the temporary
+files), and takes minutes for each protocol. SECONDS_EACH (600) is the most that the checked program may take.
 """
 import os
 import sys
