@@ -38,4 +38,5 @@ pub record SaysRejected (text : List ℕ) (log : Log) (out : List ℕ) (status :
 
 -- it is one or the other
 abbrev pub IsLogAnswer : List ℕ → Log → List ℕ → Status → Type 0
-IsLogAnswer text log out status = SaysAccepted text log out status ⊎ SaysRejected text log out status
+IsLogAnswer text log out status =
+    SaysAccepted text log out status ⊎ SaysRejected text log out status

@@ -74,7 +74,7 @@ says-fewer order lits l pair x y is differ says = elim (Contains-push_cases lits
       elim differ [ inl row ↦ absurd (row same.0) | inr column ↦ absurd (column same.1) ]
 ]
 
--- what is told of a pair is told of all kinds
+-- what is known of a pair is known of all kinds
 tells-all : (order : Order) (before now : List Lit) (pair : KindPair) (value : ℕ) → (x y old new : ℕ) → Tells old (Says order before x y) → (((x ≢ pair.first) ⊎ (y ≢ pair.second)) → (new ≡ old) × (Says order before x y → Says order now x y) × (Says order now x y → Says order before x y)) → ((x ≡ pair.first) → (y ≡ pair.second) → Tells new (Says order now x y)) → Tells new (Says order now x y)
 tells-all order before now pair value x y old new told others here = elim (cases_pair x y pair.first pair.second) [
   | inl same ↦ here same.0 same.1

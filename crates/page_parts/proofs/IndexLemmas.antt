@@ -4,7 +4,7 @@ use Rattle.std.specs.List.{enumerate_from, flat_map}
 use Rattle.std.proofs.lemmas.List.{take_all}
 use Rattle.std.proofs.lemmas.List.FromFn.{get_or-enumerate_from, length-enumerate_from}
 use Rattle.page_parts.specs.Fragment.{Fragment, written}
-use Rattle.page_parts.specs.Writing.{written_next}
+use Rattle.page_parts.proofs.WritingLemmas.{written_next}
 
 -- a list with its indices, and one item more
 pub enumerate_more : {X : Type 0} (f : ℕ × X → List Fragment) (old : List ℕ) (xs : List X) (k : ℕ) (d : X) → k < length xs → (old ++ written (flat_map f (take k (enumerate_from 0 xs)))) ++ written (f (k, get_or xs k d)) ≡ old ++ written (flat_map f (take (k + 1) (enumerate_from 0 xs)))

@@ -1,2 +1,3 @@
 pub mod IndexLemmas
 pub mod MarkupLemmas
+pub mod WritingLemmas

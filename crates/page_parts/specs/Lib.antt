@@ -1,8 +1,7 @@
 -- Fragments and how they are written, that names and values add no markup, the tables of a protocol,
--- the style, and how fragments are written one after another.
+-- and the style.
 pub mod Fragment
 pub mod Piece
 pub mod Markup
 pub mod Tables
 pub mod Style
-pub mod Writing

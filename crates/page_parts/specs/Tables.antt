@@ -88,7 +88,8 @@ source_start name = Tag (codes "<tr><th scope=\"row\">") ∷ Words name ∷ Tag 
 -- the row of a parameter, with a cell for each role
 abbrev pub source_row : Expanded → ℕ × ParamInfo → List Fragment
 source_row x (p, info) =
-    source_start info.name ++ flat_map (λ (role, _). source_cell x p role) (enumerate_from 0 x.roles) ++
+    source_start info.name ++
+    flat_map (λ (role, _). source_cell x p role) (enumerate_from 0 x.roles) ++
     Tag (codes "</tr>\n") ∷ []
 
 -- the head of a role's column

@@ -33,7 +33,7 @@ fn push_heads(text: &mut Bytes) -> Result<(), NoMemory>
 }
 
 /// Appends the row of each message.
-#[tactic(auto, using(crate::specs::Writing::written_next))]
+#[tactic(auto, using(crate::proofs::WritingLemmas::written_next))]
 fn push_rows(text: &mut Bytes, x: &Expanded, messages: &[Message]) -> Result<(), NoMemory>
     ensures { OnOk result (text.new ≡
         text.old ++ written (flat_map (message_row x.now) messages.now)) }
@@ -76,7 +76,7 @@ fn push_row_start<'x>(
 }
 
 /// Appends the parameters of a message.
-#[tactic(auto, using(crate::specs::Writing::written_next))]
+#[tactic(auto, using(crate::proofs::WritingLemmas::written_next))]
 fn push_params(text: &mut Bytes, x: &Expanded, carried: &[Carried]) -> Result<(), NoMemory>
     ensures { OnOk result (text.new ≡
         text.old ++ written (flat_map (param_item x.now) carried.now)) }

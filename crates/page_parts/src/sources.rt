@@ -46,7 +46,7 @@ fn push_caption(text: &mut Bytes) -> Result<(), NoMemory>
 }
 
 /// Appends the heads of the roles' columns.
-#[tactic(auto, using(crate::specs::Writing::written_next))]
+#[tactic(auto, using(crate::proofs::WritingLemmas::written_next))]
 fn push_roles(text: &mut Bytes, roles: &[Name]) -> Result<(), NoMemory>
     ensures { OnOk result (text.new ≡ text.old ++ written (flat_map role_head roles.now)) }
 {
@@ -83,7 +83,7 @@ fn push_rows(text: &mut Bytes, x: &Expanded, params: &[ParamInfo]) -> Result<(),
 }
 
 /// Appends the row of a parameter.
-#[tactic(auto, using(crate::specs::Writing::written_three))]
+#[tactic(auto, using(crate::proofs::WritingLemmas::written_three))]
 fn push_row(text: &mut Bytes, x: &Expanded, param: usize, info: &ParamInfo) -> Result<(), NoMemory>
     ensures { OnOk result (text.new ≡ text.old ++ written (source_row x.now (param, info.now))) }
 {
@@ -120,7 +120,7 @@ fn push_cells(text: &mut Bytes, x: &Expanded, param: usize, roles: &[Name]) -> R
 }
 
 /// Appends the messages from which the role can learn the parameter.
-#[tactic(auto, using(crate::specs::Writing::written_three))]
+#[tactic(auto, using(crate::proofs::WritingLemmas::written_three))]
 fn push_cell(text: &mut Bytes, x: &Expanded, param: usize, role: usize) -> Result<(), NoMemory>
     ensures { OnOk result (text.new ≡ text.old ++ written (source_cell x.now param role)) }
 {
@@ -130,7 +130,7 @@ fn push_cell(text: &mut Bytes, x: &Expanded, param: usize, role: usize) -> Resul
 }
 
 /// Appends the names of those of the messages from which the role can learn the parameter.
-#[tactic(auto, using(crate::specs::Writing::written_next))]
+#[tactic(auto, using(crate::proofs::WritingLemmas::written_next))]
 fn push_items(
     text: &mut Bytes,
     messages: &[Message],

@@ -7,7 +7,7 @@ use super::piece::{Piece, push_pieces};
 use list_base::{Bytes, NoMemory};
 
 /// Appends the style.
-#[tactic(auto, using(crate::specs::Writing::written_five))]
+#[tactic(auto, using(crate::proofs::WritingLemmas::written_five))]
 pub fn push_style(text: &mut Bytes) -> Result<(), NoMemory>
     ensures { OnOk result (text.new ≡ text.old ++ written style) }
 {

@@ -1,1 +1,1 @@
--- This crate has no lemmas of its own.
+pub mod WritingLemmas

@@ -23,7 +23,8 @@ use Rattle.wire_form.specs.Request.{Asks, Field, Request, emit, fields_data, rec
 -- the text under the parameter's name spells the value
 pub record IsGiven (x : Expanded) (fields : List Field) (c : Carried) (v : Value) : Type 0 where
   pub value : IsValue v
-  pub given : get_member (param_name x c.param) (fields_data fields) ≡ Some (string (value_spelling v))
+  pub given : get_member (param_name x c.param) (fields_data fields)
+      ≡ Some (string (value_spelling v))
 
 -- a message that the role receives, with exactly these values
 pub record MeansArrival (x : Expanded) (role : ℕ) (message : List ℕ) (fields : List Field)
@@ -31,7 +32,8 @@ pub record MeansArrival (x : Expanded) (role : ℕ) (message : List ℕ) (fields
   pub fits : Fits x m.instance
   pub named : message_name x m.instance.message ≡ message
   pub own : (message_of x m.instance.message).receiver ≡ role
-  pub given : AllZip (IsGiven x fields) (valued (message_of x m.instance.message).carried) m.instance.values
+  pub given : AllZip (IsGiven x fields) (valued (message_of x m.instance.message).carried)
+      m.instance.values
   pub no_other : length fields ≡ length m.instance.values
 
 -- a message that the role sends, with a value for each key and for each choice of its sender

@@ -42,7 +42,8 @@ attempt_data key message outs = object
 -- the request as JSON
 abbrev pub request_data : Request → Data
 request_data (receive message count stamp values) =
-    object (member (codes "receive") (sent_data message count stamp (fields_data values)) no_members)
+    object
+    (member (codes "receive") (sent_data message count stamp (fields_data values)) no_members)
 request_data (emit key message outs) =
     object (member (codes "emit") (attempt_data key message outs) no_members)
 

@@ -4,7 +4,7 @@ use Rattle.std.specs.List.{flat_map}
 use Rattle.bspl_types.specs.declared.protocol.Message.{Message}
 use Rattle.page_parts.specs.Fragment.{written}
 use Rattle.page_parts.specs.Tables.{message_row}
-use Rattle.page_parts.specs.Writing.{written_next}
+use Rattle.page_parts.proofs.WritingLemmas.{written_next}
 use Rattle.page_parts.proofs.messages.push_rows.Goals as goal
 
 pub loop-message-preserved : goal.loop-message-preserved

@@ -3,7 +3,7 @@ use Rattle.std.proofs.Common.{◌≡◌, ◌∷◌, [], ◌++◌, codes, List, �
 use Rattle.std.specs.List.{enumerate_from, flat_map}
 use Rattle.page_parts.specs.Fragment.{Fragment, Tag, written}
 use Rattle.page_parts.specs.Tables.{role_head, source_caption}
-use Rattle.page_parts.specs.Writing.{written_three}
+use Rattle.page_parts.proofs.WritingLemmas.{written_three}
 use Rattle.page_parts.proofs.sources.push_head.Goals as goal
 
 pub returns : goal.returns

@@ -3,7 +3,7 @@ use Rattle.std.proofs.Common.{◌≡◌, ◌∷◌, [], ◌++◌, codes, List, �
 use Rattle.bspl_types.specs.declared.expanded.Expanded.{Expanded}
 use Rattle.page_parts.specs.Fragment.{Fragment, Tag, written}
 use Rattle.page_parts.specs.Tables.{message_table, source_table}
-use Rattle.page_parts.specs.Writing.{written_six}
+use Rattle.page_text.proofs.WritingLemmas.{written_all}
 use Rattle.page_text.specs.Page.{page_head, title}
 use Rattle.page_text.specs.Sections.{liveness_section, safety_section}
 use Rattle.page_text.proofs.page.page_text.Goals as goal
@@ -23,4 +23,4 @@ returns c =
     let five = c.in_ok-push_sources.ensures ∙ ap (λ (ys : List ℕ). ys ++ written (source_table x)) four in
     let six = c.in_ok-push_pieces.ensures ∙ ap (λ (ys : List ℕ). ys ++ written last) five in
     subst (λ (shown : Expanded). c.push_pieces.new.text ≡ written (page_head (title shown v) ++ safety ++ liveness ++ message_table shown ++ source_table shown ++ last)) c.expanded-x.ensures.same
-    (six ∙ written_six [] head safety liveness (message_table x) (source_table x) last)
+    (six ∙ written_all [] head (safety ∷ liveness ∷ message_table x ∷ source_table x ∷ last ∷ []))

@@ -3,7 +3,7 @@ use Rattle.std.proofs.Common.{◌≡◌, ◌∷◌, [], ◌++◌, codes, List, �
 use Rattle.page_parts.specs.Fragment.{Fragment, Tag, written}
 use Rattle.page_parts.specs.Piece.{fragment_of}
 use Rattle.page_parts.specs.Style.{style}
-use Rattle.page_parts.specs.Writing.{written_seven}
+use Rattle.page_text.proofs.WritingLemmas.{written_all}
 use Rattle.page_text.specs.Page.{page_start}
 use Rattle.page_text.proofs.page.push_head.Goals as goal
 
@@ -20,5 +20,5 @@ returns c =
     let body = c.in_ok-push_pieces-3.ensures ∙ ap (λ (ys : List ℕ). ys ++ written third) styled in
     let headed = c.in_ok-push_pieces-4.ensures ∙ ap (λ (ys : List ℕ). ys ++ written name) body in
     subst (λ (text : List ℕ). OnOk c.push_pieces-5.result (c.push_pieces-5.new.text ≡ text))
-    (ap (λ (ys : List ℕ). ys ++ written last) headed ∙ written_seven c.args.text.now page_start name second style third name last)
+    (ap (λ (ys : List ℕ). ys ++ written last) headed ∙ written_all c.args.text.now page_start (name ∷ second ∷ style ∷ third ∷ name ∷ last ∷ []))
     c.push_pieces-5.ensures

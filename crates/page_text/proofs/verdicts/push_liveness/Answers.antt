@@ -1,5 +1,5 @@
 -- The run follows what names the parameter that stays open.
-use Rattle.page_parts.specs.Writing.{written_two}
+use Rattle.page_text.proofs.WritingLemmas.{written_two}
 use Rattle.page_text.specs.Sections.{not_live_words, run_part}
 use Rattle.page_text.proofs.verdicts.push_liveness.Goals as goal
 

@@ -1,5 +1,5 @@
 -- The run follows what names its events.
-use Rattle.page_parts.specs.Writing.{written_two}
+use Rattle.page_text.proofs.WritingLemmas.{written_two}
 use Rattle.page_text.specs.Sections.{run_part, unsafe_words}
 use Rattle.page_text.proofs.verdicts.push_safety.Goals as goal
 
