@@ -1,7 +1,10 @@
 -- The steps of the pass that takes the doubles out of a sorted list.
-use Rattle.std.proofs.Common.{◌≡◌, ◌↔◌, inl, inr, ℕ, ◌+◌, ◌-◌, ◌<◌, ◌≤◌, List, [], ◌∷◌, ◌++◌, length, get_or, take, Contains, sym, ap, ◌∙◌, arith, length-take, get_or-take, take_all}
+use Rattle.std.proofs.Common.{◌≡◌, ◌↔◌, inl, inr, ℕ, ◌+◌, ◌-◌, ◌<◌, ◌≤◌, List, [], ◌∷◌, ◌++◌, length, get_or, take, drop, Contains, sym, subst, ap, ◌∙◌, arith, length-take, get_or-take, take_all}
 use Rattle.std.proofs.lemmas.List.{take_more}
+use Rattle.std.proofs.Math.Seq.{take-append_seam}
+use Rattle.std.specs.List.{AllAdjacentBelow}
 use Rattle.std.specs.List.Sorted.{IsNonDecreasingBy}
+use Rattle.std.proofs.lemmas.List.Sorted.{IsNonDecreasingBy-from_all_adjacent}
 use Rattle.std.proofs.lemmas.Bool.{cases_eq, cases_lt}
 use Rattle.std.proofs.lemmas.List.Elements.{Contains-append_left, Contains-push_cases, Contains-get_or, at_from_Contains}
 use Rattle.clause_core.specs.declared.literal.Lit.{Lit}
@@ -11,6 +14,23 @@ use Rattle.clause_core.specs.inner.Insertion.{Inserts}
 use Rattle.clause_core.proofs.LiteralLemmas.{same_rank}
 use Rattle.clause_core.proofs.ClauseLemmas.{ascending_push}
 use Rattle.list_base.proofs.Members.{end_same}
+
+-- a list whose items are all replaced is the new list
+pub all_replaced : (old new : List Lit) → length old ≡ length new → take (length old) (new ++ drop (length new) old) ≡ new
+all_replaced old new same = rw same (take-append_seam new (drop (length new) old))
+
+-- literals of which each comes before the next ascend
+pub ascending_steps : (xs : List Lit) (i : ℕ) → length xs ≤ i → AllAdjacentBelow (λ (x y : Lit). rank x < rank y) xs i → IsAscending xs
+ascending_steps xs i all steps =
+    let rising = IsNonDecreasingBy-from_all_adjacent rank xs (λ k d below. let step = steps k d (omega (arith, below, all)) in omega (arith, step)) in
+    record {
+      ordered = λ a b d before within.
+          let next : (b - 1) + 1 ≡ b = omega (arith, before) in
+          let step = steps (b - 1) d (omega (arith, before, within, all)) in
+          let last : rank (get_or xs (b - 1) d) < rank (get_or xs b d) = subst (λ (k : ℕ). rank (get_or xs (b - 1) d) < rank (get_or xs k d)) next step in
+          let first = rising a (b - 1) d (omega (arith, before)) (omega (arith, within)) in
+          omega (arith, first, last);
+    }
 
 -- `kept` has the first `i` literals of the list, each once
 pub record IsDistinct (sorted : List Lit) (i : ℕ) (kept : List Lit) : Type 0 where

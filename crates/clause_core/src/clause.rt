@@ -1,8 +1,8 @@
 ghost use Rattle.std.specs.Prelude.{◌≡◌, IfOk, IsTrue, ◌↔◌, Contains};
 ghost use Rattle.clause_core.specs.Clause.{IsAscending, HasExactly, VariablesExist};
 
-use super::distinct::distinct;
-use super::literal::Lit;
+use super::distinct::{ascend, distinct, sorted};
+use super::literal::{Lit, Lits};
 use list_base::{NoMemory, Seq, TryClone};
 use std::alloc::Global;
 use std::marker::Model;
@@ -10,7 +10,7 @@ use std::marker::Model;
 /// A disjunction of literals, each of them once, in ascending order.
 #[derive(Drop)]
 pub struct Clause {
-    lits: Seq<Lit>,
+    lits: Lits,
 }
 
 /// Clauses, in order.
@@ -23,9 +23,9 @@ impl Model for Clause {
 
     ghost Value = { List Lit };
 
-    ghost view = { λ c. c.lits };
+    ghost view = { λ c. c.lits.items };
 
-    ghost invariant = { λ c. IsAscending c.lits };
+    ghost invariant = { λ c. IsAscending c.lits.items };
 }
 
 impl Clause {
@@ -33,17 +33,19 @@ impl Clause {
     pub fn of(alloc: Global, lits: &[Lit]) -> Result<Clause, NoMemory>
         ensures { IfOk result (λ clause. HasExactly clause lits.now) }
     {
-        let mut sorted = Vec::from_slice(alloc, lits)?;
-        sorted.sort_unstable_by_key(|lit| lit.rank());
+        let sorted = sorted(alloc, lits)?;
+        if ascend(sorted.as_slice()) {
+            return Ok(Clause { lits: sorted });
+        }
         Ok(Clause {
             lits: distinct(alloc, sorted.as_slice())?,
         })
     }
 
     /// The clause of literals that ascend already.
-    pub(crate) fn ascending(lits: Seq<Lit>) -> Clause
-        requires { IsAscending lits }
-        ensures { result ≡ lits }
+    pub(crate) fn ascending(lits: Lits) -> Clause
+        requires { IsAscending lits.items }
+        ensures { result ≡ lits.items }
     {
         Clause { lits }
     }
@@ -74,7 +76,7 @@ impl Clause {
 impl TryClone for Clause {
     fn try_clone(&self) -> Result<Clause, NoMemory> {
         Ok(Clause {
-            lits: self.lits.try_clone()?,
+            lits: self.lits.clone()?,
         })
     }
 }

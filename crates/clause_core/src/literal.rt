@@ -2,9 +2,13 @@ ghost use Rattle.std.specs.Prelude.{◌≡◌, ℕ, Bool, ◌↔◌};
 ghost use Rattle.clause_core.specs.Literal.{rank, negated, MakesTrue};
 
 use list_base::{NoMemory, TryClone};
+use smallvec::SmallVec;
+
+/// Literals, in order. Up to three of them take no memory of their own.
+pub(crate) type Lits = SmallVec<Lit, 3>;
 
 /// A variable, counted from 1, or its negation.
-#[derive(Clone, Copy, Debug, PartialEq, Eq)]
+#[derive(Clone, Copy, Debug, Default, PartialEq, Eq)]
 pub struct Lit {
     pub var: u32,
     pub positive: bool,

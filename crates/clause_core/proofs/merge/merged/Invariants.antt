@@ -5,7 +5,7 @@ use Rattle.clause_core.proofs.merge.merged.Given as goal
 
 -- what was kept and what is left make up the union
 abbrev pub invariant-merge : goal.invariant-merge
-invariant-merge l = IsMerging l.c l.left l.d l.right l.first l.second l.kept
+invariant-merge l = IsMerging l.c l.left l.d l.right l.first l.second l.kept.items
 
 abbrev pub decreases-merge : goal.decreases-merge
 decreases-merge l = length l.first + length l.second
