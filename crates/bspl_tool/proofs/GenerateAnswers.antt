@@ -3,6 +3,7 @@ use Rattle.std.proofs.Common.{◌≡◌, ℕ, List, ◌++◌, ◌∙◌, ap, sub
 use Rattle.agent_scripts.specs.Job.{Job}
 use Rattle.bspl_types.specs.declared.expanded.Expanded.{Expanded}
 use Rattle.program_frame.specs.declared.reply.Reply.{Reply}
+use Rattle.report.specs.ExitStatus.{verdict_status}
 use Rattle.report.specs.Summary.{generated_text}
 use Rattle.tool_input.specs.declared.status.Status.{Status}
 use Rattle.verdict.specs.declared.outcome.Verdicts.{Verdicts}
@@ -10,7 +11,6 @@ use Rattle.verdict.specs.Verdicts.{AreRight}
 use Rattle.bspl_tool.specs.declared.answer.Answer.{Answer}
 use Rattle.bspl_tool.specs.declared.world_report.WorldReport.TheVariants.{Summary}
 use Rattle.bspl_tool.specs.GenerateAnswer.{IsGenerateAnswer, IsSummedUp}
-use Rattle.bspl_tool.specs.VerifyAnswer.{verdict_status}
 use Rattle.bspl_tool.specs.inner.Answer.{IsRightAnswer, PlaysIfSafe}
 use Rattle.bspl_tool.specs.inner.Job.{IsGivenJob}
 

@@ -3,12 +3,13 @@ use Rattle.std.proofs.Common.{◌≡◌, ℕ, Bool, List, ◌∙◌, subst}
 use Rattle.agent_scripts.specs.Job.{Job}
 use Rattle.bspl_types.specs.declared.expanded.Expanded.{Expanded}
 use Rattle.program_frame.specs.declared.reply.Reply.{Reply}
+use Rattle.report.specs.ExitStatus.{verdict_status}
 use Rattle.tool_input.specs.declared.status.Status.{Status}
 use Rattle.verdict.specs.declared.outcome.Verdicts.{Verdicts}
 use Rattle.bspl_tool.specs.declared.answer.Answer.{Answer}
 use Rattle.bspl_tool.specs.declared.world_report.WorldReport.TheVariants.{Table}
 use Rattle.bspl_tool.specs.RunAnswer.{IsJobAnswer, IsRunAnswer}
-use Rattle.bspl_tool.specs.VerifyAnswer.{IsVerdictAnswer, verdict_status}
+use Rattle.bspl_tool.specs.VerifyAnswer.{IsVerdictAnswer}
 use Rattle.bspl_tool.specs.inner.Answer.{IsRightAnswer, PlaysIfSafe}
 use Rattle.bspl_tool.specs.inner.Job.{IsGivenJob}
 

@@ -5,6 +5,7 @@ use Rattle.agent_scripts.specs.Job.{Job}
 use Rattle.agent_scripts.specs.Refusal.{IsScriptText}
 use Rattle.agent_scripts.specs.Script.{Script}
 use Rattle.bspl_types.specs.declared.expanded.Expanded.{Expanded}
+use Rattle.report.specs.ExitStatus.{verdict_status}
 use Rattle.report.specs.Summary.{generated_text}
 use Rattle.verdict.specs.declared.outcome.Verdicts.{Verdicts}
 use Rattle.verdict.specs.Verdicts.{AreRight}
@@ -14,7 +15,6 @@ use Rattle.bspl_tool.specs.declared.world_report.WorldReport.TheVariants.{Summar
 use Rattle.bspl_tool.specs.PlayedText.{AgentsText}
 use Rattle.bspl_tool.specs.Rules.{CommandRules}
 use Rattle.bspl_tool.specs.RunAnswer.{IsRunRefused}
-use Rattle.bspl_tool.specs.VerifyAnswer.{verdict_status}
 
 -- the output sums up right verdicts on the job's protocol, and then what its agents played; the
 -- status is that of the verdicts

@@ -7,6 +7,7 @@ use Rattle.agent_scripts.specs.Job.{Job}
 use Rattle.agent_scripts.specs.Refusal.{IsRefusedScript, IsScriptText}
 use Rattle.agent_scripts.specs.Script.{Script}
 use Rattle.bspl_types.specs.declared.expanded.Expanded.{Expanded}
+use Rattle.report.specs.ExitStatus.{verdict_status}
 use Rattle.verdict.specs.declared.outcome.Verdicts.{Verdicts}
 use Rattle.tool_input.specs.declared.parts.Part.TheVariants as part
 use Rattle.tool_input.specs.declared.rejection.Code.TheVariants.{S}
@@ -17,7 +18,7 @@ use Rattle.tool_input.specs.Rejection.{with_one}
 use Rattle.bspl_tool.specs.declared.world_report.WorldReport.TheVariants.{Table}
 use Rattle.bspl_tool.specs.PlayedText.{AgentsText}
 use Rattle.bspl_tool.specs.Rules.{CommandRules}
-use Rattle.bspl_tool.specs.VerifyAnswer.{IsVerdictAnswer, verdict_status}
+use Rattle.bspl_tool.specs.VerifyAnswer.{IsVerdictAnswer}
 
 -- the output is the text of right verdicts on the job's protocol and then that of its agents; the
 -- status is that of the verdicts

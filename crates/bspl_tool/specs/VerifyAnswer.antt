@@ -2,25 +2,13 @@
 use Rattle.std.specs.Prelude.{◌≡◌, ℕ, Bool, List, None}
 use Rattle.bspl_types.specs.declared.expanded.Expanded.{Expanded}
 use Rattle.enactment_model.specs.Producers.{HasOneProducer}
+use Rattle.report.specs.ExitStatus.{verdict_status}
 use Rattle.report.specs.VerdictText.{verdict_text}
-use Rattle.verdict.specs.declared.outcome.Liveness.{Liveness}
-use Rattle.verdict.specs.declared.outcome.Liveness.TheVariants as liveness
-use Rattle.verdict.specs.declared.outcome.Safety.{Safety}
-use Rattle.verdict.specs.declared.outcome.Safety.TheVariants as safety
 use Rattle.verdict.specs.declared.outcome.Verdicts.{Verdicts}
 use Rattle.verdict.specs.Right.{IsSafeByEmptyLog}
 use Rattle.verdict.specs.Verdicts.{AreRight}
 use Rattle.tool_input.specs.declared.status.Status.{Status}
-use Rattle.tool_input.specs.declared.status.Status.TheVariants.{Done, Refuted, Undecided}
 use Rattle.bspl_tool.specs.Rules.{CommandRules, NeverRefuses}
-
--- the status of both verdicts: one that refutes counts first, then one that is undecided
-abbrev pub verdict_status : Safety → Liveness → Status
-verdict_status (safety.Unsafe run param first second) l = Refuted
-verdict_status s (liveness.NotLive run param) = Refuted
-verdict_status (safety.Undecided log) l = Undecided
-verdict_status s (liveness.Undecided log) = Undecided
-verdict_status (safety.Safe log) (liveness.Live log') = Done
 
 -- the verdicts are right, and this is their text; without rival producers the protocol is safe by
 -- an empty log

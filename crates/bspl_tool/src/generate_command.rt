@@ -1,9 +1,9 @@
 ghost use Rattle.std.specs.Prelude.{◌≡◌, IfErr, IfOk};
+ghost use Rattle.report.specs.ExitStatus.{verdict_status};
 ghost use Rattle.report.specs.Summary.{generated_text};
 ghost use Rattle.verdict.specs.Verdicts.{AreRight};
 ghost use Rattle.bspl_tool.specs.GenerateAnswer.{IsGenerateAnswer};
 ghost use Rattle.bspl_tool.specs.RunAnswer.{IsRunRefused};
-ghost use Rattle.bspl_tool.specs.VerifyAnswer.{verdict_status};
 ghost use Rattle.bspl_tool.specs.inner.Answer.{IsPlayable, IsRightAnswer};
 ghost use Rattle.bspl_tool.specs.inner.Error.{RejectsFor};
 
@@ -11,12 +11,12 @@ use super::agents::{job_of, play_if_safe};
 use super::answer::Answer;
 use super::answer_error::AnswerError;
 use super::stage_count::StageCount;
-use super::verify_command::{VerdictReply, verdict_status};
+use super::verify_command::VerdictReply;
 use super::world_report::WorldReport;
 use bspl_types::{Admitted, NoMemory};
 use command_line::{Budget, ThreadCount};
 use program_frame::Reply;
-use report::generated_text;
+use report::{generated_text, verdict_status};
 use std::alloc::Global;
 
 /// Answers `generate` on a protocol of so many stages and the text of its agents. They are to play

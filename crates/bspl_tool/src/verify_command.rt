@@ -1,13 +1,14 @@
 ghost use Rattle.std.specs.Prelude.{◌≡◌, IfOk};
-ghost use Rattle.bspl_tool.specs.VerifyAnswer.{IsVerdictAnswer, IsVerifyAnswer, verdict_status};
+ghost use Rattle.report.specs.ExitStatus.{verdict_status};
+ghost use Rattle.bspl_tool.specs.VerifyAnswer.{IsVerdictAnswer, IsVerifyAnswer};
 
 use bspl_types::{Admitted, NoMemory};
 use command_line::Budget;
 use program_frame::Reply;
-use report::{right_runs_fit, verdict_text};
+use report::{right_runs_fit, verdict_status, verdict_text};
 use std::alloc::Global;
 use tool_input::Status;
-use verdict::{Liveness, Safety, Verdicts};
+use verdict::Verdicts;
 
 /// Verdicts, and what is written of them.
 #[derive(Drop)]
@@ -50,15 +51,4 @@ pub(crate) fn reply_with_verdicts(
     let status = verdict_status(&verdicts);
     let reply = Reply { status, text };
     Ok(VerdictReply { verdicts, reply })
-}
-
-/// The status of both verdicts.
-pub(crate) fn verdict_status(verdicts: &Verdicts) -> Status
-    ensures { result ≡ verdict_status verdicts.now.safety verdicts.now.liveness }
-{
-    match (&verdicts.safety, &verdicts.liveness) {
-        (Safety::Unsafe { .. }, _) | (_, Liveness::NotLive { .. }) => Status::Refuted,
-        (Safety::Undecided(_), _) | (_, Liveness::Undecided(_)) => Status::Undecided,
-        (Safety::Safe(_), Liveness::Live(_)) => Status::Done,
-    }
 }

@@ -11,14 +11,15 @@ use Rattle.verdict.specs.declared.outcome.Safety.{Safety}
 use Rattle.verdict.specs.declared.outcome.Safety.TheVariants as safety
 use Rattle.verdict.specs.Right.{IsRight}
 use Rattle.verdict.specs.RightLiveness.{IsRightLiveness}
-use Rattle.protocol_page.specs.Answer.{IsPageAnswer, page_status}
+use Rattle.protocol_page.specs.Answer.{IsPageAnswer}
+use Rattle.report.specs.ExitStatus.{verdict_status}
 
 -- a right verdict that the protocol is safe is true
 right_safe : (x : Expanded) (s : Safety) (log : Log) → s ≡ safety.Safe log → IsRight x 10000 s → SafeProtocol x
 right_safe x s log is right = (rw is at right).holds
 
 -- the status 0 is that of both verdicts
-both_done : (s : Safety) (l : Liveness) → status.Done ≡ page_status s l → ((log : Log) × (s ≡ safety.Safe log)) × ((log : Log) × (l ≡ liveness.Live log))
+both_done : (s : Safety) (l : Liveness) → status.Done ≡ verdict_status s l → ((log : Log) × (s ≡ safety.Safe log)) × ((log : Log) × (l ≡ liveness.Live log))
 both_done (safety.Safe log) (liveness.Live log') is = ((log, refl), (log', refl))
 both_done (safety.Safe log) (liveness.NotLive run param) is = absurd cc
 both_done (safety.Safe log) (liveness.Undecided log') is = absurd cc

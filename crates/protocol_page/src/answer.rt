@@ -1,14 +1,14 @@
 ghost use Rattle.std.specs.Prelude.{◌≡◌, IfOk};
-ghost use Rattle.protocol_page.specs.Answer.{IsPageAnswer, page_status};
+ghost use Rattle.protocol_page.specs.Answer.{IsPageAnswer};
 
 use bspl_types::Admitted;
 use list_base::NoMemory;
 use page_text::page_text;
 use program_frame::Reply;
-use report::right_runs_fit;
+use report::{right_runs_fit, verdict_status};
 use std::alloc::Global;
 use tool_input::Status;
-use verdict::{Liveness, Safety, Verdicts, verify};
+use verdict::verify;
 
 /// How many conflicts the search for each verdict may meet.
 const CONFLICTS: u32 = 10_000;
@@ -21,18 +21,7 @@ pub fn page_answer(alloc: Global, protocol: &Admitted) -> Result<Reply<Status>, 
     right_runs_fit();
     let verdicts = verify(alloc, protocol, CONFLICTS)?;
     Ok(Reply {
-        status: page_status(&verdicts),
+        status: verdict_status(&verdicts),
         text: page_text(alloc, protocol, &verdicts)?,
     })
-}
-
-/// The status of both verdicts.
-fn page_status(verdicts: &Verdicts) -> Status
-    ensures { result ≡ page_status verdicts.now.safety verdicts.now.liveness }
-{
-    match (&verdicts.safety, &verdicts.liveness) {
-        (Safety::Unsafe { .. }, _) | (_, Liveness::NotLive { .. }) => Status::Refuted,
-        (Safety::Undecided(_), _) | (_, Liveness::Undecided(_)) => Status::Undecided,
-        (Safety::Safe(_), Liveness::Live(_)) => Status::Done,
-    }
 }

@@ -4,6 +4,7 @@ pub mod Status
 pub mod ReplayLines
 pub mod ReplayText
 pub mod VerdictText
+pub mod ExitStatus
 pub mod WorldText
 pub mod Summary
 pub mod AuditText

@@ -3,6 +3,7 @@
 
 mod audit;
 mod count;
+mod exit_status;
 mod fields;
 mod keys;
 mod laws;
@@ -19,6 +20,7 @@ mod world_rows;
 mod world_totals;
 
 pub use audit::{bad_place_text, consistent_text, cycle_text};
+pub use exit_status::verdict_status;
 pub use laws::{replay_is_once, right_runs_fit};
 pub use replay::{Replay, replay_text};
 pub use status::Status;
