@@ -6,10 +6,11 @@ use Rattle.std.proofs.lemmas.List.Elements.{All-cons, All-head, All-map, All-nil
 use Rattle.std.proofs.lemmas.List.Splits.{length-slice_split}
 use Rattle.std.proofs.lemmas.List.Sums.{count_by-le-length}
 use Rattle.std.proofs.lemmas.Grind.{flat_map-append}
+use Rattle.clause_core.specs.declared.literal.Lit.{Lit}
 use Rattle.dimacs.specs.declared.token.Token.{Token}
 use Rattle.dimacs.specs.Dimacs.{HasHeader, IsHeader, from_first_words, has_words, line_words, text_lines}
 use Rattle.dimacs.specs.RefusedLine.{IsClauseLine, IsClauseWord, StopsAt, all_words, no_header, no_words, other_word}
-use Rattle.dimacs.specs.inner.Reading.{AreHeadless, AreRead, HasBadLine, TokenExists, token_word}
+use Rattle.dimacs.specs.inner.Reading.{AreHeadless, AreRead, AreTaken, HasBadLine, TakesWords, TokenExists, token_word}
 use Rattle.dimacs.proofs.FormulaLemmas.{words_of_all}
 use Rattle.dimacs.proofs.ReadingLemmas.{all_after, all_before}
 
@@ -36,40 +37,40 @@ pub some_line : (text : List ℕ) → 1 ≤ length (text_lines text)
 some_line text = omega (arith, length-slice_split (λ byte. byte == 10) text)
 
 -- a line more
-pub line_read : (vars : ℕ) (tokens new : List Token) (lines : List (List ℕ)) (line : List ℕ) (left : List (List ℕ)) (from n : ℕ) → AreRead vars tokens lines (line ∷ left) from n → map token_word new ≡ map token_word tokens ++ line_words line → All (TokenExists vars) new → AreRead vars new lines left from (n + 1)
-line_read vars tokens new lines line left from n read grown exist = record {
-  before = read.before ++ line ∷ [];
-  parts = read.parts ∙ sym (append_assoc read.before (line ∷ []) left);
-  words =
-      grown ∙ ap (λ ws. ws ++ line_words line) read.words
-      ∙ ap (λ ws. flat_map line_words read.before ++ ws) (sym (append-nil (line_words line)))
-      ∙ sym (flat_map-append line_words read.before (line ∷ []));
-  exist = exist;
-  counted = omega (arith, read.counted);
-}
+pub line_read : (vars : ℕ) (clauses new : List (List Lit)) (pending after : List Lit) (lines : List (List ℕ)) (line : List ℕ) (left : List (List ℕ)) (from n : ℕ) → AreRead vars clauses pending lines (line ∷ left) from n → TakesWords vars clauses pending (line_words line) new after → AreRead vars new after lines left from (n + 1)
+line_read vars clauses new pending after lines line left from n read takes =
+    let words : flat_map line_words read.before ++ line_words line ≡ flat_map line_words (read.before ++ line ∷ []) =
+    ap (λ ws. flat_map line_words read.before ++ ws) (sym (append-nil (line_words line)))
+    ∙ sym (flat_map-append line_words read.before (line ∷ [])) in
+    record {
+      before = read.before ++ line ∷ [];
+      parts = read.parts ∙ sym (append_assoc read.before (line ∷ []) left);
+      taken = subst (λ (ws : List (List ℕ)). AreTaken vars ws new after) words (takes (flat_map line_words read.before) read.taken);
+      counted = omega (arith, read.counted);
+    }
 
 -- a line with a word of no clause
-pub line_unread : (vars : ℕ) (tokens : List Token) (lines : List (List ℕ)) (line : List ℕ) (left : List (List ℕ)) (from n : ℕ) → AreRead vars tokens lines (line ∷ left) from n → ¬ IsClauseLine vars line → HasBadLine vars lines from (n + 1)
-line_unread vars tokens lines line left from n read other = record {
+pub line_unread : (vars : ℕ) (clauses : List (List Lit)) (pending : List Lit) (lines : List (List ℕ)) (line : List ℕ) (left : List (List ℕ)) (from n : ℕ) → AreRead vars clauses pending lines (line ∷ left) from n → ¬ IsClauseLine vars line → HasBadLine vars lines from (n + 1)
+line_unread vars clauses pending lines line left from n read other = record {
   before = read.before;
   bad = line;
   after = left;
   parts = read.parts;
-  good = lines_of_tokens vars tokens read.before read.exist read.words;
+  good = lines_of_tokens vars read.taken.tokens read.before read.taken.exist read.taken.words_are;
   other = other;
   counted = omega (arith, read.counted);
 }
 
 -- if all lines were read, the tokens are their words
-pub all_read : (vars : ℕ) (tokens : List Token) (lines : List (List ℕ)) (from n : ℕ) → AreRead vars tokens lines [] from n → map token_word tokens ≡ flat_map line_words lines
-all_read vars tokens lines from n read =
-    read.words ∙ ap (flat_map line_words) (sym (read.parts ∙ append-nil read.before))
+pub all_read : (vars : ℕ) (clauses : List (List Lit)) (pending : List Lit) (lines : List (List ℕ)) (from n : ℕ) (read : AreRead vars clauses pending lines [] from n) → map token_word read.taken.tokens ≡ flat_map line_words lines
+all_read vars clauses pending lines from n read =
+    read.taken.words_are ∙ ap (flat_map line_words) (sym (read.parts ∙ append-nil read.before))
 
 -- reading stops at the last line if all after the header were read
-pub end_stops : (lines : List (List ℕ)) (vars count : ℕ) (after : List (List ℕ)) (tokens : List Token) (from n : ℕ) → HasHeader lines vars count after → from + length after ≡ length lines → AreRead vars tokens after [] from n → StopsAt lines n
-end_stops lines vars count after tokens from n header counted read = record {
+pub end_stops : (lines : List (List ℕ)) (vars count : ℕ) (after : List (List ℕ)) (clauses : List (List Lit)) (pending : List Lit) (from n : ℕ) → HasHeader lines vars count after → from + length after ≡ length lines → AreRead vars clauses pending after [] from n → StopsAt lines n
+end_stops lines vars count after clauses pending from n header counted read = record {
   after = [];
-  stops = all_words vars count after header (lines_of_tokens vars tokens after read.exist (all_read vars tokens after from n read));
+  stops = all_words vars count after header (lines_of_tokens vars read.taken.tokens after read.taken.exist (all_read vars clauses pending after from n read));
   counted = omega (arith, read.counted, counted);
 }
 

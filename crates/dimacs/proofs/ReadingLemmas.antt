@@ -1,7 +1,7 @@
 -- What is learnt of a word that is no number, no token or no header.
-use Rattle.std.proofs.Common.{◌≡◌, ◌≢◌, ℕ, ◌<◌, ◌≤◌, All, List, [], ◌∷◌, ◌++◌, map, Option, Some, None, IsSome, Result, Ok, Err, IfErr, IsErrAnd, inl, inr, refl, sym, ap, subst, ◌∙◌, arith, codes}
-use Rattle.std.proofs.lemmas.List.{append_assoc, map-append}
-use Rattle.std.proofs.lemmas.List.Elements.{All-cons, All-head, All-nil, All-tail}
+use Rattle.std.proofs.Common.{◌≡◌, ◌≢◌, ℕ, ◌<◌, ◌≤◌, All, List, [], ◌∷◌, ◌++◌, length, Option, Some, None, IsSome, Result, Ok, Err, IfErr, IsErrAnd, inl, inr, refl, sym, ap, subst, ◌∙◌, arith, codes}
+use Rattle.std.proofs.lemmas.List.{map-append}
+use Rattle.std.proofs.lemmas.List.Elements.{All-cons, All-head, All-nil, All-push, All-tail}
 use Rattle.clause_core.specs.declared.literal.Lit.{Lit}
 use Rattle.refutation_log.specs.declared.line_error.LineError.{LineError}
 use Rattle.refutation_log.specs.declared.line_error.LineError.TheVariants as errors
@@ -11,8 +11,9 @@ use Rattle.refutation_log.specs.LineParts.{IsReading}
 use Rattle.dimacs.specs.declared.token.Token.{Token}
 use Rattle.dimacs.specs.Dimacs.{variable_limit}
 use Rattle.dimacs.specs.RefusedLine.{IsClauseWord}
-use Rattle.dimacs.specs.inner.Reading.{token_word}
+use Rattle.dimacs.specs.inner.Reading.{AreClauses, AreTaken, TokenExists, token_word}
 use Rattle.dimacs.proofs.FormulaLemmas.{pivot_same}
+use Rattle.dimacs.proofs.TokenLemmas.{no_clauses}
 
 -- an error that is handed on has what it had
 pub handed_on : {A E : Type 0} (P : E → Type 0) (answer : Result A E) (error : E) → IsErrAnd answer (λ e. e ≡ error) → P error → IfErr answer P
@@ -38,15 +39,26 @@ no_variable vars word lit other is past (inr literal) =
     let exists = literal.exists in
     omega (arith, exists.1)
 
--- a word more is that of a token more
-pub word_more : (tokens new : List Token) (t : Token) (word : List ℕ) (rest left all : List (List ℕ)) → new ≡ tokens ++ t ∷ [] → token_word t ≡ word → left ≡ word ∷ rest → map token_word tokens ++ left ≡ all → map token_word new ++ rest ≡ all
-word_more tokens new t word rest left all grown is taken before =
-    ap (λ ts. map token_word ts ++ rest) grown
-    ∙ ap (λ ws. ws ++ rest) (map-append token_word tokens (t ∷ []))
-    ∙ append_assoc (map token_word tokens) (token_word t ∷ []) rest
-    ∙ ap (λ w. map token_word tokens ++ w ∷ rest) is
-    ∙ ap (λ ws. map token_word tokens ++ ws) (sym taken)
-    ∙ before
+-- a word more was taken as the token that it is
+pub word_taken : (vars : ℕ) (clauses new : List (List Lit)) (pending after : List Lit) (t : Token) (word : List ℕ) (before : List (List ℕ)) → token_word t ≡ word → TokenExists vars t → ((tokens : List Token) → AreClauses tokens clauses pending → AreClauses (tokens ++ t ∷ []) new after) → AreTaken vars before clauses pending → AreTaken vars (before ++ word ∷ []) new after
+word_taken vars clauses new pending after t word before is exists takes taken = record {
+  tokens = taken.tokens ++ t ∷ [];
+  words_are =
+      map-append token_word taken.tokens (t ∷ [])
+      ∙ ap (λ ws. ws ++ token_word t ∷ []) taken.words_are
+      ∙ ap (λ w. before ++ w ∷ []) is;
+  exist = All-push (TokenExists vars) taken.tokens t taken.exist exists;
+  clauses_are = takes taken.tokens taken.clauses_are;
+}
+
+-- a list without items
+pub empty_list : {X : Type 0} (xs : List X) → length xs ≡ 0 → xs ≡ []
+empty_list [] none = refl
+empty_list (x ∷ xs) none = cc
+
+-- nothing was taken yet
+pub none_taken : (vars : ℕ) → AreTaken vars [] [] []
+none_taken vars = record { tokens = []; words_are = refl; exist = All-nil (TokenExists vars); clauses_are = no_clauses }
 
 -- what holds of all items holds of the later ones
 pub all_after : {X : Type 0} (P : X → Type 0) (xs ys : List X) → All P (xs ++ ys) → All P ys

@@ -1,6 +1,6 @@
 -- Tokens make up clauses one by one, and their words are those of the clauses.
-use Rattle.std.proofs.Common.{◌≡◌, ℕ, suc, ◌+◌, ◌<◌, ◌≤◌, All, take, get_or, List, [], ◌∷◌, ◌++◌, map, length, refl, sym, ap, subst, ◌∙◌}
-use Rattle.std.proofs.lemmas.List.{take_more, append_assoc, map-append, append-nil}
+use Rattle.std.proofs.Common.{◌≡◌, ℕ, suc, ◌<◌, ◌≤◌, All, get_or, List, [], ◌∷◌, ◌++◌, map, length, refl, sym, ap, subst, ◌∙◌}
+use Rattle.std.proofs.lemmas.List.{append_assoc, map-append, append-nil}
 use Rattle.std.proofs.lemmas.List.Elements.{All-contains, All-cons, All-head, All-tail, Contains-get_or}
 use Rattle.std.proofs.lemmas.Grind.{flat_map-append}
 use Rattle.std.specs.List.{flat_map}
@@ -50,15 +50,6 @@ end_more tokens clauses pending c one are = record {
   tokens_are = ap (λ ts. ts ++ End ∷ []) are.tokens_are ∙ tokens_of_last are.written pending;
   same = exactly_push clauses are.written c pending are.same one;
 }
-
--- the same of the next token of a list
-pub literal_next : (tokens : List Token) (i : ℕ) (d : Token) (clauses : List (List Lit)) (pending : List Lit) (l : Lit) → i < length tokens → get_or tokens i d ≡ Literal l → AreClauses (take i tokens) clauses pending → AreClauses (take (i + 1) tokens) clauses (pending ++ l ∷ [])
-literal_next tokens i d clauses pending l within is are =
-    rw (take_more tokens i d within, is) (literal_more (take i tokens) clauses pending l are)
-
-pub end_next : (tokens : List Token) (i : ℕ) (d : Token) (clauses : List (List Lit)) (pending c : List Lit) → i < length tokens → get_or tokens i d ≡ End → HasExactly c pending → AreClauses (take i tokens) clauses pending → AreClauses (take (i + 1) tokens) (clauses ++ c ∷ []) []
-end_next tokens i d clauses pending c within is one are =
-    rw (take_more tokens i d within, is) (end_more (take i tokens) clauses pending c one are)
 
 literal_words : (lits : List Lit) → map token_word (map Literal lits) ≡ map pivot_text lits
 literal_words [] = refl

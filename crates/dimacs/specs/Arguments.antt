@@ -1,5 +1,5 @@
 -- What the arguments of a call ask for.
-use Rattle.std.specs.Prelude.{◌≡◌, ℕ, ◌⊎◌, List, [], ◌∷◌, ◌++◌, if◌then◌else◌, codes}
+use Rattle.std.specs.Prelude.{◌≡◌, ℕ, ◌⊎◌, List, [], ◌∷◌, if◌then◌else◌, codes}
 use Rattle.list_base.specs.Numeral.{numeral}
 use Rattle.refutation_log.specs.NumberRange.{IsInRange}
 use Rattle.dimacs.specs.declared.arguments.Options.{Options}

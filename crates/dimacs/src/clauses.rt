@@ -1,33 +1,44 @@
-ghost use Rattle.std.specs.Prelude.{◌≢◌, [], List, IfOk, MatchOption};
-ghost use Rattle.std.specs.List.{flat_map};
-ghost use Rattle.clause_core.specs.declared.literal.Lit.{Lit};
-ghost use Rattle.dimacs.specs.inner.Reading.{AreClauses, clause_tokens};
+ghost use Rattle.std.specs.Prelude.{◌≡◌, ◌++◌, ◌∷◌, [], List, OnOk};
+ghost use Rattle.dimacs.specs.declared.token.Token.{Token};
+ghost use Rattle.dimacs.specs.inner.Reading.{AreClauses};
 
 use super::token::Token;
-use clause_core::{Clause, ClauseList};
+use clause_core::{Clause, ClauseList, Lit};
 use list_base::{NoMemory, Seq};
 use std::alloc::Global;
 
-/// The clauses that the tokens are, unless the last one has no end.
-pub fn clauses_of(alloc: Global, tokens: &[Token]) -> Result<Option<ClauseList>, NoMemory>
-    ensures { IfOk result (λ found. MatchOption found
-        ((written : List (List Lit)) → tokens.now ≢ flat_map clause_tokens written)
-        (λ clauses. AreClauses tokens.now clauses [])) }
-{
-    let mut clauses = Seq::new(alloc);
-    let mut pending = Seq::new(alloc);
-    for token in tokens {
-        match *token {
-            Token::Literal(lit) => pending.push(lit)?,
-            Token::End => {
-                clauses.push(Clause::of(alloc, pending.as_slice())?)?;
-                pending = Seq::new(alloc);
-            }
+/// The clauses that were read, and the literals of the next one, whose end was not read.
+#[derive(Drop)]
+pub struct Reading {
+    pub clauses: ClauseList,
+    pub pending: Vec<Lit>,
+}
+
+impl Reading {
+    /// Nothing was read.
+    pub fn new(alloc: Global) -> Reading
+        ensures { (result.clauses ≡ []) × (result.pending.items ≡ []) }
+    {
+        Reading {
+            clauses: Seq::new(alloc),
+            pending: Vec::new(alloc),
         }
     }
-    if pending.is_empty() {
-        Ok(Some(clauses))
-    } else {
-        Ok(None)
+
+    /// Takes the next token.
+    pub fn take(&mut self, alloc: Global, token: Token) -> Result<(), NoMemory>
+        ensures { OnOk result ((tokens : List Token) →
+            AreClauses tokens self.old.clauses self.old.pending.items →
+            AreClauses (tokens ++ token ∷ []) self.new.clauses self.new.pending.items) }
+    {
+        match token {
+            Token::Literal(lit) => self.pending.push(lit)?,
+            Token::End => {
+                let clause = Clause::of(alloc, self.pending.as_slice())?;
+                self.clauses.push(clause)?;
+                self.pending.clear();
+            }
+        }
+        Ok(())
     }
 }

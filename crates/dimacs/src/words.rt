@@ -1,12 +1,13 @@
-ghost use Rattle.std.specs.Prelude.{◌≡◌, ◌≢◌, ◌≤◌, ◌++◌, ◌∷◌, [], map, All, MatchOption, OnOk, IfErr, Some};
+ghost use Rattle.std.specs.Prelude.{◌≡◌, ◌≢◌, ◌≤◌, ◌∷◌, [], All, MatchOption, OnOk, IfErr, Some};
 ghost use Rattle.std.specs.Option.{option_copied};
 ghost use Rattle.dimacs.specs.Dimacs.{line_words, parts_words, variable_limit, words_of};
 ghost use Rattle.dimacs.specs.RefusedLine.{IsClauseWord};
-ghost use Rattle.dimacs.specs.inner.Reading.{TokenExists, blank_parts, words_left, token_word};
+ghost use Rattle.dimacs.specs.inner.Reading.{TakesWords, blank_parts, words_left};
 
-use super::token::{Token, token_of};
-use list_base::Seq;
+use super::clauses::Reading;
+use super::token::token_of;
 use refutation_log::LineError;
+use std::alloc::Global;
 
 /// Whether the byte parts two words.
 fn parts_words(byte: u8) -> bool
@@ -55,19 +56,22 @@ pub fn uncommented(line: &[u8]) -> &[u8]
     }
 }
 
-/// Puts the tokens of the line's words at the end, unless one of them is no token.
-pub fn push_words(tokens: &mut Seq<Token>, vars: u32, line: &[u8]) -> Result<(), LineError>
+/// Takes the words of the line, unless one of them is no token.
+pub fn take_words(
+    alloc: Global,
+    reading: &mut Reading,
+    vars: u32,
+    line: &[u8],
+) -> Result<(), LineError>
     requires { vars ≤ variable_limit }
-    ensures words { OnOk result
-        (map token_word tokens.new ≡ map token_word tokens.old ++ words_of line.now) }
-    ensures exist { OnOk result
-        (All (TokenExists vars) tokens.old → All (TokenExists vars) tokens.new) }
+    ensures ok { OnOk result (TakesWords vars reading.old.clauses reading.old.pending.items
+        (words_of line.now) reading.new.clauses reading.new.pending.items) }
     ensures err { IfErr result (λ error. error ≢ LineError.NoMemory →
         ¬ All (IsClauseWord vars) (words_of line.now)) }
 {
     let mut left = Some(line);
     while let Some((word, rest)) = next_word(left) {
-        tokens.push(token_of(word, vars)?)?;
+        reading.take(alloc, token_of(word, vars)?)?;
         left = rest;
     }
     Ok(())

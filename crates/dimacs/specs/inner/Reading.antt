@@ -67,15 +67,6 @@ IsUnread vars lines from (Line line) = HasBadLine vars lines from line
 IsUnread vars lines from TooMany = ⊥
 IsUnread vars lines from refusals.NoMemory = ⊤
 
--- of these lines some are left; the tokens are the words of the others, and were counted on
-pub record AreRead
-    (vars : ℕ) (tokens : List Token) (lines left : List (List ℕ)) (from line : ℕ) : Type 0 where
-  pub before : List (List ℕ)
-  pub parts : lines ≡ before ++ left
-  pub words : map token_word tokens ≡ flat_map line_words before
-  pub exist : All (TokenExists vars) tokens
-  pub counted : line + length left ≡ from + length lines
-
 -- the tokens of a clause
 abbrev pub clause_tokens : List Lit → List Token
 clause_tokens clause = map Literal clause ++ End ∷ []
@@ -86,3 +77,26 @@ pub record AreClauses
   pub written : List (List Lit)
   pub tokens_are : tokens ≡ flat_map clause_tokens written ++ map Literal pending
   pub same : HaveExactly clauses written
+
+-- the words are those of tokens, which are the clauses and the literals of the next one
+pub record AreTaken (vars : ℕ) (words : List (List ℕ)) (clauses : List (List Lit))
+    (pending : List Lit) : Type 0 where
+  pub tokens : List Token
+  pub words_are : map token_word tokens ≡ words
+  pub exist : All (TokenExists vars) tokens
+  pub clauses_are : AreClauses tokens clauses pending
+
+-- whatever words were taken before, these were taken after them
+abbrev pub TakesWords
+    : ℕ → List (List Lit) → List Lit → List (List ℕ) → List (List Lit) → List Lit → Type 0
+TakesWords vars clauses pending words new_clauses new_pending =
+    (before : List (List ℕ)) → AreTaken vars before clauses pending
+    → AreTaken vars (before ++ words) new_clauses new_pending
+
+-- of these lines some are left; the words of the others were taken, and they were counted on
+pub record AreRead (vars : ℕ) (clauses : List (List Lit)) (pending : List Lit)
+    (lines left : List (List ℕ)) (from line : ℕ) : Type 0 where
+  pub before : List (List ℕ)
+  pub parts : lines ≡ before ++ left
+  pub taken : AreTaken vars (flat_map line_words before) clauses pending
+  pub counted : line + length left ≡ from + length lines
