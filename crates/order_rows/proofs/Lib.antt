@@ -2,3 +2,4 @@ mod BitLemmas
 mod KeepLemmas
 mod PairLemmas
 mod RowLemmas
+mod VariableLemmas

@@ -1,9 +1,8 @@
 -- The pair of a literal turned round is that of its negation, and pairs that are known.
-use Rattle.std.proofs.Common.{◌≡◌, ◌≢◌, inl, inr, ℕ, ◌+◌, ◌<◌, Bool, true, false, not, Option, Some, None, IfSome, List, length, get_or, set, refl, sym, ap, ◌∙◌, subst, arith}
+use Rattle.std.proofs.Common.{◌≡◌, ◌≢◌, inl, inr, ℕ, ◌+◌, ◌<◌, Bool, true, false, not, Some, List, length, get_or, refl, sym, ap, ◌∙◌, subst, arith}
 use Rattle.std.specs.Prelude.{nat_lt}
-use Rattle.std.proofs.lemmas.Bool.{cases_eq, cases_lt, cond-false, cond-true, le-ltb, lt-ltb}
-use Rattle.std.proofs.lemmas.List.{get_or-set_other, get_or-set_same, length-set}
-use Rattle.std.proofs.lemmas.Option.{get_or_from_slice_get, slice_get-get_or, slice_get_within}
+use Rattle.std.proofs.lemmas.Bool.{cases_lt, cond-false, cond-true, le-ltb, lt-ltb}
+use Rattle.std.proofs.lemmas.Option.{slice_get-get_or}
 use Rattle.clause_core.specs.declared.literal.Lit.{Lit}
 use Rattle.clause_core.specs.Literal.{negated}
 use Rattle.order_clauses.specs.declared.kind_pair.KindPair.{KindPair}
@@ -75,20 +74,7 @@ no-pair order l none = of_sign l.positive refl
     of_sign true is = subst (IsNoPair order) (by-sign l true is) none
     of_sign false is = subst (IsNoPair order) (by-sign l false is) (IsNoPair-negated order (positive l.var) none)
 
--- a pair that was found is known from then on
-pub pairs-found : (order : Order) (cells : List (Option KindPair)) (index : ℕ) (found : Option KindPair) → index < length cells → ArePairs order cells → IfSome found (IsPair order (positive (order.base + index + 1))) → ArePairs order (set cells index found)
-pairs-found order cells index found within known is = record {
-  pair = λ i p got. elim (cases_eq i index) [
-    | inl same ↦
-        let here : found ≡ Some p = sym (get_or-set_same cells index found None within) ∙ ap (λ (k : ℕ). get_or (set cells index found) k None) (sym same) ∙ get_or_from_slice_get (set cells index found) i (Some p) None got in
-        subst (λ (k : ℕ). IsPair order (positive (order.base + k + 1)) p) (sym same) (subst (λ (o : Option KindPair). IfSome o (IsPair order (positive (order.base + index + 1)))) here is)
-    | inr other ↦
-        let inside : i < length cells = omega (arith, slice_get_within (set cells index found) i (Some p) got, length-set cells index found) in
-        known.pair i p (slice_get-get_or cells i None inside ∙ ap Some (sym (get_or-set_other cells index i found None other) ∙ get_or_from_slice_get (set cells index found) i (Some p) None got))
-  ];
-}
-
 -- the pair in a cell is that of its variable
-pub pair-known : (order : Order) (cells : List (Option KindPair)) (index variable : ℕ) (p : KindPair) → ArePairs order cells → index < length cells → order.base + index + 1 ≡ variable → get_or cells index None ≡ Some p → IsPair order (positive variable) p
-pair-known order cells index variable p known within is got =
-    subst (λ (v : ℕ). IsPair order (positive v) p) is (known.pair index p (slice_get-get_or cells index None within ∙ ap Some got))
+pub pair-known : (order : Order) (cells : List KindPair) (index variable : ℕ) (p d : KindPair) → ArePairs order cells → index < length cells → order.base + index + 1 ≡ variable → get_or cells index d ≡ p → IsPair order (positive variable) p
+pair-known order cells index variable p d known within is got =
+    subst (λ (v : ℕ). IsPair order (positive v) p) is (known.pair index p (slice_get-get_or cells index d within ∙ ap Some got))

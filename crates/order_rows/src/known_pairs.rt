@@ -2,18 +2,19 @@ ghost use Rattle.std.specs.Prelude.{◌≡◌, IfOk, IfSome, IfNone};
 ghost use Rattle.order_clauses.specs.Cycles.{IsNoPair, IsPair};
 ghost use Rattle.order_rows.specs.inner.Pairs.{positive};
 
+use super::pair_table::pair_table;
 use clause_core::Lit;
 use list_base::NoMemory;
 use order_clauses::{KindPair, Order};
 use std::alloc::Global;
 use std::marker::Model;
 
-/// The pairs of kinds of which an order's variables are, each kept once it was found.
+/// The pairs of kinds of which an order's variables are.
 #[derive(Drop)]
 pub struct KnownPairs {
     order: Order,
     /// The pairs of the variables from the first one of the order on.
-    cells: Vec<Option<KindPair>>,
+    cells: Vec<KindPair>,
 }
 
 impl Model for KnownPairs {
@@ -28,15 +29,13 @@ impl Model for KnownPairs {
 }
 
 impl KnownPairs {
-    /// No pair is known.
+    /// The pairs of the order.
     pub fn new(alloc: Global, order: Order) -> Result<KnownPairs, NoMemory>
         ensures { IfOk result (λ pairs. pairs ≡ order) }
     {
-        let kinds = order.kinds as usize;
-        let variables = kinds * kinds.saturating_sub(1) / 2;
         Ok(KnownPairs {
             order,
-            cells: vec![in alloc; None; variables]?,
+            cells: pair_table(alloc, order)?,
         })
     }
 
@@ -49,10 +48,9 @@ impl KnownPairs {
 
     /// The two kinds of which the literal says that the first comes before the second, if there
     /// are such.
-    pub fn pair(&mut self, lit: Lit) -> Option<KindPair>
-        ensures some { IfSome result (IsPair self.old lit) }
-        ensures none { IfNone result (IsNoPair self.old lit) }
-        ensures order { self.new ≡ self.old }
+    pub fn pair(&self, lit: Lit) -> Option<KindPair>
+        ensures some { IfSome result (IsPair self.now lit) }
+        ensures none { IfNone result (IsNoPair self.now lit) }
     {
         match self.rising(lit.var) {
             Some(pair) if lit.positive => Some(pair),
@@ -65,10 +63,9 @@ impl KnownPairs {
     }
 
     /// The same for the literal of a variable.
-    fn rising(&mut self, var: u32) -> Option<KindPair>
-        ensures some { IfSome result (IsPair self.old (positive var)) }
-        ensures none { IfNone result (IsNoPair self.old (positive var)) }
-        ensures order { self.new ≡ self.old }
+    fn rising(&self, var: u32) -> Option<KindPair>
+        ensures some { IfSome result (IsPair self.now (positive var)) }
+        ensures none { IfNone result (IsNoPair self.now (positive var)) }
     {
         let lit = Lit {
             var,
@@ -81,11 +78,6 @@ impl KnownPairs {
         if index >= self.cells.len() {
             return self.order.pair(lit);
         }
-        if let Some(pair) = self.cells[index] {
-            return Some(pair);
-        }
-        let found = self.order.pair(lit);
-        self.cells[index] = found;
-        found
+        Some(self.cells[index])
     }
 }

@@ -5,6 +5,7 @@ mod bit_rows;
 mod bits;
 mod known_pairs;
 mod order_lit;
+mod pair_table;
 mod rows;
 
 pub use order_lit::OrderLit;

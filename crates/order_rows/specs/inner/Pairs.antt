@@ -1,5 +1,5 @@
--- Pairs of kinds that were found before.
-use Rattle.std.specs.Prelude.{◌≡◌, ℕ, ◌+◌, true, Option, Some, List, slice_get}
+-- The pairs of kinds of an order's variables.
+use Rattle.std.specs.Prelude.{◌≡◌, ℕ, ◌+◌, true, Some, List, slice_get}
 use Rattle.clause_core.specs.declared.literal.Lit.{Lit}
 use Rattle.order_clauses.specs.declared.kind_pair.KindPair.{KindPair}
 use Rattle.order_clauses.specs.declared.order.Order.{Order}
@@ -10,6 +10,6 @@ abbrev pub positive : ℕ → Lit
 positive variable = record { var = variable; positive = true }
 
 -- each pair in a cell is that of a variable of the order, the first of which is in the first cell
-pub record ArePairs (order : Order) (cells : List (Option KindPair)) : Type 0 where
-  pub pair : (index : ℕ) (found : KindPair) → slice_get cells index ≡ Some (Some found) →
+pub record ArePairs (order : Order) (cells : List KindPair) : Type 0 where
+  pub pair : (index : ℕ) (found : KindPair) → slice_get cells index ≡ Some found →
       IsPair order (positive (order.base + index + 1)) found
