@@ -2,6 +2,7 @@ mod AddLemmas
 mod BackLemmas
 mod CloseLemmas
 mod ClosedLemmas
+mod CycleLemmas
 mod EntryLemmas
 mod GrowthLemmas
 mod KeepLemmas

@@ -154,6 +154,6 @@ fn close_cycle(
     let Some(number) = rule.missing(&named.trail, x, y, z) else {
         return Ok(());
     };
-    named.make(alloc, &rule.numbers, number)?;
+    named.make(alloc, rule.numbers.order, number, x, y, z)?;
     named.propagate_next()
 }

@@ -3,6 +3,7 @@
 #![tactic(auto)]
 
 mod closing;
+mod making;
 mod named_trail;
 mod reading;
 mod row_update;

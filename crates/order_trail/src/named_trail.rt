@@ -1,11 +1,11 @@
-ghost use Rattle.std.specs.Prelude.{◌≡◌, None, IfOk, OnOk, IfErr};
-ghost use Rattle.clause_core.specs.Clause.{IsAscending};
+ghost use Rattle.std.specs.Prelude.{◌≡◌, None, OnOk, IfErr};
 ghost use Rattle.order_trail.specs.inner.Closing.{IsStopAt};
 
+use super::making::cycle_clause;
 use super::stop::Stop;
-use clause_core::{Clause, Lit, equal_members};
+use clause_core::Clause;
 use list_base::{NoMemory, NumberList};
-use order_clauses::OrderNumbers;
+use order_clauses::Order;
 use sat_trail::Trail;
 use std::alloc::Global;
 
@@ -22,6 +22,7 @@ impl<'f> NamedTrail<'f> {
     ghost use Rattle.std.specs.Prelude.{◌≡◌, ◌+◌, ◌^◌, ◌<◌, ◌≤◌, ◌⊎◌, length, Contains, IsTrue};
     ghost use Rattle.std.specs.Prelude.{IfOk, OnOk, OnErr, IfErr};
     ghost use Rattle.clause_core.specs.Clause.{VariablesExist};
+    ghost use Rattle.order_clauses.specs.Order.{AreKinds, ForbidsCycle};
     ghost use Rattle.sat_trail.specs.State.{last_number};
     ghost use Rattle.sat_trail.specs.Trail.{HasTwoOpen, IsTrail, Propagates};
     ghost use Rattle.order_trail.specs.inner.Closing.{IsStop};
@@ -91,21 +92,27 @@ impl<'f> NamedTrail<'f> {
         *self.names.at(number as usize - 1)
     }
 
-    /// Makes the order's clause of the number, which is its name.
+    /// Makes the order's clause of the number, which is its name. It forbids that `x` comes before
+    /// `y`, `y` before `z` and `z` before `x`.
     pub fn make(
         &mut self,
         alloc: Global,
-        numbers: &OrderNumbers,
+        order: Order,
         number: u32,
+        x: u32,
+        y: u32,
+        z: u32,
     ) -> Result<(), NoMemory>
-        requires can { CanMake numbers.now.order self.old }
-        requires may { MayBeMade numbers.now.order self.old.trail number }
-        ensures can { CanMake numbers.now.order self.new }
-        ensures grows { Grows numbers.now.order self.old self.new }
+        requires can { CanMake order self.old }
+        requires may { MayBeMade order self.old.trail number }
+        requires kinds { AreKinds order x y z }
+        requires forbids { ForbidsCycle order number x y z }
+        ensures can { CanMake order self.new }
+        ensures grows { Grows order self.old self.new }
         ensures made { OnOk result (Contains self.new.names number) }
     {
         let _number = self.next_number()?;
-        let clause = made(alloc, numbers.clause(number))?;
+        let clause = cycle_clause(alloc, order, number, x, y, z)?;
         self.add(clause, number)
     }
 }
@@ -119,14 +126,4 @@ fn stopped(found: Option<u32>) -> Result<(), Stop>
         None => Ok(()),
         Some(number) => Err(Stop::Falsified(number)),
     }
-}
-
-/// The clause of these literals, which ascend.
-fn made(alloc: Global, lits: [Lit; 3]) -> Result<Clause, NoMemory>
-    requires { IsAscending lits }
-    ensures { IfOk result (λ clause. clause ≡ lits) }
-{
-    // law: clauses with the same literals are equal
-    equal_members();
-    Clause::of(alloc, &lits)
 }

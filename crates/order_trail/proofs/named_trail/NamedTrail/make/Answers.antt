@@ -3,29 +3,26 @@ use Rattle.std.proofs.lemmas.List.Elements.{All-contains}
 use Rattle.clause_core.specs.Clause.{VariablesExist}
 use Rattle.order_clauses.specs.Order.{order_list}
 use Rattle.order_trail.proofs.GrowthLemmas.{CanMake-made, Grows-made, Grows-none, among-made}
-use Rattle.order_trail.proofs.NumberLemmas.{number-among, numbered-within}
+use Rattle.order_trail.proofs.NumberLemmas.{number-among}
 use Rattle.order_trail.proofs.named_trail.NamedTrail.make.Goals as goal
 
 pub returns-in_err-_number-clause-grows : goal.returns-in_err-_number-clause-grows
 returns-in_err-_number-clause-grows c = Grows-none _ _
-
-pub clause-requires-clause-up_to : goal.clause-requires-clause-up_to
-clause-requires-clause-up_to c = (numbered-within (order_list c.args.numbers.now.order) c.args.number c.requires.may.clause c.requires.may.has_number).1
 
 pub returns-in_err-clause-clause-grows : goal.returns-in_err-clause-clause-grows
 returns-in_err-clause-clause-grows c = Grows-none _ _
 
 pub add-requires-clause-exist : goal.add-requires-clause-exist
 add-requires-clause-exist c =
-    All-contains (VariablesExist c.args.self.now.trail.vars) (order_list c.args.numbers.now.order) c.in_ok-clause.clause c.requires.can.exist
-    (number-among (order_list c.args.numbers.now.order) c.args.number c.in_ok-clause.clause (rw c.in_ok-clause.ensures c.clause.ensures.number))
+    All-contains (VariablesExist c.args.self.now.trail.vars) (order_list c.args.order) c.in_ok-clause.clause c.requires.can.exist
+    (number-among (order_list c.args.order) c.args.number c.in_ok-clause.clause c.in_ok-clause.ensures)
 
 pub returns-clause-can : goal.returns-clause-can
 returns-clause-can c =
-    CanMake-made _ c.args.self.now c.add.new.self c.in_ok-clause.clause c.args.number c.add.result c.add.ensures.ok c.add.ensures.err (rw c.in_ok-clause.ensures c.clause.ensures.number) c.add.ensures.sound c.requires.can
+    CanMake-made _ c.args.self.now c.add.new.self c.in_ok-clause.clause c.args.number c.add.result c.add.ensures.ok c.add.ensures.err c.in_ok-clause.ensures c.add.ensures.sound c.requires.can
 
 pub returns-clause-grows : goal.returns-clause-grows
-returns-clause-grows c = Grows-made _ c.args.self.now c.add.new.self c.in_ok-clause.clause c.args.number c.add.result c.add.ensures.ok c.add.ensures.err (rw c.in_ok-clause.ensures c.clause.ensures.number)
+returns-clause-grows c = Grows-made _ c.args.self.now c.add.new.self c.in_ok-clause.clause c.args.number c.add.result c.add.ensures.ok c.add.ensures.err c.in_ok-clause.ensures
 
 pub returns-clause-made : goal.returns-clause-made
 returns-clause-made c = among-made c.args.self.now c.add.new.self c.in_ok-clause.clause c.args.number c.add.result c.add.ensures.ok
