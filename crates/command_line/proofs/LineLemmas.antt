@@ -3,7 +3,7 @@ use Rattle.std.proofs.Common.{◌≡◌, ◌≤◌, ℕ, zero, suc, Bool, true, 
 use Rattle.std.specs.Str.{bytes_eq}
 use Rattle.list_base.proofs.Numerals.{same_from_numeral}
 use Rattle.command_line.specs.declared.command.Command.{Command}
-use Rattle.command_line.specs.declared.command.Command.TheVariants.{Verify, Check, Replay, Expand, Run, Generate, Dead, CheckDead, Audit}
+use Rattle.command_line.specs.declared.command.Command.TheVariants.{Verify, Check, Replay, Expand, Run, Restart, Generate, Dead, CheckDead, Audit}
 use Rattle.command_line.specs.declared.line.CommandLine.{CommandLine}
 use Rattle.command_line.specs.declared.line.Subject.{Subject}
 use Rattle.command_line.specs.declared.line.Subject.TheVariants.{Protocol, Size}
@@ -47,9 +47,10 @@ named word = cond (bytes_eq word (codes "verify")) Verify
     (cond (bytes_eq word (codes "replay")) Replay
     (cond (bytes_eq word (codes "expand")) Expand
     (cond (bytes_eq word (codes "run")) Run
+    (cond (bytes_eq word (codes "restart")) Restart
     (cond (bytes_eq word (codes "generate")) Generate
     (cond (bytes_eq word (codes "dead")) Dead
-    (cond (bytes_eq word (codes "check-dead")) CheckDead Audit)))))))
+    (cond (bytes_eq word (codes "check-dead")) CheckDead Audit))))))))
 
 names_it : (command : Command) → named (command_word command) ≡ command
 names_it Verify = refl
@@ -57,6 +58,7 @@ names_it Check = refl
 names_it Replay = refl
 names_it Expand = refl
 names_it Run = refl
+names_it Restart = refl
 names_it Generate = refl
 names_it Dead = refl
 names_it CheckDead = refl

@@ -1,7 +1,7 @@
 -- The commands: the word of each, the options that it takes, and whether a number follows it.
 use Rattle.std.specs.Prelude.{ℕ, Bool, true, false, List, codes}
 use Rattle.command_line.specs.declared.command.Command.{Command}
-use Rattle.command_line.specs.declared.command.Command.TheVariants.{Verify, Check, Replay, Expand, Run, Generate, Dead, CheckDead, Audit}
+use Rattle.command_line.specs.declared.command.Command.TheVariants.{Verify, Check, Replay, Expand, Run, Restart, Generate, Dead, CheckDead, Audit}
 
 -- what a command line of a command has
 pub record CommandRow : Type 0 where
@@ -28,6 +28,7 @@ row_of Check = plain_row (codes "check")
 row_of Replay = plain_row (codes "replay")
 row_of Expand = plain_row (codes "expand")
 row_of Run = record (plain_row (codes "run")) { brief = true; conflicts = true; threads = true }
+row_of Restart = record (plain_row (codes "restart")) { brief = true; conflicts = true }
 row_of Generate =
     record (plain_row (codes "generate")) { conflicts = true; threads = true; sized = true }
 row_of Dead = record (plain_row (codes "dead")) { brief = true; conflicts = true }

@@ -10,6 +10,7 @@ pub enum Command {
     Replay,
     Expand,
     Run,
+    Restart,
     Generate,
     Dead,
     CheckDead,
@@ -46,7 +47,7 @@ impl Command {
         ensures sized { result.sized ≡ takes_size self }
     {
         match self {
-            Command::Verify | Command::Dead => CommandRow {
+            Command::Verify | Command::Restart | Command::Dead => CommandRow {
                 brief: true,
                 conflicts: true,
                 ..PLAIN
@@ -83,6 +84,7 @@ pub fn command_of(word: &[u8]) -> Option<Command>
         b"replay" => Some(Command::Replay),
         b"expand" => Some(Command::Expand),
         b"run" => Some(Command::Run),
+        b"restart" => Some(Command::Restart),
         b"generate" => Some(Command::Generate),
         b"dead" => Some(Command::Dead),
         b"check-dead" => Some(Command::CheckDead),
