@@ -22,9 +22,11 @@ pub mod AuditAnswers
 pub mod WorldLines
 pub mod AgentsLaws
 pub mod RunLaws
+pub mod RestartLaws
 pub mod GenerateLaws
 pub mod PlayAnswers
 pub mod RunAnswers
+pub mod RestartAnswers
 pub mod GenerateAnswers
 pub mod TaskLaws
 pub mod OneRequest

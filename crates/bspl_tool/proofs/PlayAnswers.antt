@@ -59,7 +59,7 @@ pub completed : (job : Job) (threads : ℕ) (report : WorldReport) (so_far reply
 completed job threads report so_far reply played is_played same = record { played = played; is_played = is_played; text = same.0; ends = same.1 }
 
 -- no agents play a protocol that is not found safe
-nothing_played : (report : WorldReport) (threads : ℕ) (job : Job) (safety : Safety) → ((log : Log) → safety ≢ Safe log) → AgentsText report threads job safety []
+pub nothing_played : (report : WorldReport) (threads : ℕ) (job : Job) (safety : Safety) → ((log : Log) → safety ≢ Safe log) → AgentsText report threads job safety []
 nothing_played report threads job (Safe log) other = absurd (other log refl)
 nothing_played report threads job (Unsafe run param first second) other = refl
 nothing_played report threads job (Undecided log) other = refl

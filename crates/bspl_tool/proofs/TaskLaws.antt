@@ -1,12 +1,13 @@
 -- The laws of each command.
 use Rattle.bspl_tool.specs.declared.task.Task.{Task}
-use Rattle.bspl_tool.specs.declared.task.Task.TheVariants.{Audit, Check, CheckDead, Dead, Expand, Generate, Replay, Run, Verify}
+use Rattle.bspl_tool.specs.declared.task.Task.TheVariants.{Audit, Check, CheckDead, Dead, Expand, Generate, Replay, Restart, Run, Verify}
 use Rattle.bspl_tool.specs.AuditAnswer.{audit_rules}
 use Rattle.bspl_tool.specs.CheckAnswer.{check_rules}
 use Rattle.bspl_tool.specs.CheckDeadAnswer.{check_dead_rules}
 use Rattle.bspl_tool.specs.ExpandAnswer.{expand_rules}
 use Rattle.bspl_tool.specs.GenerateAnswer.{generate_rules}
 use Rattle.bspl_tool.specs.ReplayAnswer.{replay_rules}
+use Rattle.bspl_tool.specs.RestartAnswer.{restart_rules}
 use Rattle.bspl_tool.specs.RunAnswer.{run_rules}
 use Rattle.bspl_tool.specs.Task.{rules_of}
 use Rattle.bspl_tool.proofs.AuditLaws.{OneAudit, audit_laws}
@@ -18,6 +19,7 @@ use Rattle.bspl_tool.proofs.DeadLaws.{dead_laws}
 use Rattle.bspl_tool.proofs.ExpandLaws.{OnePrinting, expand_laws}
 use Rattle.bspl_tool.proofs.GenerateLaws.{generate_laws}
 use Rattle.bspl_tool.proofs.ReplayLaws.{OneReplay, replay_laws}
+use Rattle.bspl_tool.proofs.RestartLaws.{restart_laws}
 use Rattle.bspl_tool.proofs.RunLaws.{run_laws}
 use Rattle.bspl_tool.proofs.VerifyLaws.{verify_laws}
 
@@ -37,6 +39,7 @@ laws_of (Verify brief conflicts) = verify_laws brief conflicts
 laws_of Check = with_more check_rules (λ once. once.check) check_laws
 laws_of Replay = with_more replay_rules (λ once. once.replay) replay_laws
 laws_of (Run brief conflicts threads) = with_more (run_rules brief conflicts threads) (λ once. once.agents) (run_laws brief conflicts threads)
+laws_of (Restart brief conflicts) = with_more (restart_rules brief conflicts) (λ once. once.agents) (restart_laws brief conflicts)
 laws_of (Dead brief conflicts) = dead_laws brief conflicts
 laws_of CheckDead = with_more check_dead_rules (λ once. once.dead) check_dead_laws
 laws_of Audit = with_more audit_rules (λ once. once.audit) audit_laws

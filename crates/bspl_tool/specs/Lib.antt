@@ -12,6 +12,7 @@ pub mod VerifyAnswer
 pub mod ReplayAnswer
 pub mod PlayedText
 pub mod RunAnswer
+pub mod RestartAnswer
 pub mod GenerateAnswer
 pub mod DeadAnswer
 pub mod CheckDeadAnswer

@@ -5,7 +5,7 @@ use Rattle.command_line.specs.declared.command.Command.TheVariants as command
 use Rattle.tool_input.specs.Parts.{protocol_text}
 use Rattle.workload.specs.Stage.{stage_text}
 use Rattle.bspl_tool.specs.declared.task.Task.{Task}
-use Rattle.bspl_tool.specs.declared.task.Task.TheVariants.{Audit, Check, CheckDead, Dead, Expand, Generate, Replay, Run, Verify}
+use Rattle.bspl_tool.specs.declared.task.Task.TheVariants.{Audit, Check, CheckDead, Dead, Expand, Generate, Replay, Restart, Run, Verify}
 use Rattle.bspl_tool.specs.AuditAnswer.{audit_rules}
 use Rattle.bspl_tool.specs.CheckAnswer.{check_rules}
 use Rattle.bspl_tool.specs.CheckDeadAnswer.{check_dead_rules}
@@ -13,6 +13,7 @@ use Rattle.bspl_tool.specs.DeadAnswer.{dead_rules}
 use Rattle.bspl_tool.specs.ExpandAnswer.{expand_rules}
 use Rattle.bspl_tool.specs.GenerateAnswer.{generate_rules}
 use Rattle.bspl_tool.specs.ReplayAnswer.{replay_rules}
+use Rattle.bspl_tool.specs.RestartAnswer.{restart_rules}
 use Rattle.bspl_tool.specs.Rules.{CommandRules}
 use Rattle.bspl_tool.specs.RunAnswer.{run_rules}
 use Rattle.bspl_tool.specs.VerifyAnswer.{verify_rules}
@@ -24,6 +25,7 @@ rules_of (Verify brief conflicts) = verify_rules brief conflicts
 rules_of Check = check_rules
 rules_of Replay = replay_rules
 rules_of (Run brief conflicts threads) = run_rules brief conflicts threads
+rules_of (Restart brief conflicts) = restart_rules brief conflicts
 rules_of (Dead brief conflicts) = dead_rules brief conflicts
 rules_of CheckDead = check_dead_rules
 rules_of Audit = audit_rules
@@ -36,6 +38,7 @@ task_of command.Check brief conflicts threads = Some Check
 task_of command.Replay brief conflicts threads = Some Replay
 task_of command.Expand brief conflicts threads = Some Expand
 task_of command.Run brief conflicts threads = Some (Run brief conflicts threads)
+task_of command.Restart brief conflicts threads = Some (Restart brief conflicts)
 task_of command.Generate brief conflicts threads = None
 task_of command.Dead brief conflicts threads = Some (Dead brief conflicts)
 task_of command.CheckDead brief conflicts threads = Some CheckDead

@@ -3,3 +3,4 @@ pub mod Answer
 pub mod Error
 pub mod Job
 pub mod Messages
+pub mod Restart

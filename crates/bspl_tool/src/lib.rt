@@ -17,6 +17,8 @@ mod laws;
 mod play;
 mod replay_command;
 mod request;
+mod restart_command;
+mod restart_disks;
 mod run_command;
 mod stage_count;
 mod task;

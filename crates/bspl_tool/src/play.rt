@@ -63,7 +63,7 @@ pub fn finish_in_threads<H: Threads + Wait + Sync, G: Gate + Sync>(
 }
 
 /// The reply, after whose text comes what was played.
-fn with_played(so_far: Reply<Status>, played: Bytes) -> Result<Reply<Status>, NoMemory>
+pub(crate) fn with_played(so_far: Reply<Status>, played: Bytes) -> Result<Reply<Status>, NoMemory>
     ensures { IfOk result (λ reply. (reply.text ≡ so_far.text ++ played)
         × (reply.status ≡ so_far.status)) }
 {

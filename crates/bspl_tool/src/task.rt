@@ -13,6 +13,7 @@ use super::dead_command::dead;
 use super::expand_command::expand;
 use super::generate_command::generate;
 use super::replay_command::replay;
+use super::restart_command::restart;
 use super::run_command::run;
 use super::stage_count::StageCount;
 use super::verify_command::verify;
@@ -41,6 +42,12 @@ pub enum Task {
         brief: bool,
         conflicts: Budget,
         threads: ThreadCount,
+    },
+    /// It is verified likewise, and if it is safe, agents play it on one thread, over disks of which
+    /// each stops once.
+    Restart {
+        brief: bool,
+        conflicts: Budget,
     },
     /// Each of its messages is searched for, with at most these conflicts for each. A brief answer
     /// has no run and no log.
@@ -80,6 +87,7 @@ pub fn task_of(
             conflicts,
             threads,
         }),
+        Command::Restart => Some(Task::Restart { brief, conflicts }),
         Command::Dead => Some(Task::Dead { brief, conflicts }),
         Command::CheckDead => Some(Task::CheckDead),
         Command::Audit => Some(Task::Audit),
@@ -97,7 +105,7 @@ impl Task {
             Task::Check | Task::CheckDead => Some(Part::Log),
             Task::Replay => Some(Part::Run),
             Task::Audit => Some(Part::Histories),
-            Task::Run { .. } | Task::Generate { .. } => Some(Part::Agents),
+            Task::Run { .. } | Task::Restart { .. } | Task::Generate { .. } => Some(Part::Agents),
         }
     }
 
@@ -149,6 +157,9 @@ impl Task {
                 conflicts,
                 threads,
             } => run(alloc, brief, conflicts, threads, protocol, part),
+            Task::Restart { brief, conflicts } => {
+                Ok(Answer::Whole(restart(alloc, brief, conflicts, protocol, part)?))
+            }
             Task::Dead { brief, conflicts } => {
                 Ok(Answer::Whole(dead(alloc, brief, conflicts, &protocol)?))
             }

@@ -1,6 +1,8 @@
 use super::args::args_of;
 use bspl_types::NoMemory;
-use command_line::Command::{Audit, Check, CheckDead, Dead, Expand, Generate, Replay, Run, Verify};
+use command_line::Command::{
+    Audit, Check, CheckDead, Dead, Expand, Generate, Replay, Restart, Run, Verify,
+};
 use command_line::Subject::{Protocol, Size};
 use command_line::{Command, CommandLine, Subject, command_line};
 use std::alloc::Global;
@@ -51,6 +53,13 @@ const ROWS: &[Row] = &[
     Row {
         command: Run,
         given: &["run P", "-- run P"],
+        ..PLAIN
+    },
+    Row {
+        command: Restart,
+        brief: true,
+        conflicts: 9,
+        given: &["restart P --brief --conflicts 9"],
         ..PLAIN
     },
     Row {

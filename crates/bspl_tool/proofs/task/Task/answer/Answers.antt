@@ -36,6 +36,15 @@ returns-in-Run-clause-ok c = rw c.in-Run.is c.run.ensures.ok
 pub returns-in-Run-clause-refused : goal.returns-in-Run-clause-refused
 returns-in-Run-clause-refused c = rw c.in-Run.is c.run.ensures.refused
 
+pub returns-in_ok-restart-in-Restart-clause-ok : goal.returns-in_ok-restart-in-Restart-clause-ok
+returns-in_ok-restart-in-Restart-clause-ok c =
+    whole_answer ((rules_of c.args.self).answers c.args.protocol c.args.part.now) c.in_ok-restart-in-Restart.field-0 (rw c.in-Restart.is c.in_ok-restart-in-Restart.ensures.ok)
+
+pub returns-in_err-restart-in-Restart-clause-refused : goal.returns-in_err-restart-in-Restart-clause-refused
+returns-in_err-restart-in-Restart-clause-refused c =
+    let p = err_from_is_err_and c.from_residual-in_err-restart-in-Restart.result c.from_residual-in_err-restart-in-Restart.ensures.1 in
+    rw (p.1, p.2, c.in-Restart.is) c.in_err-restart-in-Restart.ensures.refused
+
 pub returns-in_ok-dead-in-Dead-clause-ok : goal.returns-in_ok-dead-in-Dead-clause-ok
 returns-in_ok-dead-in-Dead-clause-ok c =
     whole_answer ((rules_of c.args.self).answers c.args.protocol c.args.part.now) c.in_ok-dead-in-Dead.field-0 (rw c.in-Dead.is c.in_ok-dead-in-Dead.ensures)
