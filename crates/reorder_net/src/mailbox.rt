@@ -1,6 +1,6 @@
 use super::hold::Hold;
+use super::parcel::Parcel;
 use agent_scripts::Scene;
-use bspl_types::Envelope;
 use crossbeam_queue::RuledSegQueue;
 use crossbeam_queue::protocol::Protocol as QueueRule;
 use std::marker::{Model, PhantomData};
@@ -10,7 +10,7 @@ pub struct MailRule<N: Scene> {
     of: PhantomData<N>,
 }
 
-impl<N: Scene> QueueRule<Envelope, Hold> for MailRule<N> {
+impl<N: Scene> QueueRule<Parcel, Hold> for MailRule<N> {
     ghost use Rattle.reorder_net.specs.Mail.{IsMail};
     ghost use Rattle.reorder_net.specs.inner.Moves.{first_hold};
 
@@ -20,7 +20,7 @@ impl<N: Scene> QueueRule<Envelope, Hold> for MailRule<N> {
 }
 
 /// The queue of a mailbox.
-pub type MailQueue<N> = RuledSegQueue<Envelope, Hold, MailRule<N>>;
+pub type MailQueue<N> = RuledSegQueue<Parcel, Hold, MailRule<N>>;
 
 /// The envelopes on their way to one role. Contracts see which mailbox it is.
 pub struct Mailbox<N: Scene> {

@@ -1,8 +1,8 @@
 //! What each step does to what passes know, in the queue's words. It stands in proofs alone.
 
 use super::hold::Hold;
+use super::parcel::Parcel;
 use agent_scripts::Scene;
-use bspl_types::Envelope;
 use crossbeam_queue::protocol::{Join, Lesson, Outcome, Split};
 use std::marker::{Brand, PhantomData};
 
@@ -68,7 +68,7 @@ impl Join<Hold> for Joining {
 /// A sender puts an envelope.
 pub struct Puts;
 
-impl Outcome<Envelope, Hold> for Puts {
+impl Outcome<Parcel, Hold> for Puts {
     ghost use Rattle.reorder_net.specs.inner.Moves.{HasPut};
 
     ghost then = { HasPut };
@@ -79,13 +79,13 @@ pub struct Takes<N: Scene> {
     of: PhantomData<N>,
 }
 
-impl<N: Scene> Outcome<Envelope, Hold> for Takes<N> {
+impl<N: Scene> Outcome<Parcel, Hold> for Takes<N> {
     ghost use Rattle.reorder_net.specs.inner.Moves.{HasTaken};
 
     ghost then = { HasTaken N.job };
 }
 
-impl<N: Scene> Lesson<Envelope, Hold> for Takes<N> {
+impl<N: Scene> Lesson<Parcel, Hold> for Takes<N> {
     ghost use Rattle.std.specs.Prelude.{⊤};
 
     ghost fact = { λ v items. ⊤ };
@@ -96,13 +96,13 @@ pub struct Tells<N: Scene> {
     of: PhantomData<N>,
 }
 
-impl<N: Scene> Outcome<Envelope, Hold> for Tells<N> {
+impl<N: Scene> Outcome<Parcel, Hold> for Tells<N> {
     ghost use Rattle.reorder_net.specs.inner.Moves.{IsToldTo};
 
     ghost then = { λ v x w. IsToldTo N.job v };
 }
 
-impl<N: Scene> Lesson<Envelope, Hold> for Tells<N> {
+impl<N: Scene> Lesson<Parcel, Hold> for Tells<N> {
     ghost use Rattle.reorder_net.specs.inner.Moves.{IsToldTo};
 
     ghost fact = { λ v items. IsToldTo N.job v };

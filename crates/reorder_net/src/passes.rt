@@ -1,5 +1,5 @@
 use super::hold::Hold;
-use bspl_types::Envelope;
+use super::parcel::Parcel;
 use crossbeam_queue::SegPass;
 use list_base::Seq;
 use std::marker::Model;
@@ -7,7 +7,7 @@ use std::marker::Model;
 /// What one agent knows of a mailbox. It has no bytes. Contracts see the mailbox and the lists.
 #[derive(Drop)]
 pub struct MailPass {
-    pub(crate) seat: SegPass<Envelope, Hold>,
+    pub(crate) seat: SegPass<Parcel, Hold>,
 }
 
 impl Model for MailPass {

@@ -6,8 +6,9 @@ ghost use Rattle.reorder_net.specs.Pass.{IsSender, PassState};
 ghost use Rattle.reorder_net.specs.Passes.{AreFresh, with_put, with_taken};
 
 use super::mailbox::Mailbox;
+use super::parcel::Parcel;
 use super::passes::{PassList, RolePasses};
-use super::steps::{put, take};
+use super::steps::{put, take, take_parcel};
 use super::stock::{deal_role, open_boxes};
 use agent_scripts::Scene;
 use bspl_types::Envelope;
@@ -20,6 +21,8 @@ use std::sync::Wait;
 #[derive(Drop)]
 pub struct Post<N: Scene> {
     boxes: Seq<Mailbox<N>>,
+    /// Where parcels are made.
+    alloc: Global,
 }
 
 impl<N: Scene> Model for Post<N> {
@@ -59,7 +62,7 @@ impl<N: Scene> Post<N> {
         for role in 0..boxes.len() {
             list.push(deal_role(alloc, &boxes, &mut wholes, role)?)?;
         }
-        Ok((Post { boxes }, list))
+        Ok((Post { boxes, alloc }, list))
     }
 
     /// How many mailboxes there are.
@@ -89,7 +92,8 @@ impl<N: Scene> Post<N> {
         ensures err { OnErr result (passes.new ≡ passes.old) }
     {
         let q = e.to as usize;
-        match put(rt, self.at(q), passes.puts.at_mut(q), e) {
+        let parcel = Parcel::of(self.alloc, e)?;
+        match put(rt, self.at(q), passes.puts.at_mut(q), parcel) {
             Ok(()) => Ok(()),
             Err(_) => Err(NoMemory),
         }
@@ -105,5 +109,17 @@ impl<N: Scene> Post<N> {
             × IsPosted N.job e.from passes.old.own.hold.home e) }
     {
         take(rt, self.at(role as usize), &mut passes.own)
+    }
+
+    /// Takes what `take` would, and leaves it in the parcel.
+    pub fn take_parcel<R: Wait>(&self, rt: &R, passes: &mut RolePasses, role: u32) -> Option<Parcel>
+        requires known { role < length self.now }
+        requires pass { slice_get self.now role ≡ Some passes.old.own.box }
+        requires takes { passes.old.own.hold.takes ≡ true }
+        ensures { MatchOption result (passes.new ≡ passes.old) (λ e.
+            (passes.new ≡ with_taken passes.old e)
+            × IsPosted N.job e.from passes.old.own.hold.home e) }
+    {
+        take_parcel(rt, self.at(role as usize), &mut passes.own)
     }
 }
