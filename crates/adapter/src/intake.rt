@@ -48,9 +48,10 @@ fn take_in<N: Scene, W: Wait>(
 {
     make_room(&mut state.desk, job)?;
     let role = state.desk.store().role();
-    let Some(e) = post.take(rt, &mut state.passes, role) else {
+    let Some(parcel) = post.take_parcel(rt, &mut state.passes, role) else {
         return Ok(false);
     };
+    let e = *parcel.envelope();
     deliver(&mut state.desk, job, e).unwrap();
     Ok(true)
 }
