@@ -14,8 +14,6 @@ mod script_rule;
 mod sentences;
 mod uses;
 
-pub use fault::Fault;
 pub use near_names::{nearest, nearest_line};
 pub use place::{Place, line_of, place_of};
 pub use refusal::refusal_text;
-pub use uses::{Kind, Use};
