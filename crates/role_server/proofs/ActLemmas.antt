@@ -1,5 +1,5 @@
 -- What a line asks for is an act of the role, and when the store can do it.
-use Rattle.std.proofs.Common.{◌≡◌, ◌<◌, ◌≤◌, ℕ, List, [], ◌∷◌, ◌++◌, Result, Ok, Err, IfOk, length, refl, sym, ap, subst, ◌∙◌, arith, inl, inr}
+use Rattle.std.proofs.Common.{◌≡◌, ◌<◌, ℕ, List, Result, Ok, Err, IfOk, length, refl, sym, ap, subst, ◌∙◌, arith, inl, inr}
 use Rattle.std.proofs.lemmas.Bool.{cases_lt}
 use Rattle.std.proofs.lemmas.Slice.Zip.{AllZip-long}
 use Rattle.std.specs.List.{Contains}
@@ -18,8 +18,8 @@ use Rattle.wire_form.specs.declared.act.Act.TheVariants.{Arrival, Attempt}
 use Rattle.wire_form.specs.declared.reply.Reply.{Reply}
 use Rattle.wire_form.specs.Meaning.{AsksFor, Means}
 use Rattle.wire_form.specs.Request.{Request, emit, receive}
-use Rattle.role_server.specs.Replies.{Acts, Answers, HasNoRoom, KeepsRole, Replies, answered, key_of, stamp_of}
-use Rattle.role_server.specs.inner.Acts.{HoldsKey, IsBeforeLast, IsOwn, IsOwnArrival, IsOwnAttempt, IsReady}
+use Rattle.role_server.specs.Replies.{Answers, HasNoRoom, KeepsRole, Replies, answered, key_of}
+use Rattle.role_server.specs.inner.Acts.{HoldsKey, IsBeforeLast, IsOwn, IsReady}
 
 means_own : (x : Expanded) (role : ℕ) (request : Request) (act : Act) → Means x role request act → IsOwn x role act
 means_own x role (receive message count stamp fields) (Arrival m) means = record { fits = means.0.fits; own = means.0.own }

@@ -1,1 +1,4 @@
 pub mod ActLemmas
+pub mod ServedLemmas
+pub mod SessionLemmas
+pub mod ComingLemmas

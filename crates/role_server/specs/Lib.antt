@@ -1,3 +1,6 @@
--- Which reply a line gets from a role, and what its store is then.
+-- What a role writes for a stream of lines, how far it comes, and which reply each line gets.
+pub mod Served
+pub mod Stream
 pub mod Replies
+pub mod Refusal
 pub mod inner

@@ -2,5 +2,10 @@
 #![tactic(auto)]
 
 mod answer;
+mod refusal;
+mod session;
+mod stream;
 
 pub use answer::answer_line;
+pub use refusal::ServeRefusal;
+pub use stream::{serve, serve_from, store_with_room};

@@ -1,6 +1,6 @@
 -- What is answered to an act, by the first reason that holds.
 use Rattle.std.proofs.Common.{◌≡◌, true, false, refl, subst}
-use Rattle.role_server.specs.Replies.{Answers, HasNoRoom, IsDone, IsLast, done, key_of, last}
+use Rattle.role_server.specs.Replies.{HasNoRoom, IsLast, done, key_of, last}
 use Rattle.role_server.specs.inner.Acts.{HoldsKey}
 use Rattle.role_server.proofs.answer.answer_act.Goals as goal
 

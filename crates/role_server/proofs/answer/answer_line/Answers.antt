@@ -1,5 +1,5 @@
 -- What is answered to a line that asks for an act.
-use Rattle.std.proofs.Common.{ℕ, List, [], ◌∷◌, ◌++◌, subst}
+use Rattle.std.proofs.Common.{ℕ, [], ◌∷◌, ◌++◌, subst}
 use Rattle.bspl_types.specs.declared.expanded.Expanded.{Expanded}
 use Rattle.list_base.specs.Lines.{Line}
 use Rattle.wire_form.specs.declared.act.Reading.{Reading}

@@ -1,0 +1,5 @@
+-- How far the run came.
+use Rattle.role_server.proofs.stream.serve_from.Goals as goal
+
+pub returns-in-Err-clause-err : goal.returns-in-Err-clause-err
+returns-in-Err-clause-err g c = rw c.new-session.ensures at c.in-Err.ensures.err
