@@ -1,0 +1,55 @@
+-- When a role is not served, in the order in which the reasons are judged.
+use Rattle.std.specs.Prelude.{◌≡◌, ◌≢◌, ℕ, ◌<◌, Bool, true, List, [], Some, codes, length, slice_index_or}
+use Rattle.bspl_types.specs.declared.expanded.Expanded.{Expanded}
+use Rattle.bspl_types.specs.declared.refusals.Refusal.{Refusal}
+use Rattle.refutation_log.specs.declared.refutation.Log.{Log}
+use Rattle.report.specs.VerdictText.{verdict_text}
+use Rattle.tool_input.specs.declared.rejection.Rejection.{Rejection}
+use Rattle.tool_input.specs.declared.status.Status.{Status}
+use Rattle.tool_input.specs.declared.status.Status.TheVariants.{Refused, Refuted, Undecided}
+use Rattle.tool_input.specs.Input.{Declares}
+use Rattle.tool_input.specs.Rejection.{rejection_line, text_rejection}
+use Rattle.tool_input.specs.TextRefusal.{RefusesText}
+use Rattle.verdict.specs.declared.outcome.Liveness.{Liveness}
+use Rattle.verdict.specs.declared.outcome.Liveness.TheVariants as liveness
+use Rattle.verdict.specs.declared.outcome.Safety.{Safety}
+use Rattle.verdict.specs.declared.outcome.Safety.TheVariants as safety
+use Rattle.verdict.specs.declared.outcome.Verdicts.{Verdicts}
+use Rattle.verdict.specs.Verdicts.{AreRight}
+
+-- the role is declared, and this is its name
+pub record IsRoleNamed (x : Expanded) (name : List ℕ) (role : ℕ) : Type 0 where
+  pub known : role < length x.roles
+  pub named : slice_index_or x.roles role [] ≡ name
+
+-- the line for a role that is not declared
+abbrev pub role_refused : List ℕ
+role_refused = codes "refused F5\n"
+
+-- the status of verdicts of which the first does not say that the protocol is safe
+abbrev pub verdict_status : Safety → Liveness → Status
+verdict_status (safety.Unsafe run param first second) l = Refuted
+verdict_status s (liveness.NotLive run param) = Refuted
+verdict_status s l = Undecided
+
+-- the answer is that of right verdicts, with 10000 conflicts each, and it is not found safe
+pub record IsNotFoundSafe (x : Expanded) (out : List ℕ) (status : Status) : Type 0 where
+  pub verdicts : Verdicts
+  pub right : AreRight x 10000 verdicts
+  pub not_safe : (log : Log) → verdicts.safety ≢ safety.Safe log
+  pub text : out ≡ verdict_text x verdicts true
+  pub ends : status ≡ verdict_status verdicts.safety verdicts.liveness
+
+-- what is answered in place of serving a role of the protocol in the text
+pub data Declines (name role : List ℕ) (checked : Bool) (text out : List ℕ) (status : Status)
+    : Type 0 where
+  -- the text declares nothing for the name
+  no_protocol : (refusal : Refusal) (r : Rejection) → RefusesText name text refusal
+      → text_rejection refusal ≡ Some r → out ≡ rejection_line r → status ≡ Refused
+      → Declines name role checked text out status
+  -- its protocol has no such role
+  no_role : (x : Expanded) → Declares name text x → ((r : ℕ) → ¬ IsRoleNamed x role r)
+      → out ≡ role_refused → status ≡ Refused → Declines name role checked text out status
+  -- the protocol is to be judged, and is not found safe
+  not_safe : (x : Expanded) (r : ℕ) → Declares name text x → IsRoleNamed x role r
+      → checked ≡ true → IsNotFoundSafe x out status → Declines name role checked text out status

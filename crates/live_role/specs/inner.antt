@@ -1,0 +1,5 @@
+-- What only private functions cite.
+pub mod Request
+pub mod Opening
+pub mod Judged
+pub mod Prepared

@@ -1,0 +1,122 @@
+ghost use Rattle.std.specs.Prelude.{◌≡◌, ℕ, ◌<◌, List, length, IfOk, MatchOption};
+ghost use Rattle.enactment_model.specs.Safety.{SafeProtocol};
+ghost use Rattle.role_server.specs.Served.{first_store};
+ghost use Rattle.tool_input.specs.Input.{Declares};
+ghost use Rattle.tool_input.specs.declared.status.Status.TheVariants.{Refused};
+ghost use Rattle.live_role.specs.Judgement.{IsNotFoundSafe, IsRoleNamed, role_refused};
+ghost use Rattle.live_role.specs.Judgement.{verdict_status};
+ghost use Rattle.live_role.specs.inner.Judged.{IsJudged, IsReply};
+
+use super::request::Request;
+use bspl_types::{Admitted, Expanded};
+use list_base::{Bytes, NoMemory};
+use local_store::Store;
+use program_frame::Reply;
+use report::{right_runs_fit, verdict_text};
+use role_server::store_with_room;
+use std::alloc::Global;
+use tool_input::{Status, declared_protocol, refused, text_rejection};
+use verdict::{Liveness, Safety, Verdicts, verify};
+
+/// How many conflicts the search for each verdict may meet.
+const CONFLICTS: u32 = 10_000;
+
+/// What becomes of a role once the text of its protocol is there.
+#[derive(Drop)]
+pub enum Judged {
+    /// It is not served, and this is answered.
+    Declined(Reply<Status>),
+    /// It is served, beginning with this store.
+    Served(Store),
+}
+
+/// Judges the text, then the name of the role, and then, if it is asked for, the protocol.
+pub fn judge(alloc: Global, request: &Request<'_>, text: &[u8]) -> Result<Judged, NoMemory>
+    ensures { IfOk result (IsJudged request.now.name.now request.now.role.now request.now.checked
+        text.now) }
+{
+    match declared_protocol(alloc, request.name, text) {
+        Ok(protocol) => judge_role(alloc, request, &protocol),
+        Err(refusal) => match text_rejection(refusal) {
+            Some(rejection) => Ok(Judged::Declined(refused(alloc, &rejection)?)),
+            None => Err(NoMemory),
+        },
+    }
+}
+
+/// Judges the name of the role, and then, if it is asked for, the protocol.
+fn judge_role(alloc: Global, request: &Request<'_>, protocol: &Admitted) -> Result<Judged, NoMemory>
+    ensures { (text : List ℕ) → Declares request.now.name.now text protocol.now →
+        IfOk result (IsJudged request.now.name.now request.now.role.now request.now.checked
+        text) }
+{
+    let Some(role) = role_named(protocol.expanded(), request.role) else {
+        return Ok(Judged::Declined(unknown_role(alloc)?));
+    };
+    if !request.checked {
+        return begun(alloc, protocol, role);
+    }
+    match unsafe_reply(alloc, protocol)? {
+        Some(reply) => Ok(Judged::Declined(reply)),
+        None => begun(alloc, protocol, role),
+    }
+}
+
+/// The role is served from the first event on.
+fn begun(alloc: Global, protocol: &Admitted, role: u32) -> Result<Judged, NoMemory>
+    requires { role < length protocol.now.roles }
+    ensures { IfOk result (λ judged. judged ≡ Judged.Served (first_store protocol.now role)) }
+{
+    Ok(Judged::Served(store_with_room(alloc, protocol, role)?))
+}
+
+/// The role that has the name, if one has.
+fn role_named(x: &Expanded, name: &[u8]) -> Option<u32>
+    ensures { MatchOption result
+        ((role : ℕ) → ¬ IsRoleNamed x.now name.now role) (IsRoleNamed x.now name.now) }
+{
+    for (index, role) in x.roles.as_slice().iter().enumerate() {
+        if role.as_slice() == name {
+            return Some(index as u32);
+        }
+    }
+    None
+}
+
+/// The reply for a role that is not declared.
+fn unknown_role(alloc: Global) -> Result<Reply<Status>, NoMemory>
+    ensures { IfOk result (IsReply role_refused Refused) }
+{
+    Ok(Reply {
+        status: Status::Refused,
+        text: Bytes::from_slice(alloc, b"refused F5\n")?,
+    })
+}
+
+/// The reply on a protocol that is not found safe.
+fn unsafe_reply(alloc: Global, a: &Admitted) -> Result<Option<Reply<Status>>, NoMemory>
+    ensures { IfOk result (λ found. MatchOption found
+        (SafeProtocol a.now)
+        (λ reply. IsNotFoundSafe a.now reply.text reply.status)) }
+{
+    // law: the runs of right verdicts fit the protocol
+    right_runs_fit();
+    let verdicts = verify(alloc, a, CONFLICTS)?;
+    if let Safety::Safe(_) = verdicts.safety {
+        return Ok(None);
+    }
+    Ok(Some(Reply {
+        status: verdict_status(&verdicts),
+        text: verdict_text(alloc, a, &verdicts, true)?,
+    }))
+}
+
+/// The status of verdicts of which that on safety is not that the protocol is safe.
+fn verdict_status(verdicts: &Verdicts) -> Status
+    ensures { result ≡ verdict_status verdicts.now.safety verdicts.now.liveness }
+{
+    match (&verdicts.safety, &verdicts.liveness) {
+        (Safety::Unsafe { .. }, _) | (_, Liveness::NotLive { .. }) => Status::Refuted,
+        _ => Status::Undecided,
+    }
+}

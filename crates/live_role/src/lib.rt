@@ -1,0 +1,12 @@
+//! A role that is played line by line, and its program.
+#![tactic(auto)]
+
+mod call;
+mod judged;
+mod opening;
+mod prepared;
+mod reading;
+mod request;
+mod same;
+
+pub use call::bspl_role;

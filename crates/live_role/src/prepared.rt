@@ -1,0 +1,69 @@
+ghost use Rattle.std.specs.Prelude.{◌≡◌, IfOk};
+ghost use Rattle.bspl_types.specs.Limits.{input_limit};
+ghost use Rattle.tool_input.specs.Rejection.{over_limit, rejection_line};
+ghost use Rattle.tool_input.specs.declared.status.Status.TheVariants.{Refused};
+ghost use Rattle.live_role.specs.Opening.{lacks_wire};
+ghost use Rattle.live_role.specs.inner.Judged.{IsReply};
+ghost use Rattle.live_role.specs.inner.Prepared.{AreReadsCounted, IsPrepared};
+
+use super::judged::{Judged, judge};
+use super::reading::read_opening;
+use super::request::Request;
+use bspl_io::{ReadRefusal, Source};
+use list_base::{Bytes, NoMemory};
+use local_store::Store;
+use program_frame::Reply;
+use std::alloc::Global;
+use tool_input::{
+    Code, Field, INPUT_LIMIT, InputRefusal, Rejection, Status, input_rejection, refused,
+};
+
+/// What a call knows before it writes anything.
+#[derive(Drop)]
+pub enum Prepared {
+    /// The role is not served, and this is to be written. Without it memory ran out.
+    Replied(Result<Reply<Status>, NoMemory>),
+    /// The role is served, beginning with this store and with the bytes that were taken ahead.
+    Serves { store: Store, ahead: Bytes },
+    /// Reading failed.
+    ReadFault,
+}
+
+/// Reads up to the line `%% wire`, and judges what stands before it.
+pub fn prepare<R: Source>(alloc: Global, request: &Request<'_>, input: &mut R) -> Prepared
+    ensures known { IsPrepared request.now.name.now request.now.role.now request.now.checked
+        (R.remaining input.old) (R.remaining input.new) result }
+    ensures faults { AreReadsCounted (R.faults input.old) (R.faults input.new) result }
+{
+    let opened = match read_opening(alloc, input) {
+        Ok(Some(opened)) => opened,
+        Ok(None) => return Prepared::Replied(no_line(alloc)),
+        Err(ReadRefusal::TooLong) => return Prepared::Replied(too_long(alloc)),
+        Err(ReadRefusal::ReadFault) => return Prepared::ReadFault,
+        Err(ReadRefusal::NoMemory) => return Prepared::Replied(Err(NoMemory)),
+    };
+    match judge(alloc, request, opened.text.as_slice()) {
+        Ok(Judged::Declined(reply)) => Prepared::Replied(Ok(reply)),
+        Ok(Judged::Served(store)) => Prepared::Serves {
+            store,
+            ahead: opened.ahead,
+        },
+        Err(NoMemory) => Prepared::Replied(Err(NoMemory)),
+    }
+}
+
+/// The reply to an input that ends before the line `%% wire`.
+fn no_line(alloc: Global) -> Result<Reply<Status>, NoMemory>
+    ensures { IfOk result (IsReply (rejection_line lacks_wire) Refused) }
+{
+    let name = Bytes::from_slice(alloc, b"wire")?;
+    refused(alloc, &Rejection::with_one(Code::P(1), Field::Name(name)))
+}
+
+/// The reply to an input that has too many bytes before the line `%% wire`.
+fn too_long(alloc: Global) -> Result<Reply<Status>, NoMemory>
+    ensures { IfOk result (IsReply (rejection_line (over_limit input_limit)) Refused) }
+{
+    let rejection = input_rejection(InputRefusal::TooLong { limit: INPUT_LIMIT });
+    refused(alloc, &rejection)
+}
