@@ -1,0 +1,18 @@
+-- The reply with what the arguments name is an output, and so is the usage line to invalid ones.
+use Rattle.std.proofs.lemmas.Result.{IfOk-weaker}
+use Rattle.program_frame.specs.declared.reply.Reply.{Reply}
+use Rattle.tool_input.specs.declared.status.Status.{Status}
+use Rattle.tool_input.specs.declared.status.Status.TheVariants.{Usage}
+use Rattle.explained_answer.specs.Output.{ExplainedOutput, explain_usage}
+use Rattle.explained_answer.specs.inner.Reply.{IsReply}
+use Rattle.explained_answer.proofs.ReplyLemmas.{usage_output}
+use Rattle.explained_answer.proofs.request.RequestProgram.reply_to.Goals as goal
+
+pub returns-in-Some : goal.returns-in-Some
+returns-in-Some c = λ args request. c.explained_reply.ensures args (rw c.in-Some.is at request)
+
+pub returns-in-None : goal.returns-in-None
+returns-in-None c =
+    λ args request. let invalid = rw c.in-None.is at request in
+    IfOk-weaker c.usage.result (IsReply explain_usage Usage) (λ (r : Reply Status). ExplainedOutput args c.args.input.now r.text r.status)
+    (λ r said. usage_output args c.args.input.now r invalid said) c.usage.ensures
