@@ -4,6 +4,7 @@ use Rattle.bspl_types.specs.declared.expanded.Expanded.{Expanded}
 use Rattle.enactment_model.specs.Liveness.{LiveProtocol}
 use Rattle.enactment_model.specs.Safety.{SafeProtocol}
 use Rattle.refutation_log.specs.declared.refutation.Log.{Log}
+use Rattle.report.specs.ExitStatus.{verdict_status}
 use Rattle.tool_input.specs.declared.status.Status.TheVariants as status
 use Rattle.verdict.specs.declared.outcome.Liveness.{Liveness}
 use Rattle.verdict.specs.declared.outcome.Liveness.TheVariants as liveness
@@ -11,14 +12,14 @@ use Rattle.verdict.specs.declared.outcome.Safety.{Safety}
 use Rattle.verdict.specs.declared.outcome.Safety.TheVariants as safety
 use Rattle.verdict.specs.Right.{IsRight}
 use Rattle.verdict.specs.RightLiveness.{IsRightLiveness}
-use Rattle.explained_answer.specs.Answer.{IsExplainedAnswer, verdicts_status}
+use Rattle.explained_answer.specs.Answer.{IsExplainedAnswer}
 
 -- a right verdict that the protocol is safe is true
 right_safe : (x : Expanded) (s : Safety) (log : Log) → s ≡ safety.Safe log → IsRight x 10000 s → SafeProtocol x
 right_safe x s log is right = (rw is at right).holds
 
 -- the status 0 is that of both verdicts
-both_done : (s : Safety) (l : Liveness) → status.Done ≡ verdicts_status s l → ((log : Log) × (s ≡ safety.Safe log)) × ((log : Log) × (l ≡ liveness.Live log))
+both_done : (s : Safety) (l : Liveness) → status.Done ≡ verdict_status s l → ((log : Log) × (s ≡ safety.Safe log)) × ((log : Log) × (l ≡ liveness.Live log))
 both_done (safety.Safe log) (liveness.Live log') is = ((log, refl), (log', refl))
 both_done (safety.Safe log) (liveness.NotLive run param) is = absurd cc
 both_done (safety.Safe log) (liveness.Undecided log') is = absurd cc

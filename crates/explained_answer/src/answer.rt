@@ -1,13 +1,13 @@
 ghost use Rattle.std.specs.Prelude.{◌≡◌, IfOk};
-ghost use Rattle.explained_answer.specs.Answer.{IsExplainedAnswer, verdicts_status};
+ghost use Rattle.explained_answer.specs.Answer.{IsExplainedAnswer};
 
 use bspl_types::Admitted;
 use list_base::NoMemory;
 use program_frame::Reply;
-use report::{right_runs_fit, verdict_text};
+use report::{right_runs_fit, verdict_status, verdict_text};
 use std::alloc::Global;
 use tool_input::Status;
-use verdict::{Liveness, Safety, Verdicts, verify};
+use verdict::verify;
 use verdict_words::verdict_words;
 
 /// How many conflicts the search for each verdict may meet.
@@ -24,18 +24,7 @@ pub fn explained_verdicts(alloc: Global, protocol: &Admitted) -> Result<Reply<St
     let mut text = verdict_text(alloc, protocol, &verdicts, true)?;
     text.append(words.as_slice())?;
     Ok(Reply {
-        status: verdicts_status(&verdicts),
+        status: verdict_status(&verdicts),
         text,
     })
-}
-
-/// The status of both verdicts.
-fn verdicts_status(verdicts: &Verdicts) -> Status
-    ensures { result ≡ verdicts_status verdicts.now.safety verdicts.now.liveness }
-{
-    match (&verdicts.safety, &verdicts.liveness) {
-        (Safety::Unsafe { .. }, _) | (_, Liveness::NotLive { .. }) => Status::Refuted,
-        (Safety::Undecided(_), _) | (_, Liveness::Undecided(_)) => Status::Undecided,
-        (Safety::Safe(_), Liveness::Live(_)) => Status::Done,
-    }
 }

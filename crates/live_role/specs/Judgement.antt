@@ -3,16 +3,14 @@ use Rattle.std.specs.Prelude.{◌≡◌, ◌≢◌, ℕ, ◌<◌, Bool, true, Li
 use Rattle.bspl_types.specs.declared.expanded.Expanded.{Expanded}
 use Rattle.bspl_types.specs.declared.refusals.Refusal.{Refusal}
 use Rattle.refutation_log.specs.declared.refutation.Log.{Log}
+use Rattle.report.specs.ExitStatus.{verdict_status}
 use Rattle.report.specs.VerdictText.{verdict_text}
 use Rattle.tool_input.specs.declared.rejection.Rejection.{Rejection}
 use Rattle.tool_input.specs.declared.status.Status.{Status}
-use Rattle.tool_input.specs.declared.status.Status.TheVariants.{Refused, Refuted, Undecided}
+use Rattle.tool_input.specs.declared.status.Status.TheVariants.{Refused}
 use Rattle.tool_input.specs.Input.{Declares}
 use Rattle.tool_input.specs.Rejection.{rejection_line, text_rejection}
 use Rattle.tool_input.specs.TextRefusal.{RefusesText}
-use Rattle.verdict.specs.declared.outcome.Liveness.{Liveness}
-use Rattle.verdict.specs.declared.outcome.Liveness.TheVariants as liveness
-use Rattle.verdict.specs.declared.outcome.Safety.{Safety}
 use Rattle.verdict.specs.declared.outcome.Safety.TheVariants as safety
 use Rattle.verdict.specs.declared.outcome.Verdicts.{Verdicts}
 use Rattle.verdict.specs.Verdicts.{AreRight}
@@ -25,12 +23,6 @@ pub record IsRoleNamed (x : Expanded) (name : List ℕ) (role : ℕ) : Type 0 wh
 -- the line for a role that is not declared
 abbrev pub role_refused : List ℕ
 role_refused = codes "refused F5\n"
-
--- the status of verdicts of which the first does not say that the protocol is safe
-abbrev pub verdict_status : Safety → Liveness → Status
-verdict_status (safety.Unsafe run param first second) l = Refuted
-verdict_status s (liveness.NotLive run param) = Refuted
-verdict_status s l = Undecided
 
 -- the answer is that of right verdicts, with 10000 conflicts each, and it is not found safe
 pub record IsNotFoundSafe (x : Expanded) (out : List ℕ) (status : Status) : Type 0 where

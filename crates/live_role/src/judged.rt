@@ -4,7 +4,6 @@ ghost use Rattle.role_server.specs.Served.{first_store};
 ghost use Rattle.tool_input.specs.Input.{Declares};
 ghost use Rattle.tool_input.specs.declared.status.Status.TheVariants.{Refused};
 ghost use Rattle.live_role.specs.Judgement.{IsNotFoundSafe, IsRoleNamed, role_refused};
-ghost use Rattle.live_role.specs.Judgement.{verdict_status};
 ghost use Rattle.live_role.specs.inner.Judged.{IsJudged, IsReply};
 
 use super::request::Request;
@@ -12,11 +11,11 @@ use bspl_types::{Admitted, Expanded};
 use list_base::{Bytes, NoMemory};
 use local_store::Store;
 use program_frame::Reply;
-use report::{right_runs_fit, verdict_text};
+use report::{right_runs_fit, verdict_status, verdict_text};
 use role_server::store_with_room;
 use std::alloc::Global;
 use tool_input::{Status, declared_protocol, refused, text_rejection};
-use verdict::{Liveness, Safety, Verdicts, verify};
+use verdict::{Safety, verify};
 
 /// How many conflicts the search for each verdict may meet.
 const CONFLICTS: u32 = 10_000;
@@ -109,14 +108,4 @@ fn unsafe_reply(alloc: Global, a: &Admitted) -> Result<Option<Reply<Status>>, No
         status: verdict_status(&verdicts),
         text: verdict_text(alloc, a, &verdicts, true)?,
     }))
-}
-
-/// The status of verdicts of which that on safety is not that the protocol is safe.
-fn verdict_status(verdicts: &Verdicts) -> Status
-    ensures { result ≡ verdict_status verdicts.now.safety verdicts.now.liveness }
-{
-    match (&verdicts.safety, &verdicts.liveness) {
-        (Safety::Unsafe { .. }, _) | (_, Liveness::NotLive { .. }) => Status::Refuted,
-        _ => Status::Undecided,
-    }
 }

@@ -11,5 +11,5 @@ returns c = record {
   words = c.in_ok-words.words;
   are_words = c.in_ok-words.ensures;
   text = rw (c.as_slice.ensures, c.in_ok-text.ensures) at c.in_ok-append.ensures.ok;
-  ends = c.verdicts_status.ensures;
+  ends = c.verdict_status.ensures;
 }
