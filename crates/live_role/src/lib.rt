@@ -8,5 +8,7 @@ mod prepared;
 mod reading;
 mod request;
 mod same;
+mod standard;
 
 pub use call::bspl_role;
+pub use standard::answer;
