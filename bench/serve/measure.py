@@ -9,7 +9,8 @@ a program and size: the seconds of the clock and of processor time, each less th
 second; megabytes of memory; and the ratios of the lines a second to those of the other two programs. All have to give
 the same replies. Then ALONE (5000) of the lines are asked one by one over pipes: the median and the slowest hundredth
 of the time from a line's end to its reply, in microseconds; Python, which asks, has its share in it. The run of RUNS
-(3) that takes least counts. Without rustc the program in Rust is left out. BSPL_ROLE names one more program.
+(3) that takes least counts. Without rustc the program in Rust is left out. The third is bspl_role if it is built, or
+the program that BSPL_ROLE names.
 """
 import json
 import os
@@ -25,7 +26,8 @@ from typing import NamedTuple
 
 HERE = Path(__file__).resolve().parent
 TOP = HERE.parent.parent
-BSPL_ROLE = os.environ.get("BSPL_ROLE")
+BUILT = TOP / "crates/bspl_role/out/bspl_role"
+BSPL_ROLE = os.environ.get("BSPL_ROLE", str(BUILT) if BUILT.exists() else None)
 RUNS = int(os.environ.get("RUNS", "3"))
 ALONE = int(os.environ.get("ALONE", "5000"))
 HEAD = (TOP / "examples/Purchase.bspl").read_bytes() + b"%% wire\n"
@@ -115,7 +117,7 @@ def programs(folder):
     else:
         print("rustc is missing, so the program in Rust is left out")
     if BSPL_ROLE:
-        found = {"BSPL_ROLE": [BSPL_ROLE], **found}
+        found = {Path(BSPL_ROLE).name: [BSPL_ROLE], **found}
     return found
 
 

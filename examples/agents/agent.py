@@ -4,7 +4,7 @@
     agent.py ROLE PURCHASES LOG [--port PORT] [--seed SEED]
 
 It decides what to send. Whether it may, and what a message that comes tells, its child process answers, a line for each
-line: role.py, or the program that BSPL_ROLE names. Each request is logged before it is made, and its reply after it; an
+line: bspl_role if it is built, else role.py, or the program that BSPL_ROLE names. Each request is logged before it is made, and its reply after it; an
 agent that is started with such a log makes the same requests again, gets the same replies, and goes on.
 
 Messages travel as the role's replies have them, and may be dropped, repeated or late: the receiver acknowledges each
@@ -21,7 +21,9 @@ from pathlib import Path
 from link import Chaos, Inbox, of_arguments
 from protocol import EXAMPLES, purchase
 
-ROLE_PROGRAM = os.environ.get("BSPL_ROLE", str(Path(__file__).resolve().parent / "role.py"))
+BUILT = EXAMPLES.parent / "crates/bspl_role/out/bspl_role"
+PLAIN = Path(__file__).resolve().parent / "role.py"
+ROLE_PROGRAM = os.environ.get("BSPL_ROLE", str(BUILT if BUILT.exists() else PLAIN))
 QUIET = 0.3
 AGAIN = 200
 

@@ -1,13 +1,14 @@
 #!/usr/bin/env python3
 """Lets three agents play Purchase, and audits what they did.
 
-    play.py [--pipes] [--chaos] [--purchases N] [--logs FOLDER]
+    play.py [--pipes] [--chaos] [--purchases N] [--logs FOLDER] [--role PROGRAM]
 
 The agents reach each other over a broker, mosquitto, which is started here on a port of its own; with --pipes over
 pipes. With --chaos a tenth of the lines to each agent is dropped, a tenth comes twice, and a tenth comes late; and the
 seller is killed once and started again. When all N (1000) purchases have ended, `bspl audit` judges the three
 histories, and the outcome of each purchase is printed. The status is 0 if one legal run explains the histories, and no
-two of them have different values of one thing. BSPL and BSPL_ROLE name the programs.
+two of them have different values of one thing. The agents ask the program of --role or of BSPL_ROLE, else bspl_role
+if it is built, else role.py; BSPL names the program that audits.
 """
 import argparse
 import collections
@@ -181,7 +182,10 @@ def main():
     arguments.add_argument("--chaos", action="store_true")
     arguments.add_argument("--purchases", type=int, default=1000)
     arguments.add_argument("--logs", type=Path)
+    arguments.add_argument("--role", type=Path)
     given = arguments.parse_args()
+    if given.role:
+        os.environ["BSPL_ROLE"] = str(given.role.resolve())
     signal.signal(signal.SIGTERM, lambda *_: sys.exit(1))
     with tempfile.TemporaryDirectory() as scratch:
         folder = given.logs or Path(scratch)
