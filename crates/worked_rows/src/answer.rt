@@ -4,6 +4,7 @@ use adapter::OpenGate;
 use bspl_io::{MemSink, MemSource};
 use bspl_tool::bspl;
 use dimacs::run;
+use explained_answer::bspl_explain;
 use formula_check::dimacs_check;
 use formula_text::bspl_formula;
 use joint_enactment::bspl_can;
@@ -121,6 +122,7 @@ fn status_of<H: Threads + Wait + Sync>(
     let (program, args) = words.split_first()?;
     match program.as_str() {
         "bspl" => Some(bspl_status(rt, alloc, args, source, sink)),
+        "bspl_explain" => Some(explain_status(alloc, args, source, sink)),
         "bspl_formula" => Some(formula_status(alloc, args, source, sink)),
         "bspl_can" => Some(can_status(alloc, args, source, sink)),
         "bspl_lrat" => Some(lrat_status(alloc, args, source, sink)),
@@ -139,6 +141,15 @@ fn bspl_status<H: Threads + Wait + Sync>(
     sink: &mut MemSink,
 ) -> u8 {
     bspl(rt, alloc, args, source, sink, &OpenGate).number()
+}
+
+fn explain_status(
+    alloc: Global,
+    args: &[String],
+    source: &mut MemSource,
+    sink: &mut MemSink,
+) -> u8 {
+    bspl_explain(alloc, args, source, sink).number()
 }
 
 fn formula_status(

@@ -1,0 +1,70 @@
+use answer_words::refusal_text;
+use std::alloc::Global;
+use tool_input::{Code, Field, InputRefusal, Part, Rejection, input_rejection};
+
+/// A refusal of an input at a number, and its words.
+#[derive(Clone, Copy)]
+struct Row {
+    input: &'static [u8],
+    code: Code,
+    number: u64,
+    words: &'static [u8],
+}
+
+/// Refusals of parts, and of a text.
+const ROWS: [Row; 3] = [
+    Row {
+        input: b"P { }\n%% agents\nkeys 1\nbogus 3\n",
+        code: Code::S(1),
+        number: 2,
+        words: b"refused S1 2\nline 4, column 1\n  bogus 3\n  ^\n\
+What is wrong: a script has no such line there.\n\
+What to do: a line begins with keys, key, seed, loss, repeat, order, decline or value.\n",
+    },
+    Row {
+        input: b"P { }\n%% log\nlog 2 safety\n",
+        code: Code::L(1),
+        number: 1,
+        words: b"refused L1 1\nline 3, column 1\n  log 2 safety\n  ^\n\
+What is wrong: a log has no such line there, or it ends too early.\n\
+What to do: lines are `log 1 safety`, `step CLAUSE PIVOT CLAUSE ..` and `end`.\n",
+    },
+    Row {
+        input: b"P P { roles A parameters out x }",
+        code: Code::E(2),
+        number: 2,
+        words: b"refused E2 2\nline 1, column 3\n  P P { roles A parameters out x }\n    ^\n\
+What is wrong: no protocol has this there, or the text ends too early.\n\
+Here may stand: {\n\
+What to do: write one of these, or mend what is before the mark.\n",
+    },
+];
+
+/// The words for a part line that is nearly there.
+const PART_WORDS: &[u8] = b"refused P1 agents\n\
+What is wrong: the command needs the part agents, which no part line begins, or not the first.\n\
+The nearest line: line 2, column 1\n  %% agent\n  ^\n\
+What to do: write it alone in its line, as `%% agents`, and end the line above.\n";
+
+/// Whether the words of the rejection of the input are these.
+fn has_words(alloc: Global, input: &[u8], rejection: &Rejection, words: &[u8]) -> bool {
+    refusal_text(alloc, input, rejection)
+        .ok()
+        .is_some_and(|text| text.as_slice() == words)
+}
+
+/// Whether the row is answered as is wanted.
+fn is_explained(alloc: Global, row: &Row) -> bool {
+    let rejection = Rejection::with_one(row.code, Field::Number(row.number));
+    has_words(alloc, row.input, &rejection, row.words)
+}
+
+/// Each place is in the whole input, with the sentences of its code.
+#[test]
+fn explains_refusals(rt: HostRuntime) {
+    for row in &ROWS {
+        assert!(rt; is_explained(rt.alloc(), row));
+    }
+    let part = input_rejection(InputRefusal::NoPart { part: Part::Agents });
+    assert!(rt; has_words(rt.alloc(), b"P { }\n%% agent\n", &part, PART_WORDS));
+}
