@@ -9,12 +9,12 @@ pub written_two : (old : List ℕ) (a b : List Fragment) → (old ++ written a) 
 written_two old a b = append_assoc old (written a) (written b) ∙ ap (λ (ys : List ℕ). old ++ ys) (sym (flat_map-append fragment_text a b))
 
 -- the text with the groups written after it
-pub appended : List ℕ → List (List Fragment) → List ℕ
+abbrev pub appended : List ℕ → List (List Fragment) → List ℕ
 appended text [] = text
 appended text (group ∷ groups) = appended (text ++ written group) groups
 
 -- the fragments with the groups after them
-pub joined : List Fragment → List (List Fragment) → List Fragment
+abbrev pub joined : List Fragment → List (List Fragment) → List Fragment
 joined first [] = first
 joined first (group ∷ groups) = joined (first ++ group) groups
 
