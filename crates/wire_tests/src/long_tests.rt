@@ -19,7 +19,7 @@ fn push_line(text: &mut Bytes, blanks: usize) -> Result<(), NoMemory> {
     text.push(b'\n')
 }
 
-/// Whether the bytes are answered with the output, over pieces of that many bytes.
+/// Whether the bytes are answered with the output, read in pieces of this size.
 fn is_output(alloc: Global, bytes: &[u8], piece: usize, output: &[u8]) -> Result<bool, Fail> {
     let args = args_of(alloc, "Ping A")?;
     let mut source = source(alloc, bytes, piece, 0)?;

@@ -47,7 +47,7 @@ pub(crate) fn sink(alloc: Global, piece: usize, fault: u32) -> Result<MemSink, N
     ))
 }
 
-/// Whether the call ends as the row says, and writes its output, over pieces of that many bytes.
+/// Whether the call ends as the row says, and writes its output, read in pieces of this size.
 pub(crate) fn is_answered(alloc: Global, row: &Row, piece: usize) -> Result<bool, NoMemory> {
     let args = args_of(alloc, row.args)?;
     let mut source = source(alloc, row.input, piece, row.read_fault)?;
