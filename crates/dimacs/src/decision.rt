@@ -18,14 +18,15 @@ use refutation_log::Log;
 use sat_solver::{Outcome, SearchStats, solve_counted};
 use std::alloc::Global;
 
-/// Decides the formula of a text. A refutation has a log of at most `budget` steps, and the answer
-/// is unknown only if a log has exactly `budget` of them.
-pub fn decide(alloc: Global, options: Options, text: &[u8]) -> Result<Verdict, Refusal>
+/// Decides the formula of a text, which is let go before the search. A refutation has a log of at
+/// most `budget` steps, and the answer is unknown only if a log has exactly `budget` of them.
+pub fn decide(alloc: Global, options: Options, text: Bytes) -> Result<Verdict, Refusal>
     requires { 1 ≤ options.budget }
-    ensures right { IfOk result (IsRightVerdict text.now options) }
-    ensures refused { IfErr result (IsCauseOf text.now options.budget) }
+    ensures right { IfOk result (IsRightVerdict text options) }
+    ensures refused { IfErr result (IsCauseOf text options.budget) }
 {
-    let formula = formula_of(alloc, text)?;
+    let formula = formula_of(alloc, text.as_slice())?;
+    drop(text);
     if formula.clauses.len() as u64 + u64::from(options.budget) >= 1 << 32 {
         return Err(Refusal::TooMany);
     }

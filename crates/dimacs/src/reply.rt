@@ -33,11 +33,11 @@ pub fn too_long(alloc: Global) -> Result<Reply<Status>, NoMemory>
 }
 
 /// The reply to an input that is not too long.
-pub fn decided(alloc: Global, options: Options, text: &[u8]) -> Result<Reply<Status>, NoMemory>
+pub fn decided(alloc: Global, options: Options, text: Bytes) -> Result<Reply<Status>, NoMemory>
     requires some { 1 ≤ options.budget }
     requires few { options.budget ≤ 2147483647 }
-    requires short { length text.now ≤ dimacs_input_limit }
-    ensures { IfOk result (λ reply. Decides options text.now reply.text reply.status) }
+    requires short { length text ≤ dimacs_input_limit }
+    ensures { IfOk result (λ reply. Decides options text reply.text reply.status) }
 {
     match decide(alloc, options, text) {
         Ok(verdict) => Ok(Reply {

@@ -5,7 +5,7 @@ ghost use Rattle.dimacs.specs.inner.Request.{IsRequest};
 use super::arguments::{Options, options_of};
 use super::reply::{decided, too_long, usage};
 use super::status::Status;
-use list_base::NoMemory;
+use list_base::{Bytes, NoMemory};
 use program_frame::{Program, Reply};
 use std::alloc::Global;
 
@@ -40,7 +40,7 @@ impl<'a> Program<'a> for Request {
         self.options.is_some()
     }
 
-    fn reply_to(&self, alloc: Global, input: &[u8]) -> Result<Reply<Status>, NoMemory> {
+    fn reply_to(&self, alloc: Global, input: Bytes) -> Result<Reply<Status>, NoMemory> {
         match self.options {
             Some(options) => decided(alloc, options, input),
             None => usage(alloc),

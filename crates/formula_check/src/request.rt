@@ -4,7 +4,7 @@ ghost use Rattle.formula_check.specs.Output.{CheckOutput};
 ghost use Rattle.formula_check.specs.inner.Request.{IsRequest};
 
 use super::reply::{check_reply, too_long, usage};
-use list_base::NoMemory;
+use list_base::{Bytes, NoMemory};
 use program_frame::{Program, Reply};
 use std::alloc::Global;
 use tool_input::{INPUT_LIMIT, Status};
@@ -40,9 +40,9 @@ impl<'a> Program<'a> for Request {
         self.is_valid
     }
 
-    fn reply_to(&self, alloc: Global, input: &[u8]) -> Result<Reply<Status>, NoMemory> {
+    fn reply_to(&self, alloc: Global, input: Bytes) -> Result<Reply<Status>, NoMemory> {
         if self.is_valid {
-            check_reply(alloc, input)
+            check_reply(alloc, input.as_slice())
         } else {
             usage(alloc)
         }

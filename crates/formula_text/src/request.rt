@@ -8,7 +8,7 @@ ghost use Rattle.std.specs.Prelude.{[], ◌∷◌, map, string_bytes, MatchOptio
 use super::property::property_of;
 use super::reply::{formula_reply, too_long, usage};
 use bspl_types::{Property, is_name};
-use list_base::NoMemory;
+use list_base::{Bytes, NoMemory};
 use program_frame::{Program, Reply};
 use std::alloc::Global;
 use tool_input::{INPUT_LIMIT, Status};
@@ -60,9 +60,9 @@ impl<'a> Program<'a> for Request<'a> {
         self.wanted.is_some()
     }
 
-    fn reply_to(&self, alloc: Global, input: &[u8]) -> Result<Reply<Status>, NoMemory> {
+    fn reply_to(&self, alloc: Global, input: Bytes) -> Result<Reply<Status>, NoMemory> {
         match self.wanted {
-            Some(wanted) => formula_reply(alloc, wanted, input),
+            Some(wanted) => formula_reply(alloc, wanted, input.as_slice()),
             None => usage(alloc),
         }
     }

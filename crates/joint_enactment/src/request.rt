@@ -7,7 +7,7 @@ ghost use Rattle.joint_enactment.specs.inner.Request.{IsRequest};
 use super::arguments::{Kind, args_of};
 use super::conflicts::conflicts_of;
 use super::reply::{can_reply, too_long, usage};
-use list_base::{NoMemory, Seq};
+use list_base::{Bytes, NoMemory, Seq};
 use program_frame::{Program, Reply};
 use std::alloc::Global;
 use tool_input::{INPUT_LIMIT, Status};
@@ -51,9 +51,9 @@ impl<'a> Program<'a> for Request<'a> {
         self.asked.is_some()
     }
 
-    fn reply_to(&self, alloc: Global, input: &[u8]) -> Result<Reply<Status>, NoMemory> {
+    fn reply_to(&self, alloc: Global, input: Bytes) -> Result<Reply<Status>, NoMemory> {
         match &self.asked {
-            Some(asked) => can_reply(alloc, asked, input),
+            Some(asked) => can_reply(alloc, asked, input.as_slice()),
             None => usage(alloc),
         }
     }

@@ -35,9 +35,7 @@ pub fn serve<'a, P: Program<'a>, R: Source, W: Sink>(
     halves_are_calls::<P>();
     match prepare::<P, R>(alloc, args, input) {
         Prepared::Replied(reply) => write_reply(Ok(reply), output),
-        Prepared::Read { request, input } => {
-            write_reply(request.reply_to(alloc, input.as_slice()), output)
-        }
+        Prepared::Read { request, input } => write_reply(request.reply_to(alloc, input), output),
         Prepared::Ended(ending) => ending,
     }
 }

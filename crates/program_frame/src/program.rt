@@ -3,7 +3,7 @@ ghost use Rattle.program_frame.specs.Program.{IsRequested, NeedsNoInput};
 
 use super::ending::ExitStatus;
 use super::reply::Reply;
-use list_base::NoMemory;
+use list_base::{Bytes, NoMemory};
 use std::alloc::Global;
 
 /// A program, as what its arguments request: whether it wants the input, and what it answers.
@@ -40,12 +40,13 @@ pub trait Program<'a>: Drop {
             (IsTrue result ↔ asks args) }
         ensures unasked { (args : List (List ℕ)) → NeedsNoInput (asks args) (answers args) };
 
-    /// The reply to the whole input, or to no bytes if the arguments ask for none.
-    fn reply_to(&self, alloc: Global, input: &[u8]) -> Result<Reply<Self::Status>, NoMemory>
+    /// The reply to the whole input, or to no bytes if the arguments ask for none. The bytes are
+    /// given away, so that a program keeps them no longer than it reads them.
+    fn reply_to(&self, alloc: Global, input: Bytes) -> Result<Reply<Self::Status>, NoMemory>
         requires known { IsRequested requests self.now }
-        requires short { length input.now ≤ limit }
+        requires short { length input ≤ limit }
         ensures { (args : List (List ℕ)) → requests args self.now →
-            IfOk result (λ reply. answers args input.now reply.text reply.status) };
+            IfOk result (λ reply. answers args input reply.text reply.status) };
 
     /// The reply to an input that is too long.
     fn too_long(&self, alloc: Global) -> Result<Reply<Self::Status>, NoMemory>

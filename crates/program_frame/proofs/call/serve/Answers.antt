@@ -5,6 +5,5 @@ use Rattle.program_frame.proofs.call.serve.Goals as goal
 pub returns-in-Read-clause-call : goal.returns-in-Read-clause-call
 returns-in-Read-clause-call g c =
     let known = c.in-Read.ensures.known in
-    let right = rw c.as_slice.ensures at (c.reply_to.ensures _ known.requested) in
     c.halves_are_calls.ensures.call _ _ (Read c.in-Read.request c.in-Read.input) _ known
-    (record { made = c.reply_to.result; right = right; written = c.write_reply-in-Read.ensures.written })
+    (record { made = c.reply_to.result; right = c.reply_to.ensures _ known.requested; written = c.write_reply-in-Read.ensures.written })

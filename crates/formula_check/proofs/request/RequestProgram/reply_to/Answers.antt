@@ -11,9 +11,9 @@ use Rattle.formula_check.proofs.ReplyLemmas.{usage_output}
 use Rattle.formula_check.proofs.request.RequestProgram.reply_to.Goals as goal
 
 pub returns-then-self : goal.returns-then-self
-returns-then-self c = λ args request. c.check_reply.ensures args (request.0 c.if-self.true)
+returns-then-self c = λ args request. rw c.as_slice.ensures at (c.check_reply.ensures args (request.0 c.if-self.true))
 
-pub returns-else-self : goal.returns-else-self
-returns-else-self c =
-    λ args request. IfOk-weaker c.usage.result (IsReply check_usage Usage) (λ (r : Reply Status). CheckOutput args c.args.input.now r.text r.status)
-    (λ r said. usage_output args c.args.input.now r (λ asks. false≢true (sym c.if-self.false ∙ request.1 asks)) said) c.usage.ensures
+pub returns : goal.returns
+returns c =
+    λ args request. IfOk-weaker c.usage.result (IsReply check_usage Usage) (λ (r : Reply Status). CheckOutput args c.args.input r.text r.status)
+    (λ r said. usage_output args c.args.input r (λ asks. false≢true (sym c.if-self.false ∙ request.1 asks)) said) c.usage.ensures

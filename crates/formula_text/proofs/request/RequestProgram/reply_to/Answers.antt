@@ -9,10 +9,10 @@ use Rattle.formula_text.proofs.ReplyLemmas.{usage_output}
 use Rattle.formula_text.proofs.request.RequestProgram.reply_to.Goals as goal
 
 pub returns-in-Some : goal.returns-in-Some
-returns-in-Some c = λ args request. c.formula_reply.ensures args (rw c.in-Some.is at request)
+returns-in-Some c = λ args request. rw c.as_slice.ensures at (c.formula_reply.ensures args (rw c.in-Some.is at request))
 
-pub returns-in-None : goal.returns-in-None
-returns-in-None c =
+pub returns : goal.returns
+returns c =
     λ args request. let invalid = rw c.in-None.is at request in
-    IfOk-weaker c.usage.result (IsReply formula_usage Usage) (λ (r : Reply Status). FormulaOutput args c.args.input.now r.text r.status)
-    (λ r said. usage_output args c.args.input.now r invalid said) c.usage.ensures
+    IfOk-weaker c.usage.result (IsReply formula_usage Usage) (λ (r : Reply Status). FormulaOutput args c.args.input r.text r.status)
+    (λ r said. usage_output args c.args.input r invalid said) c.usage.ensures
