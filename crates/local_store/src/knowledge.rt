@@ -33,6 +33,14 @@ impl Store {
         self.is_of_role(Kind::Emitted, message) && self.happened(message, key)
     }
 
+    /// The index of the key, from 0, if it is held: the row by which other calls know it.
+    pub fn find(&self, key: &Key) -> Option<usize>
+        ensures { MatchOption result (¬ Contains self.now.keys key.now)
+            (λ row. slice_get self.now.keys row ≡ Some key.now) }
+    {
+        self.row_of(key)
+    }
+
     /// The index of a held key, from 0: the row by which other calls know it. The guess is looked at
     /// first, so a right one saves the search.
     pub fn row_near(&self, key: &Key, guess: usize) -> usize
@@ -41,10 +49,7 @@ impl Store {
         ensures within { result < length self.now.keys }
         ensures key { key_at self.now result ≡ key.now }
     {
-        if guess < self.keys.len() && self.keys.at(guess).same(key) {
-            return guess;
-        }
-        self.held_row(key)
+        self.near_row(key, guess)
     }
 
     /// Whether the message was emitted under the row's key.

@@ -88,6 +88,28 @@ impl Store {
         self.row_of(key).unwrap()
     }
 
+    /// The row of a held key. The guess is looked at first.
+    pub(crate) fn near_row(&self, key: &Key, guess: usize) -> usize
+        requires { Contains self.now.keys key.now }
+        ensures row { slice_get self.now.keys result ≡ Some key.now }
+        ensures within { result < length self.now.keys }
+        ensures key { key_at self.now result ≡ key.now }
+        ensures sound { IsSound self.now }
+    {
+        if self.is_at(key, guess) {
+            return guess;
+        }
+        self.held_row(key)
+    }
+
+    /// Whether the key is the row's.
+    fn is_at(&self, key: &Key, row: usize) -> bool
+        ensures at { IsTrue result → slice_get self.now.keys row ≡ Some key.now }
+        ensures sound { IsSound self.now }
+    {
+        row < self.keys.len() && self.keys.at(row).same(key)
+    }
+
     /// What the message carries.
     pub(crate) fn carried(&self, message: u32) -> &[Carried]
         requires { message < length self.now.protocol.messages }

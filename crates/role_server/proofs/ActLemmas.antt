@@ -1,13 +1,15 @@
 -- What a line asks for is an act of the role, and when the store can do it.
-use Rattle.std.proofs.Common.{◌≡◌, ◌<◌, ℕ, List, Result, Ok, Err, IfOk, length, refl, sym, ap, subst, ◌∙◌, arith, inl, inr}
+use Rattle.std.proofs.Common.{◌≡◌, ◌↔◌, ◌<◌, ℕ, List, Option, None, Some, Result, Ok, Err, IfOk, length, refl, sym, ap, subst, ◌∙◌, arith, inl, inr}
 use Rattle.std.proofs.lemmas.Bool.{cases_lt}
 use Rattle.std.proofs.lemmas.Slice.Zip.{AllZip-long}
 use Rattle.std.specs.List.{Contains}
+use Rattle.std.specs.Prelude.{IsSome, MatchOption, slice_get}
 use Rattle.bspl_types.specs.declared.envelope.Stamped.{Stamped}
 use Rattle.bspl_types.specs.declared.expanded.Expanded.{Expanded}
 use Rattle.bspl_types.specs.declared.value.Value.{Value}
 use Rattle.bspl_types.specs.ValueSpelling.{SpellsValue}
 use Rattle.list_base.proofs.Members.{end_same}
+use Rattle.list_base.proofs.Membership.{member_at}
 use Rattle.list_base.specs.Lines.{Line}
 use Rattle.local_store.specs.declared.receipt.Receipt.{Receipt}
 use Rattle.local_store.specs.declared.receipt.Receipt.TheVariants.{Fresh, Repeat, Differs}
@@ -105,3 +107,8 @@ keeps_after s held new key holds keeps =
 pub line_answered : {E : Type 0} (s : StoreState) (line : Line) (act : Act) (result : Result Reply E) (new : StoreState) → AsksFor s.protocol s.role line act → IfOk result (λ reply. Answers s act reply new) → IfOk result (λ reply. Replies s line reply new)
 line_answered s line act (Ok reply) new asks is = answered act asks is
 line_answered s line act (Err error) new asks is = is
+
+-- a key is held if it has a row
+pub found_held : (s : StoreState) (key : List Value) (row : Option ℕ) → MatchOption row (¬ Contains s.keys key) (λ r. slice_get s.keys r ≡ Some key) → IsSome row ↔ Contains s.keys key
+found_held s key None fresh = (λ some. absurd (cc), λ held. absurd (fresh held))
+found_held s key (Some r) at = (λ _. member_at s.keys r key at, λ _. refl)

@@ -1,5 +1,5 @@
 -- How far a role comes with a source and a sink.
-use Rattle.std.specs.Prelude.{◌≡◌, ◌⊎◌, ℕ, ◌<◌, ◌≤◌, List, ◌++◌, Result, IsErrOf, length}
+use Rattle.std.specs.Prelude.{◌≡◌, ◌⊎◌, ℕ, ◌<◌, ◌≤◌, List, ◌++◌, Option, Result, IsErrOf, length}
 use Rattle.std.specs.Io.KnownBytes.{Appends, Consumes, IsAtEnd}
 use Rattle.bspl_io.specs.Faults.{HasCounted}
 use Rattle.bspl_io.specs.Sink.{AppendsPrefix}
@@ -9,6 +9,16 @@ use Rattle.local_store.specs.State.{StoreState}
 use Rattle.role_server.specs.declared.refusal.ServeRefusal.{ServeRefusal}
 use Rattle.role_server.specs.declared.refusal.ServeRefusal.TheVariants as refusal
 use Rattle.role_server.specs.Served.{Served, ServedUpTo, ServedWhole}
+
+-- what passes when a source and a sink, whose bytes these are, change so
+abbrev pub passed : {R W : Type 0} → (R → Option (List ℕ)) → (W → Option (List ℕ)) → R → R → W → W
+    → Traffic
+passed remaining contents source source_after sink sink_after = record {
+  remaining = remaining source;
+  remaining_after = remaining source_after;
+  contents = contents sink;
+  contents_after = contents sink_after;
+}
 
 -- the input was read to its end, and each line got its reply; some bytes were taken ahead
 pub record ServesAll (s : StoreState) (ahead : List ℕ) (t : Traffic) (end : StoreState)
@@ -74,10 +84,19 @@ pub record FaultCounts : Type 0 where
   pub writes : ℕ
   pub writes_after : ℕ
 
+-- these counts, when a source and a sink change so
+abbrev pub counts : {R W : Type 0} → (R → ℕ) → (W → ℕ) → R → R → W → W → FaultCounts
+counts reads writes source source_after sink sink_after = record {
+  reads = reads source;
+  reads_after = reads source_after;
+  writes = writes sink;
+  writes_after = writes sink_after;
+}
+
 -- a fault is answered only if it was counted, and else the count is the same
-pub record AreFaultsCounted {X : Type 0} (counts : FaultCounts) (result : Result X ServeRefusal)
+pub record AreFaultsCounted {X : Type 0} (c : FaultCounts) (result : Result X ServeRefusal)
     : Type 0 where
-  pub read : IsErrOf result refusal.ReadFault → HasCounted counts.reads counts.reads_after
-  pub no_read : ¬ IsErrOf result refusal.ReadFault → counts.reads_after ≡ counts.reads
-  pub write : IsErrOf result refusal.WriteFault → HasCounted counts.writes counts.writes_after
-  pub no_write : ¬ IsErrOf result refusal.WriteFault → counts.writes_after ≡ counts.writes
+  pub read : IsErrOf result refusal.ReadFault → HasCounted c.reads c.reads_after
+  pub no_read : ¬ IsErrOf result refusal.ReadFault → c.reads_after ≡ c.reads
+  pub write : IsErrOf result refusal.WriteFault → HasCounted c.writes c.writes_after
+  pub no_write : ¬ IsErrOf result refusal.WriteFault → c.writes_after ≡ c.writes

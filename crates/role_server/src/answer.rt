@@ -1,4 +1,5 @@
-ghost use Rattle.std.specs.Prelude.{◌≡◌, ◌↔◌, ◌++◌, ◌∷◌, [], length, IfOk, IsTrue, OnErr, OnOk};
+ghost use Rattle.std.specs.Prelude.{◌≡◌, ◌↔◌, ◌++◌, ◌∷◌, [], length, IfOk, IsSome, IsTrue, OnErr, OnOk};
+ghost use Rattle.std.specs.List.{Contains};
 ghost use Rattle.role_server.specs.Replies.{Acts, Answers, HasNoRoom, IsLast, KeepsRole, Replies, key_of, stamp_of};
 ghost use Rattle.role_server.specs.inner.Acts.{HoldsKey, IsBeforeLast, IsOwn, IsReady};
 
@@ -6,7 +7,7 @@ use bspl_types::Key;
 use list_base::NoMemory;
 use local_store::Store;
 use std::alloc::Global;
-use wire_form::{Act, Reading, Refusal, Reply, read_line};
+use wire_form::{Act, LineReader, Reading, Refusal, Reply};
 
 /// The most keys that are held.
 const HELD_LIMIT: u32 = 10_000;
@@ -15,22 +16,36 @@ const HELD_LIMIT: u32 = 10_000;
 const LAST_STAMP: u64 = u64::MAX;
 
 /// Answers the line with this body, and an LF after it.
-#[tactic(auto, using(crate::proofs::ActLemmas::own_act))]
 pub fn answer_line(alloc: Global, store: &mut Store, body: &[u8]) -> Result<Reply, NoMemory>
     ensures reply { IfOk result (λ reply.
         Replies store.old (body.now ++ 10 ∷ []) reply store.new) }
     ensures err { OnErr result (store.new ≡ store.old) }
     ensures role { KeepsRole store.old store.new }
 {
-    match read_line(alloc, store.admitted(), store.role(), body)? {
+    answer_with(&mut LineReader::new(alloc), store, body)
+}
+
+/// Answers the line with this body, and an LF after it, with a reader that lives on.
+#[tactic(auto, using(crate::proofs::ActLemmas::own_act))]
+pub fn answer_with(
+    reader: &mut LineReader,
+    store: &mut Store,
+    body: &[u8],
+) -> Result<Reply, NoMemory>
+    ensures reply { IfOk result (λ reply.
+        Replies store.old (body.now ++ 10 ∷ []) reply store.new) }
+    ensures err { OnErr result (store.new ≡ store.old) }
+    ensures role { KeepsRole store.old store.new }
+{
+    match reader.read(store.admitted(), store.role(), body)? {
         Reading::NotRead => Ok(Reply::Refused(Refusal::F1)),
         Reading::NotMeant => Ok(Reply::Refused(Refusal::F2)),
         Reading::Meant(act) => answer_act(store, &act),
     }
 }
 
-/// Answers what a line asks for.
-#[tactic(auto, using(crate::proofs::ActLemmas::own_key, crate::proofs::ActLemmas::ready, crate::proofs::ActLemmas::keeps_after))]
+/// Answers what a line asks for. Its key is looked for once.
+#[tactic(auto, using(crate::proofs::ActLemmas::own_key, crate::proofs::ActLemmas::found_held, crate::proofs::ActLemmas::ready, crate::proofs::ActLemmas::keeps_after))]
 fn answer_act(store: &mut Store, act: &Act) -> Result<Reply, NoMemory>
     requires { IsOwn store.old.protocol store.old.role act.now }
     ensures reply { IfOk result (λ reply. Answers store.old act.now reply store.new) }
@@ -38,31 +53,35 @@ fn answer_act(store: &mut Store, act: &Act) -> Result<Reply, NoMemory>
     ensures role { KeepsRole store.old store.new }
 {
     let key = key_of(act);
-    if has_no_room(store, &key) {
+    let row = store.find(key);
+    if has_no_room(store, key, row) {
         return Ok(Reply::Refused(Refusal::F3));
     }
     if is_last(store, act) {
         return Ok(Reply::Refused(Refusal::F4));
     }
-    hold(store, &key)?;
-    Ok(reply_to(store, act))
+    // a key that is held from now on gets the next row
+    let near = row.unwrap_or(store.held() as usize);
+    hold(store, key, row)?;
+    Ok(reply_to(store, act, near))
 }
 
 /// The key under which the act is.
-fn key_of(act: &Act) -> Key
-    ensures { result ≡ key_of act.now }
+fn key_of(act: &Act) -> &Key
+    ensures { result.now ≡ key_of act.now }
 {
     match act {
-        Act::Arrival(message) => message.instance.key,
-        Act::Attempt { key, .. } => *key,
+        Act::Arrival(message) => &message.instance.key,
+        Act::Attempt { key, .. } => key,
     }
 }
 
-/// Whether there is no room for a further event or for the key.
-fn has_no_room(store: &Store, key: &Key) -> bool
+/// Whether there is no room for a further event or for the key, whose row this is if it is held.
+fn has_no_room(store: &Store, key: &Key, row: Option<usize>) -> bool
+    requires { IsSome row ↔ Contains store.now.keys key.now }
     ensures { IsTrue result ↔ HasNoRoom store.now key.now }
 {
-    store.spare() == 0 || (!store.holds(key) && store.held() >= HELD_LIMIT)
+    store.spare() == 0 || (row.is_none() && store.held() >= HELD_LIMIT)
 }
 
 /// Whether the clock, or the stamp that comes, is at its last value.
@@ -86,30 +105,33 @@ fn stamp_of(act: &Act) -> u64
 
 /// Makes the key held, for which there is room.
 #[tactic(auto, using(crate::proofs::ActLemmas::held_before, crate::proofs::ActLemmas::held_then, crate::proofs::ActLemmas::few_held))]
-fn hold(store: &mut Store, key: &Key) -> Result<(), NoMemory>
+fn hold(store: &mut Store, key: &Key, row: Option<usize>) -> Result<(), NoMemory>
+    requires row { IsSome row ↔ Contains store.old.keys key.now }
     requires whole { length key.now ≡ length store.old.protocol.keys }
     requires room { ¬ HasNoRoom store.old key.now }
     ensures ok { OnOk result (HoldsKey store.old key.now store.new) }
     ensures err { OnErr result (store.new ≡ store.old) }
 {
-    if store.holds(key) {
+    if row.is_some() {
         return Ok(());
     }
     store.add_key(key)
 }
 
-/// Does the act, and gives the reply to it.
+/// Does the act, and gives the reply to it. Its key is first looked for at the row that is near.
 #[tactic(auto, using(crate::proofs::ActLemmas::receipt_keeps))]
-fn reply_to(store: &mut Store, act: &Act) -> Reply
+fn reply_to(store: &mut Store, act: &Act, near: usize) -> Reply
     requires { IsReady store.old act.now }
     ensures reply { Acts store.old act.now result store.new }
     ensures role { KeepsRole store.old store.new }
 {
     match act {
-        Act::Arrival(message) => Reply::Received(store.receive(message)),
-        Act::Attempt { message, key, outs } => match store.emit(*message, key, outs.as_slice()) {
-            Ok(sent) => Reply::Sent(sent),
-            Err(block) => Reply::Blocked(block),
-        },
+        Act::Arrival(message) => Reply::Received(store.receive_near(message, near)),
+        Act::Attempt { message, key, outs } => {
+            match store.emit_near(*message, key, outs.as_slice(), near) {
+                Ok(sent) => Reply::Sent(sent),
+                Err(block) => Reply::Blocked(block),
+            }
+        }
     }
 }

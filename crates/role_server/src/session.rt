@@ -2,17 +2,17 @@ ghost use Rattle.std.specs.Prelude.{◌≡◌, ◌++◌, [], OnErr, OnOk, IsErrO
 ghost use Rattle.std.specs.Io.KnownBytes.{Appends};
 ghost use Rattle.bspl_io.specs.Faults.{HasCounted};
 ghost use Rattle.bspl_io.specs.Sink.{AppendsPrefix};
-ghost use Rattle.role_server.specs.inner.Session.{AppendsReply, EndsLine, Feeds, PushesReply, kept_more};
+ghost use Rattle.role_server.specs.inner.Session.{AppendsReply, EndsLine, Feeds, IsFresh, PushesReply, kept_more};
 ghost use Rattle.wire_form.specs.Reply.{reply_text};
 
-use super::answer::answer_line;
+use super::answer::answer_with;
 use bspl_io::{Sink, WriteRefusal, write_all};
 use list_base::{Bytes, NoMemory};
 use local_store::Store;
 use std::alloc::Global;
 use std::mem;
 use text_lines::split_once;
-use wire_form::{Reply, push_reply};
+use wire_form::{LineReader, Reply, push_reply};
 
 /// The most bytes of a begun line that are kept: one more than a line may have.
 const KEPT_LIMIT: usize = 65_537;
@@ -21,6 +21,7 @@ const KEPT_LIMIT: usize = 65_537;
 #[derive(Drop)]
 pub struct Session {
     pub store: Store,
+    pub reader: LineReader,
     /// The line that is begun, or enough of it to show that it is too long.
     pub begun: Bytes,
     /// The replies that are still to be written.
@@ -30,10 +31,12 @@ pub struct Session {
 impl Session {
     /// A session before the first byte.
     pub fn new(alloc: Global, store: Store) -> Session
-        ensures { result ≡ record { store = store; begun = []; replies = [] } }
+        ensures store { result.store ≡ store }
+        ensures fresh { IsFresh result }
     {
         Session {
             store,
+            reader: LineReader::new(alloc),
             begun: Bytes::new(alloc),
             replies: Bytes::new(alloc),
         }
@@ -45,6 +48,7 @@ impl Session {
     {
         let Session {
             store,
+            reader: _,
             begun: _,
             replies: _,
         } = self;
@@ -109,20 +113,27 @@ impl Session {
     fn answer(&mut self, alloc: Global, body: &[u8]) -> Result<(), NoMemory>
         ensures { OnOk result (PushesReply self.old body.now self.new) }
     {
-        push_answer(alloc, &mut self.store, body, &mut self.replies)
+        push_answer(
+            alloc,
+            &mut self.reader,
+            &mut self.store,
+            body,
+            &mut self.replies,
+        )
     }
 }
 
 /// Answers the line with this body, and appends the text of the reply.
 fn push_answer(
     alloc: Global,
+    reader: &mut LineReader,
     store: &mut Store,
     body: &[u8],
     text: &mut Bytes,
 ) -> Result<(), NoMemory>
     ensures { OnOk result (AppendsReply store.old body.now store.new text.old text.new) }
 {
-    match answer_line(alloc, store, body) {
+    match answer_with(reader, store, body) {
         Ok(reply) => push_text(alloc, text, store, &reply),
         Err(error) => Err(error),
     }

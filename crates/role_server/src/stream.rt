@@ -5,7 +5,7 @@ ghost use Rattle.bspl_io.specs.Sink.{AppendsPrefix};
 ghost use Rattle.bspl_types.specs.Limits.{input_limit};
 ghost use Rattle.local_store.specs.Consistent.{IsConsistent};
 ghost use Rattle.role_server.specs.Served.{first_store};
-ghost use Rattle.role_server.specs.Stream.{AreFaultsCounted, ServesAll, Stops};
+ghost use Rattle.role_server.specs.Stream.{AreFaultsCounted, ServesAll, Stops, counts, passed};
 ghost use Rattle.role_server.specs.inner.Session.{CutsReplies, IsFresh, WritesReplies, last_reply};
 
 use super::refusal::ServeRefusal;
@@ -35,24 +35,12 @@ pub fn serve<R: Source, W: Sink>(
     output: &mut W,
 ) -> Result<Store, ServeRefusal>
     requires { role < length a.now.roles }
-    ensures ok { IfOk result (ServesAll (first_store a.now role) [] (record {
-      remaining = R.remaining input.old;
-      remaining_after = R.remaining input.new;
-      contents = W.contents output.old;
-      contents_after = W.contents output.new;
-    })) }
-    ensures err { IfErr result (Stops (first_store a.now role) [] (record {
-      remaining = R.remaining input.old;
-      remaining_after = R.remaining input.new;
-      contents = W.contents output.old;
-      contents_after = W.contents output.new;
-    })) }
-    ensures faults { AreFaultsCounted (record {
-      reads = R.faults input.old;
-      reads_after = R.faults input.new;
-      writes = W.faults output.old;
-      writes_after = W.faults output.new;
-    }) result }
+    ensures ok { IfOk result (ServesAll (first_store a.now role) []
+        (passed R.remaining W.contents input.old input.new output.old output.new)) }
+    ensures err { IfErr result (Stops (first_store a.now role) []
+        (passed R.remaining W.contents input.old input.new output.old output.new)) }
+    ensures faults { AreFaultsCounted
+        (counts R.faults W.faults input.old input.new output.old output.new) result }
     ensures consistent { IfOk result IsConsistent }
 {
     let store = store_with_room(alloc, a, role)?;
@@ -72,24 +60,12 @@ pub fn serve_from<R: Source, W: Sink>(
     output: &mut W,
 ) -> Result<Store, ServeRefusal>
     requires { length ahead.now ≤ input_limit }
-    ensures ok { IfOk result (ServesAll store ahead.now (record {
-      remaining = R.remaining input.old;
-      remaining_after = R.remaining input.new;
-      contents = W.contents output.old;
-      contents_after = W.contents output.new;
-    })) }
-    ensures err { IfErr result (Stops store ahead.now (record {
-      remaining = R.remaining input.old;
-      remaining_after = R.remaining input.new;
-      contents = W.contents output.old;
-      contents_after = W.contents output.new;
-    })) }
-    ensures faults { AreFaultsCounted (record {
-      reads = R.faults input.old;
-      reads_after = R.faults input.new;
-      writes = W.faults output.old;
-      writes_after = W.faults output.new;
-    }) result }
+    ensures ok { IfOk result (ServesAll store ahead.now
+        (passed R.remaining W.contents input.old input.new output.old output.new)) }
+    ensures err { IfErr result (Stops store ahead.now
+        (passed R.remaining W.contents input.old input.new output.old output.new)) }
+    ensures faults { AreFaultsCounted
+        (counts R.faults W.faults input.old input.new output.old output.new) result }
 {
     let mut session = Session::new(alloc, store);
     match run(alloc, &mut session, ahead, input, output) {
@@ -118,24 +94,12 @@ fn run<R: Source, W: Sink>(
 ) -> Result<(), ServeRefusal>
     requires fresh { IsFresh session.old }
     requires short { length ahead.now ≤ input_limit }
-    ensures ok { OnOk result (ServesAll session.old.store ahead.now (record {
-      remaining = R.remaining input.old;
-      remaining_after = R.remaining input.new;
-      contents = W.contents output.old;
-      contents_after = W.contents output.new;
-    }) session.new.store) }
-    ensures err { IfErr result (Stops session.old.store ahead.now (record {
-      remaining = R.remaining input.old;
-      remaining_after = R.remaining input.new;
-      contents = W.contents output.old;
-      contents_after = W.contents output.new;
-    })) }
-    ensures faults { AreFaultsCounted (record {
-      reads = R.faults input.old;
-      reads_after = R.faults input.new;
-      writes = W.faults output.old;
-      writes_after = W.faults output.new;
-    }) result }
+    ensures ok { OnOk result (ServesAll session.old.store ahead.now
+        (passed R.remaining W.contents input.old input.new output.old output.new) session.new.store) }
+    ensures err { IfErr result (Stops session.old.store ahead.now
+        (passed R.remaining W.contents input.old input.new output.old output.new)) }
+    ensures faults { AreFaultsCounted
+        (counts R.faults W.faults input.old input.new output.old output.new) result }
 {
     step(alloc, session, ahead, output)?;
     let mut taken = ahead.len() as u64;

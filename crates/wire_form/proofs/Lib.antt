@@ -4,4 +4,5 @@ pub mod FormLemmas
 pub mod MeaningLemmas
 pub mod ActLemmas
 pub mod SortedLemmas
+pub mod InOrderLemmas
 pub mod WritingLemmas

@@ -1,5 +1,6 @@
 -- The message of a name, and the values that fields give.
-use Rattle.std.proofs.Common.{◌≡◌, ◌≢◌, ℕ, ◌+◌, ◌<◌, List, [], ◌∷◌, ◌++◌, length, map, take, get_or, Contains, Option, Some, None, Bool, true, false, Ordering, Less, Equal, Greater, nat_cmp, is_eq, refl, sym, ap, subst, ◌∙◌, inl, inr, arith}
+use Rattle.std.proofs.Common.{◌≡◌, ◌≢◌, ℕ, ◌+◌, ◌<◌, List, [], ◌∷◌, ◌++◌, length, map, take, drop, get_or, Contains, Option, Some, None, Bool, true, false, Ordering, Less, Equal, Greater, nat_cmp, is_eq, refl, sym, ap, subst, ◌∙◌, inl, inr, arith}
+use Rattle.std.specs.Borrow.{Bor}
 use Rattle.std.specs.List.{AllZip, position}
 use Rattle.std.specs.Str.{bytes_eq}
 use Rattle.std.specs.Cmp.Lexicographic.{slice_cmp}
@@ -7,7 +8,7 @@ use Rattle.std.specs.Ordering.{match_ordering}
 use Rattle.std.proofs.lemmas.Bool.{cases_order, cond-false, cond-true, true≢false}
 use Rattle.std.proofs.lemmas.Cmp.{nat_list_cmp_total, tied_itself}
 use Rattle.std.proofs.lemmas.Map.Text.{is_eq-slice_cmp}
-use Rattle.std.proofs.lemmas.List.{append-nil, get_or_default, get_or-map, length-map, take_more}
+use Rattle.std.proofs.lemmas.List.{append-nil, drop_more, get_or_default, get_or-map, length-map, take_more}
 use Rattle.std.proofs.lemmas.List.Elements.{filter-append}
 use Rattle.std.proofs.lemmas.List.Quantifiers.{position-Some}
 use Rattle.std.proofs.lemmas.Option.{none-some}
@@ -22,14 +23,14 @@ use Rattle.bspl_types.specs.declared.value.Value.{Value}
 use Rattle.bspl_types.specs.ValueSpelling.{SpellsValue}
 use Rattle.list_base.proofs.Filtered.{kept_member}
 use Rattle.list_base.proofs.FirstIndex.{named_index}
-use Rattle.list_base.proofs.Zipped.{none_at, zip_append}
-use Rattle.serde_json.specs.declared.value.Value.{Value as Json}
+use Rattle.list_base.proofs.Zipped.{none_at, paired_more, zip_append}
 use Rattle.serde_json.specs.Data.{Data, string}
 use Rattle.serde_json.specs.Find.{get_member}
 use Rattle.bspl_types.specs.ValueSpelling.{value_spelling}
 use Rattle.wire_form.specs.Meaning.{IsGiven}
 use Rattle.wire_form.specs.Request.{Field, fields_data}
-use Rattle.wire_form.specs.inner.Asked.{text_in, texts_in}
+use Rattle.wire_form.specs.declared.asked.Field.{Field as TextField}
+use Rattle.wire_form.specs.inner.Asked.{fields_of, texts_of}
 
 -- the index of the message of that name
 abbrev pub index_named : Expanded → List ℕ → Option ℕ
@@ -57,16 +58,28 @@ no_message_named x name m none known same =
     let found = named_index (λ (n : Message). n.name) x.messages name (subst (Contains (map (λ (n : Message). n.name) x.messages)) same among) in
     none-some found.0 (none ∙ found.2)
 
--- the text in the value spells the other value
-abbrev pub SpellsItem : Json → Value → Type 0
-SpellsItem item v = SpellsValue (text_in item) v
+-- the text spells the value
+abbrev pub SpellsItem : Bor (List ℕ) → Value → Type 0
+SpellsItem text v = SpellsValue text.now v
 
--- texts spell values as their items do
-pub unzipped : (items : List Json) (vs : List Value) → AllZip SpellsValue (texts_in items) vs → AllZip SpellsItem items vs
+-- texts spell values one by one
+pub unzipped : (items : List (Bor (List ℕ))) (vs : List Value) → AllZip SpellsValue (texts_of items) vs → AllZip SpellsItem items vs
 unzipped [] [] all = tt
 unzipped [] (v ∷ vs) all = absurd all
 unzipped (i ∷ items) [] all = absurd all
 unzipped (i ∷ items) (v ∷ vs) all = (all.0, unzipped items vs all.1)
+
+-- one text more spells its value
+pub spelled_more : (texts : List (Bor (List ℕ))) (values new : List Value) (i : ℕ) (d : Bor (List ℕ)) (bytes : List ℕ) (v : Value) → i < length texts → bytes ≡ (get_or texts i d).now → AllZip SpellsItem (take i texts) values → SpellsValue bytes v → new ≡ values ++ v ∷ [] → AllZip SpellsItem (take (i + 1) texts) new
+spelled_more texts values new i d bytes v within is all spells pushed =
+    let text : Bor (List ℕ) = get_or texts i d in
+    paired_more SpellsItem texts values new i text v within (get_or_default texts i d text within) all (subst (λ (b : List ℕ). SpellsValue b v) is spells) pushed
+
+-- one that spells no value
+pub spelled_none : (texts : List (Bor (List ℕ))) (values : List Value) (i : ℕ) (d : Bor (List ℕ)) (bytes : List ℕ) → i < length texts → bytes ≡ (get_or texts i d).now → ((v : Value) → ¬ SpellsValue bytes v) → ¬ AllZip SpellsValue (texts_of texts) values
+spelled_none texts values i d bytes within is none all =
+    let text : Bor (List ℕ) = get_or texts i d in
+    none_at SpellsItem texts values i text within (get_or_default texts i d text within) (unzipped texts values all) (λ v spells. none v (subst (λ (b : List ℕ). SpellsValue b v) (sym is) spells))
 
 -- ---- the field of a name
 
@@ -97,6 +110,19 @@ given_by x fields c text None at none = λ v given. none v (record { value = giv
     text_is : (v : Value) → Some (string text) ≡ Some (string (value_spelling v)) → text ≡ value_spelling v
     text_is v same = cc
 given_by x fields c text (Some v) at spells = record { value = spells.value; given = at ∙ ap (λ (t : List ℕ). Some (string t)) spells.spelled }
+
+-- those before the index have other names, and so has the one at it
+pub field_passed : (fields : List TextField) (i : ℕ) (d : TextField) (name : List ℕ) → i < length fields → get_member name (fields_data (fields_of fields)) ≡ get_member name (fields_data (fields_of (drop i fields))) → ((get_or fields i d).name.now ≡ name → ⊥) → get_member name (fields_data (fields_of fields)) ≡ get_member name (fields_data (fields_of (drop (i + 1) fields)))
+field_passed fields i d name within before other =
+    before ∙ ap (λ (fs : List TextField). get_member name (fields_data (fields_of fs))) (drop_more fields i d within)
+    ∙ field_later name (get_or fields i d).name.now (get_or fields i d).text.now (fields_of (drop (i + 1) fields)) other
+
+-- the one at the index has the name
+pub field_found : (fields : List TextField) (i : ℕ) (d : TextField) (name bytes : List ℕ) → i < length fields → get_member name (fields_data (fields_of fields)) ≡ get_member name (fields_data (fields_of (drop i fields))) → (get_or fields i d).name.now ≡ name → bytes ≡ (get_or fields i d).text.now → get_member name (fields_data (fields_of fields)) ≡ Some (string bytes)
+field_found fields i d name bytes within before named is =
+    before ∙ ap (λ (fs : List TextField). get_member name (fields_data (fields_of fs))) (drop_more fields i d within)
+    ∙ field_here name (get_or fields i d).name.now (get_or fields i d).text.now (fields_of (drop (i + 1) fields)) named
+    ∙ ap (λ (t : List ℕ). Some (string t)) (sym is)
 
 -- ---- a loop over parameters
 

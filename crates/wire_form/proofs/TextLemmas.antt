@@ -8,7 +8,9 @@ use Rattle.serde_json.specs.Find.{as_str}
 use Rattle.serde_json.specs.View.{view, items_of, items_view, members_view}
 use Rattle.serde_json.specs.declared.value.Value.{Value}
 use Rattle.wire_form.specs.Request.{Field, fields_data}
-use Rattle.wire_form.specs.inner.Asked.{IsText, fields_in, text_in, texts_in}
+use Rattle.wire_form.specs.declared.asked.Field.{Field as TextField}
+use Rattle.wire_form.specs.inner.Asked.{fields_of}
+use Rattle.wire_form.specs.inner.Found.{IsText, fields_in, text_in, texts_in}
 
 -- an entry of an object
 abbrev pub Entry : Type 0
@@ -55,6 +57,6 @@ members_are_texts (e ∷ es) (field ∷ fields) same =
     let rest : members_view es ≡ fields_data fields = cc in
     All-cons (λ (f : Entry). IsText f.1) e es (string_some (view e.1) field.1 first) (members_are_texts es fields rest)
 
--- as many fields as members
-pub fields_long : (es : List Entry) → length (fields_in es) ≡ length es
-fields_long es = length-map es (λ (e : Entry). (string_bytes e.0, text_in e.1))
+-- as many fields as there are
+pub fields_long : (fields : List TextField) → length (fields_of fields) ≡ length fields
+fields_long fields = length-map fields (λ (f : TextField). (f.name.now, f.text.now))

@@ -2,11 +2,16 @@
 #![tactic(auto)]
 
 mod act;
+mod any_order;
 mod asked;
+mod in_order;
+mod json_parts;
 mod laws;
 mod line;
 mod meaning;
+mod member;
 mod member_values;
+mod named_values;
 mod names;
 mod quoted;
 mod reply;
@@ -16,6 +21,6 @@ mod texts;
 
 pub use act::{Act, Reading};
 pub use laws::asks_once;
-pub use line::read_line;
+pub use line::{LineReader, read_line};
 pub use reply::{Refusal, Reply};
 pub use reply_text::push_reply;

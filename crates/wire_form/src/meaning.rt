@@ -6,7 +6,7 @@ ghost use Rattle.wire_form.specs.declared.act.Act.{Act as SpecAct};
 ghost use Rattle.wire_form.specs.Meaning.{Means};
 ghost use Rattle.wire_form.specs.Request.{IsNumbered, emit, receive};
 ghost use Rattle.wire_form.specs.inner.Arriving.{IsArriving};
-ghost use Rattle.wire_form.specs.inner.Asked.{fields_in, request_of, texts_in};
+ghost use Rattle.wire_form.specs.inner.Asked.{fields_of, request_of, texts_of};
 
 use super::act::Act;
 use super::asked::{Asked, AskedEmission, AskedReceipt};
@@ -32,9 +32,9 @@ fn arrival_of(a: &Admitted, role: u32, asked: &AskedReceipt<'_>) -> Option<Act>
     requires { asked.now.number < 4294967296 }
     ensures { MatchOption result
         ((act : SpecAct) → ¬ Means a.now role (receive asked.now.message.now asked.now.number
-        asked.now.stamp (fields_in asked.now.values.now.entries)) act)
+        asked.now.stamp (fields_of asked.now.fields.items)) act)
         (Means a.now role (receive asked.now.message.now asked.now.number
-        asked.now.stamp (fields_in asked.now.values.now.entries))) }
+        asked.now.stamp (fields_of asked.now.fields.items))) }
 {
     let (message, values) = arriving(a.expanded(), role, asked)?;
     Some(Act::Arrival(Stamped {
@@ -48,9 +48,9 @@ fn arrival_of(a: &Admitted, role: u32, asked: &AskedReceipt<'_>) -> Option<Act>
 fn arriving(x: &Expanded, role: u32, asked: &AskedReceipt<'_>) -> Option<(u32, Values)>
     ensures { MatchOption result
         ((act : SpecAct) → ¬ Means x.now role (receive asked.now.message.now asked.now.number
-        asked.now.stamp (fields_in asked.now.values.now.entries)) act)
+        asked.now.stamp (fields_of asked.now.fields.items)) act)
         (λ found. IsArriving x.now role asked.now.message.now
-        (fields_in asked.now.values.now.entries) found.0 found.1) }
+        (fields_of asked.now.fields.items) found.0 found.1) }
 {
     let Some(message) = message_named(x, asked.message) else {
         return None;
@@ -59,8 +59,8 @@ fn arriving(x: &Expanded, role: u32, asked: &AskedReceipt<'_>) -> Option<(u32, V
     if schema.receiver != role {
         return None;
     }
-    let values = given_values(x, schema.carried.as_slice(), asked.values)?;
-    if asked.values.len() != values.len() {
+    let values = given_values(x, schema.carried.as_slice(), asked.fields.as_slice())?;
+    if asked.fields.len() != values.len() {
         return None;
     }
     Some((message, values))
@@ -70,10 +70,10 @@ fn arriving(x: &Expanded, role: u32, asked: &AskedReceipt<'_>) -> Option<(u32, V
 fn attempt_of(x: &Expanded, role: u32, asked: &AskedEmission<'_>) -> Option<Act>
     requires { 0 < length x.now.keys }
     ensures { MatchOption result
-        ((act : SpecAct) → ¬ Means x.now role (emit (texts_in asked.now.key.now.items)
-        asked.now.message.now (texts_in asked.now.outs.now.items)) act)
-        (Means x.now role (emit (texts_in asked.now.key.now.items)
-        asked.now.message.now (texts_in asked.now.outs.now.items))) }
+        ((act : SpecAct) → ¬ Means x.now role (emit (texts_of asked.now.key.items)
+        asked.now.message.now (texts_of asked.now.outs.items)) act)
+        (Means x.now role (emit (texts_of asked.now.key.items)
+        asked.now.message.now (texts_of asked.now.outs.items))) }
 {
     let Some(message) = message_named(x, asked.message) else {
         return None;

@@ -1,28 +1,28 @@
-ghost use Rattle.std.specs.Prelude.{◌≡◌, ◌↔◌, ◌≤◌, length, string_bytes, IfSome, IsTrue, List, MatchOption};
+ghost use Rattle.std.specs.Prelude.{◌≡◌, ◌↔◌, ◌≤◌, length, IfSome, IsTrue, List, MatchOption};
 ghost use Rattle.std.specs.List.{AllZip};
 ghost use Rattle.bspl_types.specs.declared.value.Value.{Value as SpecValue};
 ghost use Rattle.bspl_types.specs.Adornment.{valued};
 ghost use Rattle.bspl_types.specs.Limits.{carried_limit};
 ghost use Rattle.bspl_types.specs.ValueSpelling.{SpellsValue};
 ghost use Rattle.wire_form.specs.Meaning.{IsGiven};
-ghost use Rattle.wire_form.specs.inner.Asked.{fields_in, text_in, texts_in};
+ghost use Rattle.wire_form.specs.inner.Asked.{fields_of, texts_of};
 
+use super::asked::Field;
+use super::member::Member;
 use super::names::param_name;
-use super::texts::text_in;
 use bspl_types::{Carried, Expanded, Value, Values};
-use serde_json::{Map, Value as Json};
 
 /// The values that the texts spell.
-pub(crate) fn spelled_values(texts: &[Json]) -> Option<Values>
+pub(crate) fn spelled_values(texts: &[&str]) -> Option<Values>
     requires few { length texts.now ≤ carried_limit }
     ensures read { MatchOption result
-        ((values : List SpecValue) → ¬ AllZip SpellsValue (texts_in texts.now) values)
-        (AllZip SpellsValue (texts_in texts.now)) }
+        ((values : List SpecValue) → ¬ AllZip SpellsValue (texts_of texts.now) values)
+        (AllZip SpellsValue (texts_of texts.now)) }
     ensures count { IfSome result (λ values. length values ≡ length texts.now) }
 {
     let mut values = Values::new();
     for text in texts {
-        let Some(value) = value_in(text) else {
+        let Some(value) = Value::read(text.as_bytes()) else {
             return None;
         };
         values.push(value);
@@ -30,22 +30,22 @@ pub(crate) fn spelled_values(texts: &[Json]) -> Option<Values>
     Some(values)
 }
 
-/// The values that the members give to those of the parameters that have one.
+/// The values that the fields give to those of the parameters that have one.
 pub(crate) fn given_values(
     x: &Expanded,
     carried: &[Carried],
-    members: &Map<String, Json>,
+    fields: &[Field<'_>],
 ) -> Option<Values>
     requires few { length carried.now ≤ carried_limit }
     ensures { MatchOption result
         ((values : List SpecValue) →
-        ¬ AllZip (IsGiven x.now (fields_in members.now.entries)) (valued carried.now) values)
-        (AllZip (IsGiven x.now (fields_in members.now.entries)) (valued carried.now)) }
+        ¬ AllZip (IsGiven x.now (fields_of fields.now)) (valued carried.now) values)
+        (AllZip (IsGiven x.now (fields_of fields.now)) (valued carried.now)) }
 {
     let mut values = Values::new();
     for c in carried {
         if c.adornment.has_value() {
-            let Some(value) = given_value(x, *c, members) else {
+            let Some(value) = given_value(x, *c, fields) else {
                 return None;
             };
             values.push(value);
@@ -54,32 +54,24 @@ pub(crate) fn given_values(
     Some(values)
 }
 
-/// The value that the members give to the parameter.
-fn given_value(x: &Expanded, c: Carried, members: &Map<String, Json>) -> Option<Value>
+/// The value that the fields give to the parameter.
+fn given_value(x: &Expanded, c: Carried, fields: &[Field<'_>]) -> Option<Value>
     ensures { MatchOption result
-        ((v : SpecValue) → ¬ IsGiven x.now (fields_in members.now.entries) c v)
-        (IsGiven x.now (fields_in members.now.entries) c) }
+        ((v : SpecValue) → ¬ IsGiven x.now (fields_of fields.now) c v)
+        (IsGiven x.now (fields_of fields.now) c) }
 {
     let name = param_name(x, c.param);
-    for (other, text) in members.iter() {
-        if is_named(other, name) {
-            return value_in(text);
+    for field in fields {
+        if is_named(field, name) {
+            return Value::read(field.text.as_bytes());
         }
     }
     None
 }
 
-/// The value that the text spells.
-fn value_in(text: &Json) -> Option<Value>
-    ensures { MatchOption result
-        ((v : SpecValue) → ¬ SpellsValue (text_in text.now) v) (SpellsValue (text_in text.now)) }
+/// Whether the field has the name.
+fn is_named(field: &Field<'_>, name: &[u8]) -> bool
+    ensures { IsTrue result ↔ (field.now.name.now ≡ name.now) }
 {
-    Value::read(text_in(text).as_bytes())
-}
-
-/// Whether this is the name.
-fn is_named(other: &String, name: &[u8]) -> bool
-    ensures { IsTrue result ↔ (string_bytes other.now ≡ name.now) }
-{
-    other.as_bytes() == name
+    field.name() == name
 }

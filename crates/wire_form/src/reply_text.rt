@@ -6,10 +6,10 @@ ghost use Rattle.bspl_types.specs.Instance.{pairs};
 ghost use Rattle.wire_form.specs.Reply.{block_data, message_data, only, put_values};
 ghost use Rattle.wire_form.specs.Reply.{receipt_data, refusal_code, reply_text};
 
+use super::named_values::{by_name, push_members};
 use super::names::{message_name, param_name};
 use super::quoted::{push_quoted, push_value};
 use super::reply::{Refusal, Reply};
-use super::sorted::{by_name, push_members};
 use bspl_types::{Carried, Expanded, Stamped};
 use list_base::{Bytes, NoMemory};
 use local_store::Receipt;
@@ -136,7 +136,7 @@ fn push_values(
     let values = message.instance.values.as_slice();
     let carried = carried_of(x, message.instance.message);
     let sorted = by_name(alloc, x, carried, values)?;
-    push_members(alloc, text, x, sorted.as_slice())
+    push_members(alloc, text, sorted.as_slice())
 }
 
 /// The parameters of the message of that number, or none past the last.

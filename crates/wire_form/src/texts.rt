@@ -1,8 +1,12 @@
-ghost use Rattle.std.specs.Prelude.{◌≡◌, ◌↔◌, IsTrue};
+ghost use Rattle.std.specs.Prelude.{◌≡◌, ◌↔◌, IfOk, IsTrue};
 ghost use Rattle.std.specs.List.{All};
-ghost use Rattle.wire_form.specs.inner.Asked.{IsText, text_in};
+ghost use Rattle.wire_form.specs.inner.Asked.{fields_of, texts_of};
+ghost use Rattle.wire_form.specs.inner.Found.{IsText, fields_in, text_in, texts_in};
 
+use super::asked::Field;
+use list_base::NoMemory;
 use serde_json::{Map, Value};
+use std::alloc::Global;
 
 /// The text of a string, or none of another value.
 pub(crate) fn text_in(value: &Value) -> &str
@@ -28,4 +32,33 @@ pub(crate) fn has_texts(members: &Map<String, Value>) -> bool
         }
     }
     true
+}
+
+/// The texts of the values.
+pub(crate) fn texts_of(alloc: Global, values: &[Value]) -> Result<Vec<&str>, NoMemory>
+    ensures { IfOk result (λ texts. texts_of texts.items ≡ texts_in values.now) }
+{
+    let mut texts = Vec::new(alloc);
+    for value in values {
+        texts.push(text_in(value))?;
+    }
+    Ok(texts)
+}
+
+/// The members as fields.
+pub(crate) fn fields_of(
+    alloc: Global,
+    members: &Map<String, Value>,
+) -> Result<Vec<Field<'_>>, NoMemory>
+    ensures { IfOk result (λ fields. fields_of fields.items ≡ fields_in members.now.entries) }
+{
+    let mut fields = Vec::new(alloc);
+    for (name, value) in members.iter() {
+        let field = Field {
+            name: name.as_str(),
+            text: text_in(value),
+        };
+        fields.push(field)?;
+    }
+    Ok(fields)
 }

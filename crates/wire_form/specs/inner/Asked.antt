@@ -1,55 +1,20 @@
--- What was found in a JSON value of what a line asks for.
-use Rattle.std.specs.Prelude.{ℕ, List, [], map, unwrap_or, is_some, IsTrue, codes, String, string_bytes}
-use Rattle.std.specs.declared.alloc.Global.{Global}
-use Rattle.serde_json.specs.Data.{Data, Items, Members, array, member, no_members, object, string}
-use Rattle.serde_json.specs.Find.{as_str}
-use Rattle.serde_json.specs.View.{view}
-use Rattle.serde_json.specs.declared.value.Value.{Value}
+-- A request as its texts.
+use Rattle.std.specs.Prelude.{ℕ, List, map}
+use Rattle.std.specs.Borrow.{Bor}
 use Rattle.wire_form.specs.declared.asked.Asked.{Asked}
 use Rattle.wire_form.specs.declared.asked.Asked.TheVariants.{Emission, Receipt}
-use Rattle.wire_form.specs.Request.{Field, Request, emit, receive, sent_data}
+use Rattle.wire_form.specs.declared.asked.Field.{Field as TextField}
+use Rattle.wire_form.specs.Request.{Field, Request, emit, receive}
 
--- the members that tell of a message that was sent
-pub record SentForm : Type 0 where
-  pub message : List ℕ
-  pub number : ℕ
-  pub stamp : ℕ
-  pub values : Members
+-- the name and the text of each field
+abbrev pub fields_of : List TextField → List Field
+fields_of fields = map (λ f. (f.name.now, f.text.now)) fields
 
--- as JSON
-abbrev pub sent_form : SentForm → Data
-sent_form f = sent_data f.message f.number f.stamp f.values
+-- each text
+abbrev pub texts_of : List (Bor (List ℕ)) → List (List ℕ)
+texts_of texts = map (λ text. text.now) texts
 
--- the members that tell of a message that is to be sent
-pub record AttemptForm : Type 0 where
-  pub key : Items
-  pub message : List ℕ
-  pub outs : Items
-
--- as JSON
-abbrev pub attempt_form : AttemptForm → Data
-attempt_form f = object
-    (member (codes "key") (array f.key)
-    (member (codes "message") (string f.message)
-    (member (codes "outs") (array f.outs) no_members)))
-
--- the text of a string
-abbrev pub text_in : Value → List ℕ
-text_in value = unwrap_or (as_str (view value)) []
-
--- the value is a string
-abbrev pub IsText : Value → Type 0
-IsText value = IsTrue (is_some (as_str (view value)))
-
--- the texts of strings
-abbrev pub texts_in : List Value → List (List ℕ)
-texts_in values = map text_in values
-
--- the members of an object as fields
-abbrev pub fields_in : List (String Global × Value) → List Field
-fields_in entries = map (λ e. (string_bytes e.0, text_in e.1)) entries
-
--- what was asked for
+-- what is asked for
 abbrev pub request_of : Asked → Request
-request_of (Receipt r) = receive r.message.now r.number r.stamp (fields_in r.values.now.entries)
-request_of (Emission e) = emit (texts_in e.key.now.items) e.message.now (texts_in e.outs.now.items)
+request_of (Receipt r) = receive r.message.now r.number r.stamp (fields_of r.fields.items)
+request_of (Emission e) = emit (texts_of e.key.items) e.message.now (texts_of e.outs.items)

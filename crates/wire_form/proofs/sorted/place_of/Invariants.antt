@@ -5,11 +5,11 @@ use Rattle.wire_form.proofs.sorted.place_of.Given as goal
 
 -- those so far do
 abbrev pub invariant-loop-index : goal.invariant-loop-index
-invariant-loop-index l = record {
+invariant-loop-index g l = record {
   within : l.index ≤ length l.sorted;
-  past : IsPast l.x l.sorted l.name l.index;
+  past : IsPast g.T.Member.name g.T.Member.content l.sorted l.name l.index;
 }
 
 -- those that are left
 abbrev pub decreases-loop-index : goal.decreases-loop-index
-decreases-loop-index l = length l.sorted - l.index
+decreases-loop-index g l = length l.sorted - l.index

@@ -2,7 +2,7 @@
 use Rattle.std.proofs.Common.{true≢false, sym, ◌∙◌}
 use Rattle.serde_json.specs.View.{view}
 use Rattle.wire_form.proofs.FormLemmas.{an_emission, no_attempt_form, no_emission}
-use Rattle.wire_form.proofs.asked.emission_in.Goals as goal
+use Rattle.wire_form.proofs.any_order.emission_in.Goals as goal
 
 pub returns-in_default : goal.returns-in_default
 returns-in_default c = no_attempt_form (view c.args.value.now) (rw c.in_default.is at c.attempt_members.ensures)

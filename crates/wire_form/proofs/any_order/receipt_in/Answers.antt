@@ -2,7 +2,7 @@
 use Rattle.std.proofs.Common.{true≢false, sym, ◌∙◌, arith}
 use Rattle.serde_json.specs.View.{view}
 use Rattle.wire_form.proofs.FormLemmas.{a_receipt, no_receipt, no_sent_form}
-use Rattle.wire_form.proofs.asked.receipt_in.Goals as goal
+use Rattle.wire_form.proofs.any_order.receipt_in.Goals as goal
 
 pub returns-in_default : goal.returns-in_default
 returns-in_default c = λ message count stamp fields few. no_sent_form (view c.args.value.now) (rw c.in_default.is at c.sent_members.ensures) message count stamp fields

@@ -1,9 +1,0 @@
--- What is left to write of the members.
-use Rattle.std.proofs.Common.{◌≡◌, ◌++◌, drop, false}
-use Rattle.serde_json.specs.Written.{members_text}
-use Rattle.wire_form.specs.inner.Sorted.{named_members}
-use Rattle.wire_form.proofs.sorted.push_members.Given as goal
-
--- with what is left it is all of them
-abbrev pub invariant-loop-named : goal.invariant-loop-named
-invariant-loop-named l = l.text ++ members_text l.later (named_members l.x (drop l.named-index l.sorted)) ≡ l.fn.text ++ members_text false (named_members l.x l.sorted)
