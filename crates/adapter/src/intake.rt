@@ -3,7 +3,7 @@ ghost use Rattle.adapter.specs.Kept.{IsKept};
 ghost use Rattle.adapter.specs.State.{IsStateKept};
 ghost use Rattle.adapter.specs.StateSteps.{MovesIn};
 
-use super::arrival::deliver;
+use super::arrival::deliver_lent;
 use super::desk::Desk;
 use super::role_state::RoleState;
 use agent_scripts::{Job, Scene};
@@ -51,8 +51,8 @@ fn take_in<N: Scene, W: Wait>(
     let Some(parcel) = post.take_parcel(rt, &mut state.passes, role) else {
         return Ok(false);
     };
-    let e = *parcel.envelope();
-    deliver(&mut state.desk, job, e).unwrap();
+    deliver_lent(&mut state.desk, job, parcel.envelope()).unwrap();
+    state.spares.keep(parcel);
     Ok(true)
 }
 

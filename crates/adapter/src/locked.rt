@@ -5,7 +5,7 @@ ghost use Rattle.adapter.specs.StateSteps.{IsCutOff, IsRoleTurn};
 
 use super::gate::Gate;
 use super::intake::drain;
-use super::posted_emission::step_emit;
+use super::posted_emission::emit_next;
 use super::reception::step_take;
 use super::role_state::RoleState;
 use agent_scripts::{Job, Scene};
@@ -68,8 +68,7 @@ impl<N: Scene, M: Mail, const R: u32> Locked<N, M, R> {
         gate.at(R, thread);
         drain(rt, &mut self.state, job, post)?;
         step_take(&mut self.state, job, rng);
-        step_emit(rt, &mut self.state, job, n, post)?;
-        Ok(())
+        emit_next(rt, &mut self.state, job, n, post)
     }
 
     /// The state, as it comes out of the lock.

@@ -1,18 +1,21 @@
-ghost use Rattle.std.specs.Prelude.{◌≡◌, ℕ, ◌<◌, ◌++◌, List, length, IfOk, OnErr, OnOk};
+ghost use Rattle.std.specs.Prelude.{◌≡◌, ℕ, ◌<◌, ◌++◌, List, Option, Some, length, IfOk, OnErr};
+ghost use Rattle.std.specs.Prelude.{OnOk};
 ghost use Rattle.bspl_types.specs.declared.envelope.Envelope.{Envelope};
 ghost use Rattle.reorder_net.specs.Mail.{IsPosted};
 ghost use Rattle.reorder_net.specs.Passes.{ArePasses};
 ghost use Rattle.adapter.specs.Posted.{arriving};
 ghost use Rattle.adapter.specs.State.{IsStateKept};
 ghost use Rattle.adapter.specs.StateSteps.{EmitsNext, IsStateAtWork};
+ghost use Rattle.adapter.specs.inner.NextStep.{IsPlan};
 
 use super::emission::{emit_planned, next_ready, plan};
 use super::laws::is_orderly;
 use super::role_state::RoleState;
+use super::step::Planned;
 use agent_scripts::{Job, Scene};
 use bspl_types::{Envelope, equal_values_are_one};
 use list_base::NoMemory;
-use reorder_net::{Post, RolePasses};
+use reorder_net::{Post, RolePasses, Spares};
 use std::sync::Wait;
 
 /// The role's agent emits as `desk_emit` does. The envelope goes into its receiver's mailbox
@@ -31,16 +34,59 @@ pub fn step_emit<N: Scene, W: Wait>(
     ensures ok { IfOk result (λ e. EmitsNext job.now n state.old e state.new) }
     ensures err { OnErr result (state.new ≡ state.old) }
 {
-    // laws: of the script; equal keys are one key
-    is_orderly(job);
-    equal_values_are_one();
     let Some(ready) = next_ready(&state.desk, job, n) else {
         return Ok(None);
     };
     let planned = plan(&state.desk, job, n, &ready);
-    post_planned(rt, post, &mut state.passes, &planned.envelope)?;
-    emit_planned(&mut state.desk, job, n, &planned);
+    emit_posted(rt, state, job, n, post, &planned)?;
     Ok(Some(planned.envelope))
+}
+
+/// What `step_emit` does, without its answer: an envelope is large, and no turn asks for it.
+pub(crate) fn emit_next<N: Scene, W: Wait>(
+    rt: &W,
+    state: &mut RoleState,
+    job: &Job,
+    n: u64,
+    post: &Post<N>,
+) -> Result<(), NoMemory>
+    requires scene { N.job ≡ job.now }
+    requires at_work { IsStateAtWork job.now post.now state.old n }
+    ensures kept { IsStateKept job.now state.old.desk.store.role post.now state.new }
+    ensures ok { OnOk result ((e : Option Envelope) × EmitsNext job.now n state.old e state.new) }
+    ensures err { OnErr result (state.new ≡ state.old) }
+{
+    let Some(ready) = next_ready(&state.desk, job, n) else {
+        return Ok(());
+    };
+    let planned = plan(&state.desk, job, n, &ready);
+    emit_posted(rt, state, job, n, post, &planned)
+}
+
+/// The desk emits what was planned, once its envelope is posted.
+fn emit_posted<N: Scene, W: Wait>(
+    rt: &W,
+    state: &mut RoleState,
+    job: &Job,
+    n: u64,
+    post: &Post<N>,
+    planned: &Planned,
+) -> Result<(), NoMemory>
+    requires scene { N.job ≡ job.now }
+    requires at_work { IsStateAtWork job.now post.now state.old n }
+    requires plan { IsPlan job.now state.old.desk.store n planned.now }
+    ensures kept { IsStateKept job.now state.old.desk.store.role post.now state.new }
+    ensures ok { OnOk result
+        (EmitsNext job.now n state.old (Some planned.now.envelope) state.new) }
+    ensures err { OnErr result (state.new ≡ state.old) }
+{
+    // laws: of the script; equal keys are one key
+    is_orderly(job);
+    equal_values_are_one();
+    let e = &planned.envelope;
+    post_planned(rt, post, &mut state.passes, &mut state.spares, e)?;
+    emit_planned(&mut state.desk, job, n, planned);
+    Ok(())
 }
 
 /// Puts the envelope into its receiver's mailbox, unless it is lost.
@@ -48,6 +94,7 @@ fn post_planned<N: Scene, W: Wait>(
     rt: &W,
     post: &Post<N>,
     passes: &mut RolePasses,
+    spares: &mut Spares,
     e: &Envelope,
 ) -> Result<(), NoMemory>
     requires passes { (sent : ℕ → List Envelope) × (taken : List Envelope) ×
@@ -62,5 +109,6 @@ fn post_planned<N: Scene, W: Wait>(
     if e.copies == 0 {
         return Ok(());
     }
-    post.put(rt, passes, *e)
+    let parcel = spares.pack(e)?;
+    post.put_parcel(rt, passes, parcel)
 }

@@ -2,7 +2,7 @@ ghost use Rattle.std.specs.Prelude.{◌≡◌};
 
 use super::desk::Desk;
 use local_store::Store;
-use reorder_net::{Inbox, RolePasses};
+use reorder_net::{Inbox, RolePasses, Spares};
 use std::marker::Model;
 
 /// The state of one role while the agents run in threads: its desk, and its passes to the
@@ -11,6 +11,8 @@ use std::marker::Model;
 pub struct RoleState {
     pub(crate) desk: Desk,
     pub(crate) passes: RolePasses,
+    /// The parcels of what came in, for what goes out.
+    pub(crate) spares: Spares,
 }
 
 impl Model for RoleState {
@@ -26,14 +28,23 @@ impl RoleState {
     pub fn open(desk: Desk, passes: RolePasses) -> RoleState
         ensures { result ≡ record { desk = desk; passes = passes } }
     {
-        RoleState { desk, passes }
+        let spares = Spares::new(desk.inbox.allocator());
+        RoleState {
+            desk,
+            passes,
+            spares,
+        }
     }
 
     /// The state's parts.
     pub fn close(self) -> (Desk, RolePasses)
         ensures { (result.0 ≡ self.desk) × (result.1 ≡ self.passes) }
     {
-        let RoleState { desk, passes } = self;
+        let RoleState {
+            desk,
+            passes,
+            spares: _,
+        } = self;
         (desk, passes)
     }
 

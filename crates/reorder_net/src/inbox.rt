@@ -62,6 +62,11 @@ impl Inbox {
         }
     }
 
+    /// Where the inbox takes its memory.
+    pub fn allocator(&self) -> Global {
+        *self.slots.allocator()
+    }
+
     /// Makes room for this number of puts, unless there is more.
     pub fn reserve(&mut self, n: usize) -> Result<(), NoMemory>
         ensures ok { OnOk result (n ≤ self.new.spare) }
@@ -88,6 +93,17 @@ impl Inbox {
         ensures spare { self.old.spare ≤ self.new.spare + 1 }
         ensures err { OnErr result (self.new ≡ self.old) }
     {
+        self.put_lent(&envelope)
+    }
+
+    /// Puts an envelope that is lent, as `put` does.
+    pub fn put_lent(&mut self, envelope: &Envelope) -> Result<(), NoMemory>
+        ensures ok { OnOk result
+            (self.new.envelopes ≡ put_last self.old.envelopes envelope.now) }
+        ensures room { 0 < self.old.spare → IsOk result }
+        ensures spare { self.old.spare ≤ self.new.spare + 1 }
+        ensures err { OnErr result (self.new ≡ self.old) }
+    {
         if envelope.copies == 0 {
             return Ok(());
         }
@@ -95,7 +111,7 @@ impl Inbox {
         let block = self.slots.len() / WIDTH;
         raise(&mut self.blocks, block);
         raise(&mut self.groups, block / WIDTH);
-        self.slots.push_reserved(envelope);
+        self.slots.push_reserved(*envelope);
         self.marks.push_reserved(true);
         self.all += 1;
         self.spare -= 1;

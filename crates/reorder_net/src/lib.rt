@@ -12,6 +12,7 @@ mod moves;
 mod parcel;
 mod passes;
 mod post;
+mod spares;
 mod steps;
 mod stock;
 
@@ -21,3 +22,4 @@ pub use losses::{copies, lost};
 pub use parcel::Parcel;
 pub use passes::{Gathered, MailPass, PassList, RolePasses};
 pub use post::{Mail, Post};
+pub use spares::Spares;

@@ -22,11 +22,18 @@ impl Model for Parcel {
 
 impl Parcel {
     /// A parcel with the envelope.
-    pub(crate) fn of(alloc: Global, e: Envelope) -> Result<Parcel, NoMemory>
-        ensures { IfOk result (λ p. p ≡ e) }
+    pub(crate) fn of(alloc: Global, e: &Envelope) -> Result<Parcel, NoMemory>
+        ensures { IfOk result (λ p. p ≡ e.now) }
     {
-        let boxed = Box::new(alloc, e)?;
+        let boxed = Box::new(alloc, *e)?;
         Ok(Parcel { boxed })
+    }
+
+    /// Puts the envelope in place of the one that the parcel has.
+    pub(crate) fn refill(&mut self, e: &Envelope)
+        ensures { self.new ≡ e.now }
+    {
+        *self.boxed = *e;
     }
 
     /// Lends the envelope.

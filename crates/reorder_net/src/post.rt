@@ -91,9 +91,27 @@ impl<N: Scene> Post<N> {
             passes.new ≡ with_put passes.old p e) }
         ensures err { OnErr result (passes.new ≡ passes.old) }
     {
-        let q = e.to as usize;
-        let parcel = Parcel::of(self.alloc, e)?;
-        match put(rt, self.at(q), passes.puts.at_mut(q), parcel) {
+        let parcel = Parcel::of(self.alloc, &e)?;
+        self.put_parcel(rt, passes, parcel)
+    }
+
+    /// Puts what `put` would, in the parcel that has it. It takes no memory for the envelope.
+    pub fn put_parcel<R: Wait>(
+        &self,
+        rt: &R,
+        passes: &mut RolePasses,
+        e: Parcel,
+    ) -> Result<(), NoMemory>
+        requires known { (e.to < length self.now) × (length passes.old.puts ≡ length self.now) }
+        requires pass { (p : PassState) → slice_get passes.old.puts e.to ≡ Some p →
+            (slice_get self.now e.to ≡ Some p.box) × IsSender e.to e.from p }
+        requires posted { IsPosted N.job e.from e.to e }
+        ensures ok { OnOk result ((p : PassState) → slice_get passes.old.puts e.to ≡ Some p →
+            passes.new ≡ with_put passes.old p e) }
+        ensures err { OnErr result (passes.new ≡ passes.old) }
+    {
+        let q = e.envelope().to as usize;
+        match put(rt, self.at(q), passes.puts.at_mut(q), e) {
             Ok(()) => Ok(()),
             Err(_) => Err(NoMemory),
         }

@@ -9,6 +9,7 @@ mod laws;
 mod locks;
 mod merged_run;
 mod opened_desks;
+mod pace;
 mod rounds;
 mod run;
 mod shared;

@@ -6,6 +6,7 @@ ghost use Rattle.world_run.specs.Shared.{AreNewPasses};
 use super::joined_desks::JoinedDesks;
 use super::locks::{empty_desks, lock_last};
 use super::opened_desks::open_desks;
+use super::pace::Pace;
 use super::world::{DeskList, World};
 use adapter::{Gate, Locked};
 use agent_scripts::{Job, Scene};
@@ -14,7 +15,11 @@ use rand_pcg::Pcg32;
 use reorder_net::{Mail, PassList, Post};
 use std::alloc::Global;
 use std::marker::Model;
-use std::sync::{Mutex, Wait};
+use std::sync::{Mutex, MutexGuard, Wait};
+use std::thread::yield_now;
+
+/// How often a thread looks for a free lock before it sleeps.
+const LOOKS: u32 = 100;
 
 /// The states of all roles, each behind a lock of its own. Workers share them by reference, and a
 /// worker holds one lock at a time. Contracts see how many threads each role has.
@@ -23,6 +28,7 @@ pub struct Shared<'a, N: Scene, M: Mail> {
     pub(crate) job: &'a Job,
     pub(crate) post: &'a Post<N>,
     pub(crate) threads: u32,
+    pub(crate) pace: Pace,
     /// A list with a place for each desk when it comes out of its lock.
     pub(crate) places: DeskList,
     pub(crate) role0: Option<Mutex<Locked<N, M, 0>>>,
@@ -72,6 +78,7 @@ impl<'a, N: Scene, M: Mail> Shared<'a, N, M> {
         requires passes { AreNewPasses job.now post.now passes }
         ensures { IfOk result (λ s. s.threads ≡ threads) }
     {
+        let workers = job.admitted().expanded().roles.len() as u64 * u64::from(threads);
         let places = empty_desks(alloc, job)?;
         let mut desks = open_desks(alloc, job)?;
         let role7 = lock_last(&mut desks, &mut passes);
@@ -86,6 +93,7 @@ impl<'a, N: Scene, M: Mail> Shared<'a, N, M> {
             job,
             post,
             threads,
+            pace: Pace::of(workers),
             places,
             role0,
             role1,
@@ -133,6 +141,7 @@ impl<'a, N: Scene, M: Mail> Shared<'a, N, M> {
             job: _,
             post,
             threads: _,
+            pace: _,
             places,
             role0,
             role1,
@@ -170,6 +179,18 @@ fn hold<N: Scene, M: Mail, W: Wait, G: Gate, const R: u32>(
     requires some { IsSome lock.now }
     requires number { IsWorkload N.job n }
 {
-    let mut state = lock.as_ref().unwrap().lock(rt);
+    let mut state = take_soon(rt, lock.as_ref().unwrap());
     state.turn(rt, shared.job, shared.post, n, rng, gate, thread)
+}
+
+/// Takes the lock. A thread that finds it held lets others run and looks again, and sleeps only
+/// after many looks: a turn is shorter than it takes to wake a thread.
+fn take_soon<'b, T, W: Wait>(rt: &W, lock: &'b Mutex<T>) -> MutexGuard<'b, T> {
+    for _look in 0..LOOKS {
+        if let Some(guard) = lock.try_lock() {
+            return guard;
+        }
+        yield_now();
+    }
+    lock.lock(rt)
 }

@@ -1,6 +1,7 @@
 ghost use Rattle.std.specs.Prelude.{◌≡◌, ◌*◌, ◌<◌, length};
 ghost use Rattle.world_run.specs.inner.Workers.{worker_generator};
 
+use super::pace::Stride;
 use super::shared::Shared;
 use adapter::Gate;
 use agent_scripts::{Job, Scene};
@@ -12,9 +13,14 @@ use std::alloc::Global;
 use std::sync::Wait;
 use std::thread::{Threads, map_indices};
 
+/// How many stretches a pass has. At the beginning of each a worker waits if it is ahead.
+const STRETCHES: u64 = 2;
+
 /// What one thread of a role does: the given number of passes over its share of the workload
 /// numbers. Of `T` threads, number `n` belongs to thread `(n - 1) mod T`. At each number the worker
 /// passes the gate's `before`, and takes the role's lock for one turn. Out of memory ends the work.
+/// A worker that is half a pass ahead of the others waits for them a while: it would find nothing to
+/// do, and would be through with its passes before their envelopes come.
 pub fn work<N: Scene, M: Mail, W: Wait, G: Gate>(
     rt: &W,
     shared: &Shared<'_, N, M>,
@@ -27,8 +33,9 @@ pub fn work<N: Scene, M: Mail, W: Wait, G: Gate>(
     requires thread { thread < shared.now.threads }
 {
     let mut rng = worker_generator(shared.job, role, thread);
+    let mut stride = Stride::new();
     for _pass in 0..passes {
-        work_once(rt, shared, role, thread, &mut rng, gate)?;
+        work_once(rt, shared, role, thread, &mut rng, &mut stride, gate)?;
     }
     Ok(())
 }
@@ -40,12 +47,17 @@ fn work_once<N: Scene, M: Mail, W: Wait, G: Gate>(
     role: u32,
     thread: u32,
     rng: &mut Pcg32,
+    stride: &mut Stride,
     gate: &G,
 ) -> Result<(), NoMemory>
     requires role { role < length N.job.protocol.roles }
 {
     let threads = u64::from(shared.threads);
-    for index in 0..shared.job.script().count() {
+    let numbers = shared.job.script().count();
+    for index in 0..numbers {
+        if index % (numbers / STRETCHES + 1) == 0 {
+            shared.pace.begin(rt, stride);
+        }
         if index % threads == u64::from(thread) {
             gate.before(role, thread);
             shared.turn(rt, role, index + 1, rng, gate, thread)?;

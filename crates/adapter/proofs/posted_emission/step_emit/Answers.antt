@@ -1,9 +1,7 @@
--- The desk emits the planned envelope, which was put first.
-use Rattle.std.proofs.Common.{None, Some, subst, sym, refl}
-use Rattle.adapter.specs.State.{IsStateKept, StateView}
-use Rattle.adapter.specs.StateSteps.{EmitsNext, IsStateAtWork}
+-- Nothing is emitted if no message is ready.
+use Rattle.std.proofs.Common.{None, subst, refl}
+use Rattle.adapter.specs.State.{StateView}
 use Rattle.adapter.specs.Steps.{IsNextEnvelope}
-use Rattle.adapter.proofs.MailedLemmas.{step_keeps}
 use Rattle.adapter.proofs.posted_emission.step_emit.Goals as goal
 
 pub returns-in_default-clause-ok : goal.returns-in_default-clause-ok
@@ -12,25 +10,3 @@ returns-in_default-clause-ok g c = record {
   desk = refl;
   taken = refl;
 }
-
-pub returns-clause-kept : goal.returns-clause-kept
-returns-clause-kept g c =
-    let job = c.args.job.now in
-    let boxes = c.args.post.now in
-    let desk = c.emit_planned.new.desk in
-    let s : StateView = record { desk = c.state.inside.desk; passes = c.state.inside.passes } in
-    let work : IsStateAtWork job boxes s c.args.n = subst (λ (x : StateView). IsStateAtWork job boxes x c.args.n) (sym c.state.view_is) c.requires.at_work in
-    let keeps = step_keeps c.equal_values_are_one.ensures.lists job boxes s c.args.n c.plan-planned.result.envelope desk c.post_planned.new.passes c.is_orderly.ensures work
-    c.plan-planned.ensures.next c.emit_planned.ensures.kept c.emit_planned.ensures.changed c.in_ok-post_planned.ensures.ok in
-    subst (λ (x : StateView). IsStateKept job x.desk.store.role boxes (record { desk = desk; passes = c.post_planned.new.passes })) c.state.view_is keeps.0
-
-pub returns-clause-ok : goal.returns-clause-ok
-returns-clause-ok g c =
-    let job = c.args.job.now in
-    let boxes = c.args.post.now in
-    let desk = c.emit_planned.new.desk in
-    let s : StateView = record { desk = c.state.inside.desk; passes = c.state.inside.passes } in
-    let work : IsStateAtWork job boxes s c.args.n = subst (λ (x : StateView). IsStateAtWork job boxes x c.args.n) (sym c.state.view_is) c.requires.at_work in
-    let keeps = step_keeps c.equal_values_are_one.ensures.lists job boxes s c.args.n c.plan-planned.result.envelope desk c.post_planned.new.passes c.is_orderly.ensures work
-    c.plan-planned.ensures.next c.emit_planned.ensures.kept c.emit_planned.ensures.changed c.in_ok-post_planned.ensures.ok in
-    subst (λ (x : StateView). EmitsNext job c.args.n x (Some c.plan-planned.result.envelope) (record { desk = desk; passes = c.post_planned.new.passes })) c.state.view_is keeps.1

@@ -1,12 +1,10 @@
--- A refused push leaves each pass as it was.
-use Rattle.reorder_net.proofs.PassLemmas.{kept_passes}
+-- The parcel has the envelope.
+use Rattle.std.proofs.Common.{◌≡◌, slice_get, Some, subst, sym}
+use Rattle.bspl_types.specs.declared.envelope.Envelope.{Envelope}
+use Rattle.reorder_net.specs.Pass.{IsSender, PassState}
 use Rattle.reorder_net.proofs.post.Post.put.Goals as goal
 
-pub put-requires-clause-pass : goal.put-requires-clause-pass
-put-requires-clause-pass g c = cc ((c.requires.pass _ c.at_mut.ensures.item).0, c.at.ensures)
-
-pub returns-clause-err : goal.returns-clause-err
-returns-clause-err g c = elim c.match-put.branch [
-  | goal.in-Ok w ↦ rw w.result-is tt
-  | goal.in-Err w ↦ rw w.result-is (kept_passes _ _ _ _ c.at_mut.ensures.item w.in-Err.ensures.view)
-]
+pub put_parcel-requires-clause-pass : goal.put_parcel-requires-clause-pass
+put_parcel-requires-clause-pass g c =
+    subst (λ (x : Envelope). (p : PassState) → slice_get c.args.passes.now.puts x.to ≡ Some p → (slice_get c.args.self.now x.to ≡ Some p.box) × IsSender x.to x.from p)
+    (sym c.in_ok-parcel.ensures) c.requires.pass
