@@ -33,6 +33,7 @@ EDGES = [
     "P { }\n%% agents\n\n // keys\n\torder B rfq every\ndecline every every 2\nvalue m p 0 10\nkey 1 \"\" \"a\\20b\"",
     "P { }\n%% run\nrun 1\nsend send key=1 in#1.key=\"a=b\"\nreceive m x=0\nend",
     "P { }\n%% histories\nhistories 1\nrole role\nsend send role=1 in#1.key=\"a=b\"\nrole A-1\nreceive m x=0\nend",
+    "P { }\n%% wire\nrole role\n{\"emit\":{\"key\":[\"1\"],\"message\":\"role\",\"outs\":[]}}\n", "P { }\n%% wire\nrole A-1",
     "P { }\n%% log\nlog 2 dead dead\nstep 12 -3 4 5 1\ndrop 1 2\nend", "P { }\n%% log\nlog 1 safety\nend\n",
 ]
 CLASSES = [  # the class of a scope of the grammar, by its beginning
@@ -42,12 +43,12 @@ CLASSES = [  # the class of a scope of the grammar, by its beginning
     ("punctuation", "punctuation"), ("constant.numeric", "number"), ("string", "text"), ("markup.heading", "part"),
     ("invalid", "error"),
 ]
-PART_COMMANDS = (b"check", b"check-dead", b"replay", b"run", b"audit")
+PART_COMMANDS = (b"check", b"check-dead", b"replay", b"run", b"serve", b"audit")
 EVENT_PARTS = ("run", "histories")
 GROUPS = {  # the class of a group of the Vim file, without `bspl`
     "Protocol": "name", "Message": "name", "Name": "name", "PartName": "name", "PartError": "error",
     "AgentsComment": "comment", "AgentsWord": "statement", "RunWord": "statement", "LogWord": "statement",
-    "HistoriesWord": "statement",
+    "HistoriesWord": "statement", "WireWord": "statement", "WireName": "name", "Wire": None,
 }
 
 
@@ -112,6 +113,8 @@ def fields(line, start, part):
     if part == "agents" and words and words[0].startswith("//"):
         yield places[0][0], start + len(line), "comment"
         return
+    if part == "wire" and words[:1] != ["role"]:
+        return
     for i, (at, end, word) in enumerate(places):
         name, equals, value = word.partition("=") if part in EVENT_PARTS and i > 1 else (word, "", "")
         if i == 0 or (part == "log" and words[0] == "log" and i == 2) or (
@@ -129,7 +132,7 @@ def fields(line, start, part):
 def scanned(text):
     """The class of each character, None for a blank: the protocol text, and after the first part line the part."""
     classes = [None] * len(text)
-    found = re.search(r"^%% (agents|log|run|histories)$", text, re.M)
+    found = re.search(r"^%% (agents|log|run|histories|wire)$", text, re.M)
     place = found.start() if found else len(text)
     kinds = list(tokens(text[:place]))
     if found:
@@ -229,8 +232,8 @@ def inputs():
             text = row.given.decode()
         except UnicodeDecodeError:
             continue
-        if row.status > 2 or row.args[1] not in PART_COMMANDS:
-            text = re.split(r"^%% (?:agents|log|run|histories)$", text, maxsplit=1, flags=re.M)[0]
+        if row.status > 2 or not set(row.args[1:2]) & set(PART_COMMANDS):
+            text = re.split(r"^%% (?:agents|log|run|histories|wire)$", text, maxsplit=1, flags=re.M)[0]
         if row.args[0] != b"dimacs_sat" and "\r" not in text and len(text) <= 20000:
             yield row.place, text
 

@@ -48,7 +48,7 @@ line_names (Form number) = record { first = tt; second = tt }
 line_names NoMemory = tt
 
 -- the name of a role
-role_has_no_lf : (x : Expanded) (role : ℕ) → has_lf (role_name x role) ≡ false
+pub role_has_no_lf : (x : Expanded) (role : ℕ) → has_lf (role_name x role) ≡ false
 role_has_no_lf x role = indexed_has_no_lf (λ (name : List ℕ). name) [] refl x.roles x.shape.role_names.named role
 
 -- the line of a bad place

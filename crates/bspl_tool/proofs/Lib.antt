@@ -18,6 +18,9 @@ pub mod DeadLaws
 pub mod MessageAnswers
 pub mod ReplayLaws
 pub mod AuditLaws
+pub mod JsonLines
+pub mod ServeLaws
+pub mod ServeAnswers
 pub mod AuditAnswers
 pub mod WorldLines
 pub mod AgentsLaws

@@ -24,7 +24,7 @@ use Rattle.bspl_tool.specs.declared.answer.Answer.TheVariants.{Whole, Play}
 use Rattle.bspl_tool.specs.declared.world_report.WorldReport.{WorldReport}
 use Rattle.bspl_tool.specs.PlayedText.{AgentsText, IsPlayedText, ReportsOn}
 use Rattle.bspl_tool.specs.RunAnswer.{IsRunRefused, script_rejection}
-use Rattle.bspl_tool.specs.inner.Answer.{Completes, IsRightAnswer, PlaysIfSafe}
+use Rattle.bspl_tool.specs.inner.Answer.{Completes, IsFoundSafe, IsRightAnswer, PlaysIfSafe}
 use Rattle.bspl_tool.specs.inner.Job.{IsGivenJob}
 use Rattle.bspl_tool.specs.inner.Error.{RejectsFor, error_for}
 
@@ -65,23 +65,23 @@ nothing_played report threads job (Unsafe run param first second) other = refl
 nothing_played report threads job (Undecided log) other = refl
 
 -- so the reply is the answer
-pub whole_if_not_safe : (job : Job) (threads : ℕ) (report : WorldReport) (safety : Safety) (reply : Reply Status) → ((log : Log) → safety ≢ Safe log) → IsRightAnswer (PlaysIfSafe job threads report safety reply) (Whole reply)
+pub whole_if_not_safe : (job : Job) (threads : ℕ) (report : WorldReport) (safety : Safety) (reply : Reply Status) → ¬ IsFoundSafe safety → IsRightAnswer (PlaysIfSafe job threads report safety reply) (Whole reply)
 whole_if_not_safe job threads report safety reply other = λ out status completes. record {
   agents_text = [];
-  played = nothing_played report threads job safety other;
+  played = nothing_played report threads job safety (λ log is. other (log, is));
   text = completes.0 ∙ sym (append-nil reply.text);
   ends = completes.1;
 }
 
 -- of one that is, the answer is the reply and then what they play
-pub playing_if_safe : (job : Job) (threads : ℕ) (report : WorldReport) (safety : Safety) (log : Log) (reply : Reply Status) → safety ≡ Safe log → IsRightAnswer (PlaysIfSafe job threads report safety reply) (Play job threads report reply)
-playing_if_safe job threads report safety log reply safe = λ out status completes. record {
+pub playing_if_safe : (job : Job) (threads : ℕ) (report : WorldReport) (safety : Safety) (reply : Reply Status) → IsFoundSafe safety → IsRightAnswer (PlaysIfSafe job threads report safety reply) (Play job threads report reply)
+playing_if_safe job threads report safety reply safe = λ out status completes. record {
   agents_text = completes.played;
-  played = subst (λ (s : Safety). AgentsText report threads job s completes.played) (sym safe) completes.is_played;
+  played = subst (λ (s : Safety). AgentsText report threads job s completes.played) (sym safe.1) completes.is_played;
   text = completes.text;
   ends = completes.ends;
 }
 
 -- a protocol that is found safe by right verdicts is safe
-pub found_safe : (budget : ℕ) (x : Expanded) (s : Safety) (log : Log) → IsRight x budget s → s ≡ Safe log → SafeProtocol x
-found_safe budget x s log right is = (subst (IsRight x budget) is right).holds
+pub found_safe : (budget : ℕ) (x : Expanded) (s : Safety) → IsRight x budget s → IsFoundSafe s → SafeProtocol x
+found_safe budget x s right safe = (subst (IsRight x budget) safe.1 right).holds

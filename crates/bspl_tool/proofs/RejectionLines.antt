@@ -3,9 +3,9 @@ use Rattle.std.proofs.Common.{◌≡◌, false, ◌++◌, codes, Option, Some, N
 use Rattle.bspl_types.specs.declared.refusals.What.{What}
 use Rattle.bspl_types.specs.declared.refusals.What.TheVariants as what
 use Rattle.tool_input.specs.declared.parts.Part.{Part}
-use Rattle.tool_input.specs.declared.parts.Part.TheVariants.{Agents, Histories, Log, Run}
+use Rattle.tool_input.specs.declared.parts.Part.TheVariants.{Agents, Histories, Log, Run, Wire}
 use Rattle.tool_input.specs.declared.rejection.Code.{Code}
-use Rattle.tool_input.specs.declared.rejection.Code.TheVariants.{E, H, L, P, S, W}
+use Rattle.tool_input.specs.declared.rejection.Code.TheVariants.{E, F, H, L, P, S, W}
 use Rattle.tool_input.specs.declared.rejection.Field.{Field}
 use Rattle.tool_input.specs.declared.rejection.Field.TheVariants as field
 use Rattle.tool_input.specs.declared.rejection.Rejection.{Rejection}
@@ -24,6 +24,7 @@ code_has_no_lf (L n) = decimal_has_no_lf n
 code_has_no_lf (W n) = decimal_has_no_lf n
 code_has_no_lf (S n) = decimal_has_no_lf n
 code_has_no_lf (H n) = decimal_has_no_lf n
+code_has_no_lf (F n) = decimal_has_no_lf n
 
 -- nor the word for what is counted
 what_has_no_lf : (counted : What) → has_lf (what_word counted) ≡ false
@@ -42,6 +43,7 @@ part_has_no_lf Agents = refl
 part_has_no_lf Log = refl
 part_has_no_lf Run = refl
 part_has_no_lf Histories = refl
+part_has_no_lf Wire = refl
 
 -- nor a field, whose name is a name
 field_has_no_lf : (said : Option Field) → IsNamedField said → has_lf (after_space said) ≡ false

@@ -31,8 +31,9 @@ use Rattle.bspl_tool.specs.declared.world_report.WorldReport.TheVariants.{Table}
 use Rattle.bspl_tool.specs.PlayedText.{AgentsText, IsPlayedText, ReportsOn}
 use Rattle.bspl_tool.specs.RestartAnswer.{IsRestartAnswer, RestartsText}
 use Rattle.bspl_tool.specs.VerifyAnswer.{IsVerdictAnswer}
+use Rattle.bspl_tool.specs.inner.Answer.{IsFoundSafe}
 use Rattle.bspl_tool.specs.inner.Job.{IsGivenJob}
-use Rattle.bspl_tool.specs.inner.Restart.{IsPlayedOver, IsRestartedText, RestartsIfSafe}
+use Rattle.bspl_tool.specs.inner.Restart.{IsPlayedOver, IsRestartedText, RestartsAfter, RestartsIfSafe}
 use Rattle.bspl_tool.proofs.PlayAnswers.{nothing_played}
 
 -- a filtered list is not longer
@@ -78,26 +79,28 @@ none_restarted roles (Safe log) other = absurd (other log refl)
 none_restarted roles (Unsafe run param first second) other = refl
 none_restarted roles (Undecided log) other = refl
 
-pub nothing_restarted : (job : Job) (safety : Safety) (reply : Reply Status) → ((log : Log) → safety ≢ Safe log) → RestartsIfSafe job safety reply reply
+pub nothing_restarted : (job : Job) (safety : Safety) (reply : Reply Status) → ¬ IsFoundSafe safety → RestartsIfSafe job safety reply reply
 nothing_restarted job safety reply other = record {
   agents_text = [];
-  played = nothing_played Table 0 job safety other;
+  played = nothing_played Table 0 job safety (λ log is. other (log, is));
   restarts_text = [];
-  restarts = none_restarted (length job.protocol.roles) safety other;
+  restarts = none_restarted (length job.protocol.roles) safety (λ log is. other (log, is));
   text = sym (append-nil (reply.text ++ []) ∙ append-nil reply.text);
   ends = refl;
 }
 
 -- those of one that is
-pub safe_restarted : (job : Job) (safety : Safety) (log : Log) (so_far reply : Reply Status) (text : List ℕ) → safety ≡ Safe log → IsRestartedText job text → (reply.text ≡ so_far.text ++ text) × (reply.status ≡ so_far.status) → RestartsIfSafe job safety so_far reply
-safe_restarted job safety log so_far reply text safe is same = record {
-  agents_text = is.played;
-  played = subst (λ (s : Safety). AgentsText Table 0 job s is.played) (sym safe) is.is_played;
-  restarts_text = is.last;
-  restarts = subst (λ (s : Safety). RestartsText s (length job.protocol.roles) is.last) (sym safe) is.restarts;
-  text = same.0 ∙ ap (λ (t : List ℕ). so_far.text ++ t) is.text_is ∙ sym (append_assoc so_far.text is.played is.last);
-  ends = same.1;
-}
+pub safe_restarted : (job : Job) (safety : Safety) (so_far reply : Reply Status) → IsFoundSafe safety → RestartsAfter job so_far reply → RestartsIfSafe job safety so_far reply
+safe_restarted job safety so_far reply safe after =
+    let is = after.is_played in
+    record {
+      agents_text = is.played;
+      played = subst (λ (s : Safety). AgentsText Table 0 job s is.played) (sym safe.1) is.is_played;
+      restarts_text = is.last;
+      restarts = subst (λ (s : Safety). RestartsText s (length job.protocol.roles) is.last) (sym safe.1) is.restarts;
+      text = after.text ∙ ap (λ (t : List ℕ). so_far.text ++ t) is.text_is ∙ sym (append_assoc so_far.text is.played is.last);
+      ends = after.ends;
+    }
 
 -- the reply is an answer
 pub restart_answer : (brief : Bool) (budget : ℕ) (x : Expanded) (part : List ℕ) (job : Job) (v : Verdicts) (so_far reply : Reply Status) → IsGivenJob x part job → IsVerdictAnswer brief budget job.protocol v so_far.text → so_far.status ≡ verdict_status v.safety v.liveness → RestartsIfSafe job v.safety so_far reply → IsRestartAnswer brief budget x part reply.text reply.status

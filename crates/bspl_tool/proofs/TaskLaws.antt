@@ -1,6 +1,6 @@
 -- The laws of each command.
 use Rattle.bspl_tool.specs.declared.task.Task.{Task}
-use Rattle.bspl_tool.specs.declared.task.Task.TheVariants.{Audit, Check, CheckDead, Dead, Expand, Generate, Replay, Restart, Run, Verify}
+use Rattle.bspl_tool.specs.declared.task.Task.TheVariants.{Audit, Check, CheckDead, Dead, Expand, Generate, Replay, Restart, Run, Serve, Verify}
 use Rattle.bspl_tool.specs.AuditAnswer.{audit_rules}
 use Rattle.bspl_tool.specs.CheckAnswer.{check_rules}
 use Rattle.bspl_tool.specs.CheckDeadAnswer.{check_dead_rules}
@@ -21,6 +21,7 @@ use Rattle.bspl_tool.proofs.GenerateLaws.{generate_laws}
 use Rattle.bspl_tool.proofs.ReplayLaws.{OneReplay, replay_laws}
 use Rattle.bspl_tool.proofs.RestartLaws.{restart_laws}
 use Rattle.bspl_tool.proofs.RunLaws.{run_laws}
+use Rattle.bspl_tool.proofs.ServeLaws.{serve_laws}
 use Rattle.bspl_tool.proofs.VerifyLaws.{verify_laws}
 
 -- what is read and printed has one answer
@@ -42,5 +43,6 @@ laws_of (Run brief conflicts threads) = with_more (run_rules brief conflicts thr
 laws_of (Restart brief conflicts) = with_more (restart_rules brief conflicts) (λ once. once.agents) (restart_laws brief conflicts)
 laws_of (Dead brief conflicts) = dead_laws brief conflicts
 laws_of CheckDead = with_more check_dead_rules (λ once. once.dead) check_dead_laws
+laws_of Serve = serve_laws
 laws_of Audit = with_more audit_rules (λ once. once.audit) audit_laws
 laws_of (Generate stages conflicts threads) = with_more (generate_rules stages conflicts threads) (λ once. once.agents) (generate_laws stages conflicts threads)

@@ -5,6 +5,7 @@ pub mod Call
 pub mod Output
 pub mod Request
 pub mod Task
+pub mod Outcome
 pub mod Rules
 pub mod ExpandAnswer
 pub mod CheckAnswer
@@ -16,6 +17,7 @@ pub mod RestartAnswer
 pub mod GenerateAnswer
 pub mod DeadAnswer
 pub mod CheckDeadAnswer
+pub mod ServeAnswer
 pub mod AuditAnswer
 pub mod StageCount
 pub mod Refusals

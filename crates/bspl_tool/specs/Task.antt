@@ -5,7 +5,7 @@ use Rattle.command_line.specs.declared.command.Command.TheVariants as command
 use Rattle.tool_input.specs.Parts.{protocol_text}
 use Rattle.workload.specs.Stage.{stage_text}
 use Rattle.bspl_tool.specs.declared.task.Task.{Task}
-use Rattle.bspl_tool.specs.declared.task.Task.TheVariants.{Audit, Check, CheckDead, Dead, Expand, Generate, Replay, Restart, Run, Verify}
+use Rattle.bspl_tool.specs.declared.task.Task.TheVariants.{Audit, Check, CheckDead, Dead, Expand, Generate, Replay, Restart, Run, Serve, Verify}
 use Rattle.bspl_tool.specs.AuditAnswer.{audit_rules}
 use Rattle.bspl_tool.specs.CheckAnswer.{check_rules}
 use Rattle.bspl_tool.specs.CheckDeadAnswer.{check_dead_rules}
@@ -16,6 +16,7 @@ use Rattle.bspl_tool.specs.ReplayAnswer.{replay_rules}
 use Rattle.bspl_tool.specs.RestartAnswer.{restart_rules}
 use Rattle.bspl_tool.specs.Rules.{CommandRules}
 use Rattle.bspl_tool.specs.RunAnswer.{run_rules}
+use Rattle.bspl_tool.specs.ServeAnswer.{serve_rules}
 use Rattle.bspl_tool.specs.VerifyAnswer.{verify_rules}
 
 -- the rules of each task
@@ -28,6 +29,7 @@ rules_of (Run brief conflicts threads) = run_rules brief conflicts threads
 rules_of (Restart brief conflicts) = restart_rules brief conflicts
 rules_of (Dead brief conflicts) = dead_rules brief conflicts
 rules_of CheckDead = check_dead_rules
+rules_of Serve = serve_rules
 rules_of Audit = audit_rules
 rules_of (Generate stages conflicts threads) = generate_rules stages conflicts threads
 
@@ -42,6 +44,7 @@ task_of command.Restart brief conflicts threads = Some (Restart brief conflicts)
 task_of command.Generate brief conflicts threads = None
 task_of command.Dead brief conflicts threads = Some (Dead brief conflicts)
 task_of command.CheckDead brief conflicts threads = Some CheckDead
+task_of command.Serve brief conflicts threads = Some Serve
 task_of command.Audit brief conflicts threads = Some Audit
 
 -- the text that a task makes for itself and is done on in place of the input

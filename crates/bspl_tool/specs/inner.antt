@@ -4,3 +4,4 @@ pub mod Error
 pub mod Job
 pub mod Messages
 pub mod Restart
+pub mod Serve

@@ -1,7 +1,7 @@
-ghost use Rattle.std.specs.Prelude.{◌≡◌, ℕ, IfErr, IfOk};
+ghost use Rattle.std.specs.Prelude.{◌≡◌, ◌↔◌, ℕ, IfErr, IfOk, IsTrue};
 ghost use Rattle.verdict.specs.Right.{IsRight};
 ghost use Rattle.bspl_tool.specs.RunAnswer.{IsRunRefused, script_rejection};
-ghost use Rattle.bspl_tool.specs.inner.Answer.{IsPlayable, IsRightAnswer, PlaysIfSafe};
+ghost use Rattle.bspl_tool.specs.inner.Answer.{IsFoundSafe, IsPlayable, IsRightAnswer, PlaysIfSafe};
 ghost use Rattle.bspl_tool.specs.inner.Error.{RejectsFor};
 ghost use Rattle.bspl_tool.specs.inner.Job.{IsGivenJob};
 
@@ -40,7 +40,9 @@ pub(crate) fn play_if_safe(
         IsPlayable result }
 {
     let VerdictReply { verdicts, reply } = found;
-    if let Safety::Safe(_) = verdicts.safety {
+    let safe = is_safe(&verdicts.safety);
+    drop(verdicts);
+    if safe {
         Answer::Play {
             job,
             threads,
@@ -50,6 +52,13 @@ pub(crate) fn play_if_safe(
     } else {
         Answer::Whole(reply)
     }
+}
+
+/// Whether the protocol is found safe.
+pub(crate) fn is_safe(safety: &Safety) -> bool
+    ensures { IsTrue result ↔ IsFoundSafe safety.now }
+{
+    matches!(safety, Safety::Safe(_))
 }
 
 /// The rejection of the agents' text, unless memory ran out.

@@ -19,8 +19,9 @@ pub fn audit(alloc: Global, protocol: &Admitted, part: &[u8]) -> Result<Reply<St
     ensures refused { IfErr result (RejectsFor (IsAuditRefused protocol.now part.now)) }
 {
     let histories = read_histories(alloc, protocol, part)?;
-    let reply = reply_to(alloc, protocol, &histories)?;
-    Ok(reply)
+    let replied = reply_to(alloc, protocol, &histories);
+    drop(histories);
+    Ok(replied?)
 }
 
 /// The reply that says whether one run explains the histories.

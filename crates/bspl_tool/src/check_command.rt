@@ -26,7 +26,9 @@ pub fn check(alloc: Global, protocol: &Admitted, part: &[u8]) -> Result<Reply<St
     // law: a log has no more steps than its text has bytes
     steps_are_fewer_than_bytes();
     let (kind, log) = read_log(alloc, part)?;
-    match claim_of(alloc, protocol, kind, &log) {
+    let checked = claim_of(alloc, protocol, kind, &log);
+    drop(log);
+    match checked {
         Ok(claim) => Ok(Reply {
             status: Status::Done,
             text: claim_text(alloc, claim)?,

@@ -31,7 +31,9 @@ pub fn check_dead(
     // law: the formula of messages has few clauses
     enact_clauses_are_few();
     let (message, log) = read_dead(alloc, protocol, part)?;
-    match enactability::check_dead(alloc, protocol, message, &log) {
+    let checked = enactability::check_dead(alloc, protocol, message, &log);
+    drop(log);
+    match checked {
         Ok(()) => Ok(Reply {
             status: Status::Done,
             text: accepted_text(alloc, protocol.expanded(), message)?,

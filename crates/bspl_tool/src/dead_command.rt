@@ -23,7 +23,9 @@ pub fn dead(
     let mut so_far = Answered::none(alloc, protocol.expanded())?;
     for message in 0..protocol.expanded().messages.len() as u32 {
         let answer = search.enactable(alloc, message, conflicts.conflicts())?;
-        so_far.take(alloc, protocol, brief, message, &answer)?;
+        let taken = so_far.take(alloc, protocol, brief, message, &answer);
+        drop(answer);
+        taken?;
     }
     Ok(Reply {
         status: so_far.status(),

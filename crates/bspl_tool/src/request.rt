@@ -63,8 +63,8 @@ impl<'a> Program<'a> for Request<'a> {
         }
     }
 
-    fn reply_to(&self, alloc: Global, input: &[u8]) -> Result<Reply<Status>, NoMemory> {
-        finish(alloc, self.answer(alloc, input)?)
+    fn reply_to(&self, alloc: Global, input: Bytes) -> Result<Reply<Status>, NoMemory> {
+        finish(alloc, self.answer(alloc, input.as_slice())?)
     }
 
     fn too_long(&self, alloc: Global) -> Result<Reply<Status>, NoMemory> {
@@ -75,7 +75,7 @@ impl<'a> Program<'a> for Request<'a> {
 
 impl Request<'_> {
     /// What is answered on the whole input, or on no bytes if none is asked for.
-    pub fn answer(&self, alloc: Global, input: &[u8]) -> Result<Answer, NoMemory>
+    pub(crate) fn answer(&self, alloc: Global, input: &[u8]) -> Result<Answer, NoMemory>
         requires { length input.now ≤ input_limit }
         ensures right { (args : List (List ℕ)) → IsRequest args self.now →
             IfOk result (IsRightAnswer (Output args input.now)) }

@@ -1,14 +1,16 @@
-ghost use Rattle.std.specs.Prelude.{◌≡◌, ◌++◌, codes, IfErr, IfOk, OnOk};
+ghost use Rattle.std.specs.Prelude.{◌≡◌, ◌++◌, ℕ, List, codes, IfErr, IfOk, OnOk};
+ghost use Rattle.bspl_types.specs.declared.expanded.Expanded.{Expanded};
 ghost use Rattle.enactment_model.specs.Safety.{SafeProtocol};
-ghost use Rattle.refutation_log.specs.declared.refutation.Log.{Log};
 ghost use Rattle.report.specs.Summary.{count_line};
-ghost use Rattle.verdict.specs.declared.outcome.Safety.TheVariants as safety;
 ghost use Rattle.bspl_tool.specs.RestartAnswer.{IsRestartAnswer};
 ghost use Rattle.bspl_tool.specs.RunAnswer.{IsRunRefused};
+ghost use Rattle.bspl_tool.specs.inner.Answer.{IsFoundSafe};
 ghost use Rattle.bspl_tool.specs.inner.Error.{RejectsFor};
-ghost use Rattle.bspl_tool.specs.inner.Restart.{IsPlayedOver, IsRestartedText, RestartsIfSafe};
+ghost use Rattle.bspl_tool.specs.inner.Job.{IsGivenJob};
+ghost use Rattle.bspl_tool.specs.inner.Restart.{IsPlayedOver, IsRestartedText};
+ghost use Rattle.bspl_tool.specs.inner.Restart.{RestartsAfter, RestartsIfSafe};
 
-use super::agents::job_of;
+use super::agents::{is_safe, job_of};
 use super::answer_error::AnswerError;
 use super::play::with_played;
 use super::restart_disks::{PlayedOver, play_over_disks};
@@ -20,7 +22,6 @@ use command_line::Budget;
 use program_frame::Reply;
 use std::alloc::Global;
 use tool_input::Status;
-use verdict::Safety;
 
 /// Answers `restart` on the text of agents. They play on this thread, over disks of which each
 /// stops once, if their protocol is found safe.
@@ -36,24 +37,48 @@ pub fn restart(
     ensures refused { IfErr result (RejectsFor (IsRunRefused protocol part.now)) }
 {
     let job = job_of(alloc, protocol, part)?;
-    let found = reply_with_verdicts(alloc, brief, conflicts, job.admitted())?;
-    let reply = restart_if_safe(alloc, &job, found)?;
-    Ok(reply)
+    let answered = answer_job(alloc, brief, conflicts, &job);
+    drop(job);
+    Ok(answered?)
 }
 
-/// The reply, after whose text comes that of the agents if their protocol is found safe.
+/// The answer on a job.
+fn answer_job(
+    alloc: Global,
+    brief: bool,
+    conflicts: Budget,
+    job: &Job,
+) -> Result<Reply<Status>, NoMemory>
+    ensures { (x : Expanded) (part : List ℕ) → IsGivenJob x part job.now → IfOk result (λ reply.
+        IsRestartAnswer brief conflicts x part reply.text reply.status) }
+{
+    let found = reply_with_verdicts(alloc, brief, conflicts, job.admitted())?;
+    restart_if_safe(alloc, job, found)
+}
+
+/// The reply, after whose text comes that of the agents if their protocol is found safe. The
+/// verdicts are let go before anything is played.
 fn restart_if_safe(alloc: Global, job: &Job, found: VerdictReply) -> Result<Reply<Status>, NoMemory>
-    requires { (log : Log) → found.verdicts.safety ≡ safety.Safe log →
-        SafeProtocol job.now.protocol }
+    requires { IsFoundSafe found.verdicts.safety → SafeProtocol job.now.protocol }
     ensures { IfOk result (RestartsIfSafe job.now found.verdicts.safety found.reply) }
 {
     let VerdictReply { verdicts, reply } = found;
-    if let Safety::Safe(_) = verdicts.safety {
-        let played = disks_text(alloc, job)?;
-        with_played(reply, played)
+    let safe = is_safe(&verdicts.safety);
+    drop(verdicts);
+    if safe {
+        with_disks(alloc, job, reply)
     } else {
         Ok(reply)
     }
+}
+
+/// The reply, after whose text comes that of the agents, who play over disks.
+fn with_disks(alloc: Global, job: &Job, so_far: Reply<Status>) -> Result<Reply<Status>, NoMemory>
+    requires { SafeProtocol job.now.protocol }
+    ensures { IfOk result (RestartsAfter job.now so_far) }
+{
+    let played = disks_text(alloc, job)?;
+    with_played(so_far, played)
 }
 
 /// The report on a world that the agents of the job play over disks, and how many roles were

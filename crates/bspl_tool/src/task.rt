@@ -15,6 +15,7 @@ use super::generate_command::generate;
 use super::replay_command::replay;
 use super::restart_command::restart;
 use super::run_command::run;
+use super::serve_command::serve;
 use super::stage_count::StageCount;
 use super::verify_command::verify;
 use bspl_types::{Admitted, Bytes, NoMemory};
@@ -57,6 +58,8 @@ pub enum Task {
     },
     /// A log is checked against the formula of a message.
     CheckDead,
+    /// One of its roles replies to lines.
+    Serve,
     /// The histories of its roles are audited.
     Audit,
     /// A protocol of so many stages is generated and verified, and if it is safe, agents play it. A
@@ -90,6 +93,7 @@ pub fn task_of(
         Command::Restart => Some(Task::Restart { brief, conflicts }),
         Command::Dead => Some(Task::Dead { brief, conflicts }),
         Command::CheckDead => Some(Task::CheckDead),
+        Command::Serve => Some(Task::Serve),
         Command::Audit => Some(Task::Audit),
         Command::Generate => None,
     }
@@ -104,6 +108,7 @@ impl Task {
             Task::Expand | Task::Verify { .. } | Task::Dead { .. } => None,
             Task::Check | Task::CheckDead => Some(Part::Log),
             Task::Replay => Some(Part::Run),
+            Task::Serve => Some(Part::Wire),
             Task::Audit => Some(Part::Histories),
             Task::Run { .. } | Task::Restart { .. } | Task::Generate { .. } => Some(Part::Agents),
         }
@@ -120,7 +125,7 @@ impl Task {
     }
 
     /// The text that it makes for itself and is done on in place of the input.
-    pub(crate) fn own_text(&self, alloc: Global) -> Result<Option<Bytes>, NoMemory>
+    pub fn own_text(&self, alloc: Global) -> Result<Option<Bytes>, NoMemory>
         ensures text { IfOk result (λ text. text ≡ own_text self.now) }
         ensures short { IfOk result (λ text.
             IfSome text (λ bytes. length bytes ≤ input_limit)) }
@@ -164,6 +169,7 @@ impl Task {
                 Ok(Answer::Whole(dead(alloc, brief, conflicts, &protocol)?))
             }
             Task::CheckDead => Ok(Answer::Whole(check_dead(alloc, &protocol, part)?)),
+            Task::Serve => Ok(Answer::Whole(serve(alloc, &protocol, part)?)),
             Task::Audit => Ok(Answer::Whole(audit(alloc, &protocol, part)?)),
             Task::Generate {
                 stages,

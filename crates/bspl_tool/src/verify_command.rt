@@ -12,7 +12,7 @@ use verdict::Verdicts;
 
 /// Verdicts, and what is written of them.
 #[derive(Drop)]
-pub(crate) struct VerdictReply {
+pub struct VerdictReply {
     pub verdicts: Verdicts,
     pub reply: Reply<Status>,
 }
@@ -33,7 +33,7 @@ pub fn verify(
 
 /// The verdicts, with no more than `conflicts` conflicts in the search for each, and the reply that
 /// gives them.
-pub(crate) fn reply_with_verdicts(
+pub fn reply_with_verdicts(
     alloc: Global,
     brief: bool,
     conflicts: Budget,

@@ -9,7 +9,7 @@ use Rattle.std.proofs.lemmas.List.Splits.{slice_split-cons_no}
 use Rattle.std.proofs.lemmas.Slice.Eq.{bytes_eq-Decides, starts_is}
 use Rattle.bspl_types.specs.Name.{begins_name, is_name_rest, is_plain_name, is_group, is_grouped, is_reserved, is_name}
 use Rattle.command_line.specs.declared.command.Command.{Command}
-use Rattle.command_line.specs.declared.command.Command.TheVariants.{Verify, Check, Replay, Expand, Run, Restart, Generate, Dead, CheckDead, Audit}
+use Rattle.command_line.specs.declared.command.Command.TheVariants.{Verify, Check, Replay, Expand, Run, Restart, Generate, Dead, CheckDead, Serve, Audit}
 use Rattle.command_line.specs.declared.line.CommandLine.{CommandLine}
 use Rattle.command_line.specs.declared.line.Subject.{Subject}
 use Rattle.command_line.specs.declared.line.Subject.TheVariants.{Protocol, Size}
@@ -143,6 +143,7 @@ command_plain Restart = refl
 command_plain Generate = refl
 command_plain Dead = refl
 command_plain CheckDead = refl
+command_plain Serve = refl
 command_plain Audit = refl
 
 digits_plain : (word : List ℕ) → list_all is_ascii_digit word ≡ true → begins_with_dash word ≡ false

@@ -3,7 +3,7 @@ use Rattle.std.proofs.Common.{◌≡◌, ◌≤◌, ℕ, zero, suc, Bool, true, 
 use Rattle.std.specs.Str.{bytes_eq}
 use Rattle.list_base.proofs.Numerals.{same_from_numeral}
 use Rattle.command_line.specs.declared.command.Command.{Command}
-use Rattle.command_line.specs.declared.command.Command.TheVariants.{Verify, Check, Replay, Expand, Run, Restart, Generate, Dead, CheckDead, Audit}
+use Rattle.command_line.specs.declared.command.Command.TheVariants.{Verify, Check, Replay, Expand, Run, Restart, Generate, Dead, CheckDead, Serve, Audit}
 use Rattle.command_line.specs.declared.line.CommandLine.{CommandLine}
 use Rattle.command_line.specs.declared.line.Subject.{Subject}
 use Rattle.command_line.specs.declared.line.Subject.TheVariants.{Protocol, Size}
@@ -50,7 +50,8 @@ named word = cond (bytes_eq word (codes "verify")) Verify
     (cond (bytes_eq word (codes "restart")) Restart
     (cond (bytes_eq word (codes "generate")) Generate
     (cond (bytes_eq word (codes "dead")) Dead
-    (cond (bytes_eq word (codes "check-dead")) CheckDead Audit))))))))
+    (cond (bytes_eq word (codes "check-dead")) CheckDead
+    (cond (bytes_eq word (codes "serve")) Serve Audit)))))))))
 
 names_it : (command : Command) → named (command_word command) ≡ command
 names_it Verify = refl
@@ -62,6 +63,7 @@ names_it Restart = refl
 names_it Generate = refl
 names_it Dead = refl
 names_it CheckDead = refl
+names_it Serve = refl
 names_it Audit = refl
 
 same_flag : (belongs : Bool) (n : ℕ) (x y : Bool) → IsFlag belongs n x → IsFlag belongs n y → x ≡ y

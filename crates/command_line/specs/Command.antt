@@ -1,7 +1,7 @@
 -- The commands: the word of each, the options that it takes, and whether a number follows it.
 use Rattle.std.specs.Prelude.{ℕ, Bool, true, false, List, codes}
 use Rattle.command_line.specs.declared.command.Command.{Command}
-use Rattle.command_line.specs.declared.command.Command.TheVariants.{Verify, Check, Replay, Expand, Run, Restart, Generate, Dead, CheckDead, Audit}
+use Rattle.command_line.specs.declared.command.Command.TheVariants.{Verify, Check, Replay, Expand, Run, Restart, Generate, Dead, CheckDead, Serve, Audit}
 
 -- what a command line of a command has
 pub record CommandRow : Type 0 where
@@ -33,6 +33,7 @@ row_of Generate =
     record (plain_row (codes "generate")) { conflicts = true; threads = true; sized = true }
 row_of Dead = record (plain_row (codes "dead")) { brief = true; conflicts = true }
 row_of CheckDead = plain_row (codes "check-dead")
+row_of Serve = plain_row (codes "serve")
 row_of Audit = plain_row (codes "audit")
 
 -- the word that names the command

@@ -14,6 +14,7 @@ pub enum Command {
     Generate,
     Dead,
     CheckDead,
+    Serve,
     Audit,
 }
 
@@ -56,6 +57,7 @@ impl Command {
             | Command::Replay
             | Command::Expand
             | Command::CheckDead
+            | Command::Serve
             | Command::Audit => PLAIN,
             Command::Run => CommandRow {
                 brief: true,
@@ -88,6 +90,7 @@ pub fn command_of(word: &[u8]) -> Option<Command>
         b"generate" => Some(Command::Generate),
         b"dead" => Some(Command::Dead),
         b"check-dead" => Some(Command::CheckDead),
+        b"serve" => Some(Command::Serve),
         b"audit" => Some(Command::Audit),
         _ => None,
     }

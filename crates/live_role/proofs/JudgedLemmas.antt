@@ -10,12 +10,13 @@ use Rattle.role_server.specs.Served.{first_store}
 use Rattle.tool_input.specs.declared.status.Status.{Status}
 use Rattle.tool_input.specs.declared.status.Status.TheVariants.{Refused}
 use Rattle.tool_input.specs.Input.{Declares}
-use Rattle.tool_input.specs.Rejection.{over_limit, rejection_line}
+use Rattle.tool_input.specs.declared.parts.Part.TheVariants.{Wire}
+use Rattle.tool_input.specs.Rejection.{lacks_part, over_limit, rejection_line}
+use Rattle.tool_input.specs.RoleName.{IsRoleNamed}
 use Rattle.live_role.specs.declared.judged.Judged.{Judged}
 use Rattle.live_role.specs.declared.judged.Judged.TheVariants.{Served}
 use Rattle.live_role.specs.Call.{BeginsRole, IsDeclined, no_line, too_long}
-use Rattle.live_role.specs.Judgement.{IsRoleNamed}
-use Rattle.live_role.specs.Opening.{EndsUnopened, IsUnopenedTooLong, TakesOpening, lacks_wire}
+use Rattle.live_role.specs.Opening.{EndsUnopened, IsUnopenedTooLong, TakesOpening}
 use Rattle.live_role.specs.inner.Judged.{IsAccepted, IsJudged, IsReply}
 
 -- it is served
@@ -43,7 +44,7 @@ ahead_short text ahead old new is =
     omega (arith, is.short, ap length is.opens.whole, length-append (text ++ is.opens.line) ahead)
 
 -- the input ended before the line
-pub ended : (name role : List ℕ) (checked : Bool) (old new : Option (List ℕ)) (made : Result (Reply Status) OutOfMemory) → EndsUnopened old new → IfOk made (IsReply (rejection_line lacks_wire) Refused) → IfOk made (λ reply. IsDeclined name role checked old new reply.text reply.status)
+pub ended : (name role : List ℕ) (checked : Bool) (old new : Option (List ℕ)) (made : Result (Reply Status) OutOfMemory) → EndsUnopened old new → IfOk made (IsReply (rejection_line (lacks_part Wire)) Refused) → IfOk made (λ reply. IsDeclined name role checked old new reply.text reply.status)
 ended name role checked old new (Ok reply) ends is = no_line ends is.is_text is.is_status
 ended name role checked old new (Err e) ends is = tt
 

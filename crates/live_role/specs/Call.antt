@@ -16,10 +16,12 @@ use Rattle.role_server.specs.Served.{first_store}
 use Rattle.role_server.specs.Stream.{ServesAll, Stops}
 use Rattle.tool_input.specs.declared.status.Status.{Status}
 use Rattle.tool_input.specs.declared.status.Status.TheVariants.{Done, Refused, Usage}
+use Rattle.tool_input.specs.declared.parts.Part.TheVariants.{Wire}
 use Rattle.tool_input.specs.Input.{Declares}
-use Rattle.tool_input.specs.Rejection.{over_limit, rejection_line}
-use Rattle.live_role.specs.Judgement.{Declines, IsRoleNamed}
-use Rattle.live_role.specs.Opening.{EndsUnopened, IsUnopenedTooLong, TakesOpening, lacks_wire}
+use Rattle.tool_input.specs.Rejection.{lacks_part, over_limit, rejection_line}
+use Rattle.tool_input.specs.RoleName.{IsRoleNamed}
+use Rattle.live_role.specs.Judgement.{Declines}
+use Rattle.live_role.specs.Opening.{EndsUnopened, IsUnopenedTooLong, TakesOpening}
 use Rattle.live_role.specs.Request.{IsUsage, Requests}
 
 -- the line for invalid arguments
@@ -30,7 +32,7 @@ role_usage = codes "usage: bspl_role NAME ROLE [--unchecked]\n"
 pub data IsDeclined (name role : List ℕ) (checked : Bool) (old new : Option (List ℕ))
     (out : List ℕ) (status : Status) : Type 0 where
   -- the line does not come
-  no_line : EndsUnopened old new → out ≡ rejection_line lacks_wire → status ≡ Refused
+  no_line : EndsUnopened old new → out ≡ rejection_line (lacks_part Wire) → status ≡ Refused
       → IsDeclined name role checked old new out status
   -- too many bytes come before it
   too_long : IsUnopenedTooLong old new → out ≡ rejection_line (over_limit input_limit)

@@ -1,5 +1,5 @@
 -- When a role is not served, in the order in which the reasons are judged.
-use Rattle.std.specs.Prelude.{◌≡◌, ◌≢◌, ℕ, ◌<◌, Bool, true, List, [], Some, codes, length, slice_index_or}
+use Rattle.std.specs.Prelude.{◌≡◌, ◌≢◌, ℕ, Bool, true, List, Some}
 use Rattle.bspl_types.specs.declared.expanded.Expanded.{Expanded}
 use Rattle.bspl_types.specs.declared.refusals.Refusal.{Refusal}
 use Rattle.refutation_log.specs.declared.refutation.Log.{Log}
@@ -10,19 +10,11 @@ use Rattle.tool_input.specs.declared.status.Status.{Status}
 use Rattle.tool_input.specs.declared.status.Status.TheVariants.{Refused}
 use Rattle.tool_input.specs.Input.{Declares}
 use Rattle.tool_input.specs.Rejection.{rejection_line, text_rejection}
+use Rattle.tool_input.specs.RoleName.{IsRoleNamed, unknown_role}
 use Rattle.tool_input.specs.TextRefusal.{RefusesText}
 use Rattle.verdict.specs.declared.outcome.Safety.TheVariants as safety
 use Rattle.verdict.specs.declared.outcome.Verdicts.{Verdicts}
 use Rattle.verdict.specs.Verdicts.{AreRight}
-
--- the role is declared, and this is its name
-pub record IsRoleNamed (x : Expanded) (name : List ℕ) (role : ℕ) : Type 0 where
-  pub known : role < length x.roles
-  pub named : slice_index_or x.roles role [] ≡ name
-
--- the line for a role that is not declared
-abbrev pub role_refused : List ℕ
-role_refused = codes "refused F5\n"
 
 -- the answer is that of right verdicts, with 10000 conflicts each, and it is not found safe
 pub record IsNotFoundSafe (x : Expanded) (out : List ℕ) (status : Status) : Type 0 where
@@ -41,7 +33,7 @@ pub data Declines (name role : List ℕ) (checked : Bool) (text out : List ℕ) 
       → Declines name role checked text out status
   -- its protocol has no such role
   no_role : (x : Expanded) → Declares name text x → ((r : ℕ) → ¬ IsRoleNamed x role r)
-      → out ≡ role_refused → status ≡ Refused → Declines name role checked text out status
+      → out ≡ rejection_line unknown_role → status ≡ Refused → Declines name role checked text out status
   -- the protocol is to be judged, and is not found safe
   not_safe : (x : Expanded) (r : ℕ) → Declares name text x → IsRoleNamed x role r
       → checked ≡ true → IsNotFoundSafe x out status → Declines name role checked text out status

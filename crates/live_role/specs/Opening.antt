@@ -1,11 +1,7 @@
 -- What is taken of the input up to the line.
-use Rattle.std.specs.Prelude.{ℕ, ◌<◌, ◌≤◌, List, ◌++◌, Option, length, codes}
+use Rattle.std.specs.Prelude.{ℕ, ◌<◌, ◌≤◌, List, ◌++◌, Option, length}
 use Rattle.std.specs.Io.KnownBytes.{Consumes, IsAtEnd}
 use Rattle.bspl_types.specs.Limits.{input_limit}
-use Rattle.tool_input.specs.declared.rejection.Code.TheVariants.{P}
-use Rattle.tool_input.specs.declared.rejection.Field.TheVariants as field
-use Rattle.tool_input.specs.declared.rejection.Rejection.{Rejection}
-use Rattle.tool_input.specs.Rejection.{with_one}
 use Rattle.live_role.specs.Wire.{IsUnopened, Opens}
 
 -- the text, the line, and some bytes after it were taken
@@ -30,7 +26,3 @@ pub record IsUnopenedTooLong (old new : Option (List ℕ)) : Type 0 where
   pub taken : Consumes old new (bytes ++ last)
   pub long : input_limit < length (bytes ++ last)
   pub unopened : IsUnopened bytes
-
--- the rejection of an input without the line
-abbrev pub lacks_wire : Rejection
-lacks_wire = with_one (P 1) (field.Name (codes "wire"))

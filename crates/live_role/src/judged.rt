@@ -2,19 +2,18 @@ ghost use Rattle.std.specs.Prelude.{◌≡◌, ℕ, ◌<◌, List, length, IfOk,
 ghost use Rattle.enactment_model.specs.Safety.{SafeProtocol};
 ghost use Rattle.role_server.specs.Served.{first_store};
 ghost use Rattle.tool_input.specs.Input.{Declares};
-ghost use Rattle.tool_input.specs.declared.status.Status.TheVariants.{Refused};
-ghost use Rattle.live_role.specs.Judgement.{IsNotFoundSafe, IsRoleNamed, role_refused};
-ghost use Rattle.live_role.specs.inner.Judged.{IsJudged, IsReply};
+ghost use Rattle.live_role.specs.Judgement.{IsNotFoundSafe};
+ghost use Rattle.live_role.specs.inner.Judged.{IsJudged};
 
 use super::request::Request;
-use bspl_types::{Admitted, Expanded};
-use list_base::{Bytes, NoMemory};
+use bspl_types::Admitted;
+use list_base::NoMemory;
 use local_store::Store;
 use program_frame::Reply;
 use report::{right_runs_fit, verdict_status, verdict_text};
 use role_server::store_with_room;
 use std::alloc::Global;
-use tool_input::{Status, declared_protocol, refused, text_rejection};
+use tool_input::{Status, declared_protocol, refused, role_named, text_rejection, unknown_role};
 use verdict::{Safety, verify};
 
 /// How many conflicts the search for each verdict may meet.
@@ -50,7 +49,7 @@ fn judge_role(alloc: Global, request: &Request<'_>, protocol: &Admitted) -> Resu
         text) }
 {
     let Some(role) = role_named(protocol.expanded(), request.role) else {
-        return Ok(Judged::Declined(unknown_role(alloc)?));
+        return Ok(Judged::Declined(refused(alloc, &unknown_role())?));
     };
     if !request.checked {
         return begun(alloc, protocol, role);
@@ -67,29 +66,6 @@ fn begun(alloc: Global, protocol: &Admitted, role: u32) -> Result<Judged, NoMemo
     ensures { IfOk result (λ judged. judged ≡ Judged.Served (first_store protocol.now role)) }
 {
     Ok(Judged::Served(store_with_room(alloc, protocol, role)?))
-}
-
-/// The role that has the name, if one has.
-fn role_named(x: &Expanded, name: &[u8]) -> Option<u32>
-    ensures { MatchOption result
-        ((role : ℕ) → ¬ IsRoleNamed x.now name.now role) (IsRoleNamed x.now name.now) }
-{
-    for (index, role) in x.roles.as_slice().iter().enumerate() {
-        if role.as_slice() == name {
-            return Some(index as u32);
-        }
-    }
-    None
-}
-
-/// The reply for a role that is not declared.
-fn unknown_role(alloc: Global) -> Result<Reply<Status>, NoMemory>
-    ensures { IfOk result (IsReply role_refused Refused) }
-{
-    Ok(Reply {
-        status: Status::Refused,
-        text: Bytes::from_slice(alloc, b"refused F5\n")?,
-    })
 }
 
 /// The reply on a protocol that is not found safe.

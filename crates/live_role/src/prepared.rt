@@ -1,8 +1,8 @@
 ghost use Rattle.std.specs.Prelude.{◌≡◌, IfOk};
 ghost use Rattle.bspl_types.specs.Limits.{input_limit};
-ghost use Rattle.tool_input.specs.Rejection.{over_limit, rejection_line};
+ghost use Rattle.tool_input.specs.Rejection.{lacks_part, over_limit, rejection_line};
+ghost use Rattle.tool_input.specs.declared.parts.Part.TheVariants.{Wire};
 ghost use Rattle.tool_input.specs.declared.status.Status.TheVariants.{Refused};
-ghost use Rattle.live_role.specs.Opening.{lacks_wire};
 ghost use Rattle.live_role.specs.inner.Judged.{IsReply};
 ghost use Rattle.live_role.specs.inner.Prepared.{AreReadsCounted, IsPrepared};
 
@@ -14,9 +14,7 @@ use list_base::{Bytes, NoMemory};
 use local_store::Store;
 use program_frame::Reply;
 use std::alloc::Global;
-use tool_input::{
-    Code, Field, INPUT_LIMIT, InputRefusal, Rejection, Status, input_rejection, refused,
-};
+use tool_input::{INPUT_LIMIT, InputRefusal, Part, Status, input_rejection, refused};
 
 /// What a call knows before it writes anything.
 #[derive(Drop)]
@@ -54,10 +52,10 @@ pub fn prepare<R: Source>(alloc: Global, request: &Request<'_>, input: &mut R) -
 
 /// The reply to an input that ends before the line `%% wire`.
 fn no_line(alloc: Global) -> Result<Reply<Status>, NoMemory>
-    ensures { IfOk result (IsReply (rejection_line lacks_wire) Refused) }
+    ensures { IfOk result (IsReply (rejection_line (lacks_part Wire)) Refused) }
 {
-    let name = Bytes::from_slice(alloc, b"wire")?;
-    refused(alloc, &Rejection::with_one(Code::P(1), Field::Name(name)))
+    let rejection = input_rejection(InputRefusal::NoPart { part: Part::Wire });
+    refused(alloc, &rejection)
 }
 
 /// The reply to an input that has too many bytes before the line `%% wire`.

@@ -2,3 +2,4 @@ pub mod PartLines
 pub mod FirstPart
 pub mod OneRefusal
 pub mod MessageNames
+pub mod RoleNames

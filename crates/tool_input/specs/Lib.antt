@@ -7,5 +7,6 @@ pub mod Input
 pub mod TextRefusal
 pub mod Rejection
 pub mod MessageName
+pub mod RoleName
 pub mod Laws
 pub mod Status

@@ -3,7 +3,7 @@ use Rattle.std.specs.Prelude.{ℕ, Bool, not, ◌||◌, List, [], ◌∷◌, ◌
 use Rattle.std.specs.List.{flat_map, join_with_byte, list_any, take_while}
 use Rattle.std.specs.Str.{bytes_eq}
 use Rattle.tool_input.specs.declared.parts.Part.{Part}
-use Rattle.tool_input.specs.declared.parts.Part.TheVariants.{Agents, Log, Run, Histories}
+use Rattle.tool_input.specs.declared.parts.Part.TheVariants.{Agents, Log, Run, Histories, Wire}
 use Rattle.tool_input.specs.Lines.{line, lines}
 
 -- the name of a part
@@ -12,10 +12,11 @@ part_name Agents = codes "agents"
 part_name Log = codes "log"
 part_name Run = codes "run"
 part_name Histories = codes "histories"
+part_name Wire = codes "wire"
 
 -- all parts
 abbrev pub all_parts : List Part
-all_parts = Agents ∷ Log ∷ Run ∷ Histories ∷ []
+all_parts = Agents ∷ Log ∷ Run ∷ Histories ∷ Wire ∷ []
 
 -- the line that begins a part
 abbrev pub part_line : Part → List ℕ

@@ -10,6 +10,7 @@ mod parts;
 mod refusal;
 mod rejection;
 mod rejection_text;
+mod role_name;
 mod status;
 
 pub use input_part::needed_part;
@@ -21,4 +22,5 @@ pub use parts::{Part, first_part, protocol_text};
 pub use refusal::InputRefusal;
 pub use rejection::{Code, Field, Rejection, input_rejection, text_rejection};
 pub use rejection_text::{refused, rejection_line};
+pub use role_name::{role_named, roles_are_named_once, unknown_role};
 pub use status::Status;

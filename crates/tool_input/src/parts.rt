@@ -16,6 +16,8 @@ pub enum Part {
     Run,
     /// A history for each role.
     Histories,
+    /// Lines for a role.
+    Wire,
 }
 
 impl Part {
@@ -28,6 +30,7 @@ impl Part {
             Part::Log => b"log",
             Part::Run => b"run",
             Part::Histories => b"histories",
+            Part::Wire => b"wire",
         }
     }
 }
@@ -82,6 +85,8 @@ fn part_begun(line: &[u8]) -> Option<Part>
         Some(Part::Run)
     } else if begins_part(line, Part::Histories) {
         Some(Part::Histories)
+    } else if begins_part(line, Part::Wire) {
+        Some(Part::Wire)
     } else {
         None
     }
@@ -95,6 +100,7 @@ fn is_part_line(line: &[u8]) -> bool
         || begins_part(line, Part::Log)
         || begins_part(line, Part::Run)
         || begins_part(line, Part::Histories)
+        || begins_part(line, Part::Wire)
 }
 
 /// Whether the line begins the part.
@@ -106,6 +112,7 @@ fn begins_part(line: &[u8], part: Part) -> bool
         Part::Log => is_either(line, b"%% log", b"%% log\r"),
         Part::Run => is_either(line, b"%% run", b"%% run\r"),
         Part::Histories => is_either(line, b"%% histories", b"%% histories\r"),
+        Part::Wire => is_either(line, b"%% wire", b"%% wire\r"),
     }
 }
 

@@ -22,6 +22,8 @@ pub enum Code {
     S(u8),
     /// The text of histories.
     H(u8),
+    /// The first line for a role.
+    F(u8),
 }
 
 /// What a rejection names.

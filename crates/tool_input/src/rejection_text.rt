@@ -41,6 +41,7 @@ fn push_code(alloc: Global, text: &mut Bytes, code: Code) -> Result<(), NoMemory
         Code::W(number) => (b'W', number),
         Code::S(number) => (b'S', number),
         Code::H(number) => (b'H', number),
+        Code::F(number) => (b'F', number),
     };
     text.push(letter)?;
     text.append(number.to_string(alloc)?.as_bytes())

@@ -1,7 +1,7 @@
 use super::args::args_of;
 use bspl_types::NoMemory;
 use command_line::Command::{
-    Audit, Check, CheckDead, Dead, Expand, Generate, Replay, Restart, Run, Verify,
+    Audit, Check, CheckDead, Dead, Expand, Generate, Replay, Restart, Run, Serve, Verify,
 };
 use command_line::Subject::{Protocol, Size};
 use command_line::{Command, CommandLine, Subject, command_line};
@@ -72,6 +72,11 @@ const ROWS: &[Row] = &[
     Row {
         command: CheckDead,
         given: &["check-dead P"],
+        ..PLAIN
+    },
+    Row {
+        command: Serve,
+        given: &["serve P", "serve -- P"],
         ..PLAIN
     },
     Row {

@@ -3,8 +3,10 @@ use Rattle.std.specs.Prelude.{◌≡◌, ℕ, List, ◌++◌, ⊤}
 use Rattle.agent_scripts.specs.Job.{Job}
 use Rattle.enactment_model.specs.Safety.{SafeProtocol}
 use Rattle.program_frame.specs.declared.reply.Reply.{Reply}
+use Rattle.refutation_log.specs.declared.refutation.Log.{Log}
 use Rattle.tool_input.specs.declared.status.Status.{Status}
 use Rattle.verdict.specs.declared.outcome.Safety.{Safety}
+use Rattle.verdict.specs.declared.outcome.Safety.TheVariants.{Safe}
 use Rattle.bspl_tool.specs.declared.answer.Answer.{Answer}
 use Rattle.bspl_tool.specs.declared.answer.Answer.TheVariants as answer
 use Rattle.bspl_tool.specs.declared.world_report.WorldReport.{WorldReport}
@@ -34,6 +36,10 @@ IsRightAnswer IsRight a = (out : List ℕ) (status : Status) → Completes a out
 abbrev pub IsPlayable : Answer → Type 0
 IsPlayable (answer.Whole reply) = ⊤
 IsPlayable (answer.Play job threads report so_far) = SafeProtocol job.protocol
+
+-- the protocol is found safe
+abbrev pub IsFoundSafe : Safety → Type 0
+IsFoundSafe safety = (log : Log) × (safety ≡ Safe log)
 
 -- after the text so far comes that of the agents, by what was found of the protocol's safety
 pub record PlaysIfSafe (job : Job) (threads : ℕ) (report : WorldReport) (safety : Safety)

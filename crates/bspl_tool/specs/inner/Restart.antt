@@ -27,6 +27,13 @@ pub record IsRestartedText (job : Job) (text : List ℕ) : Type 0 where
   pub restarts : SaysRestarts (length job.protocol.roles) last
   pub text_is : text ≡ played ++ last
 
+-- after the text so far comes that report; the status is that so far
+pub record RestartsAfter (job : Job) (so_far reply : Reply Status) : Type 0 where
+  pub played : List ℕ
+  pub is_played : IsRestartedText job played
+  pub text : reply.text ≡ so_far.text ++ played
+  pub ends : reply.status ≡ so_far.status
+
 -- after the text so far come these two, by what was found of the protocol's safety
 pub record RestartsIfSafe (job : Job) (safety : Safety) (so_far reply : Reply Status)
     : Type 0 where

@@ -7,9 +7,10 @@ use Rattle.program_frame.specs.declared.reply.Reply.{Reply}
 use Rattle.role_server.specs.Served.{first_store}
 use Rattle.tool_input.specs.declared.status.Status.{Status}
 use Rattle.tool_input.specs.Input.{Declares}
+use Rattle.tool_input.specs.RoleName.{IsRoleNamed}
 use Rattle.live_role.specs.declared.judged.Judged.{Judged}
 use Rattle.live_role.specs.declared.judged.Judged.TheVariants.{Declined, Served}
-use Rattle.live_role.specs.Judgement.{Declines, IsRoleNamed}
+use Rattle.live_role.specs.Judgement.{Declines}
 
 -- the reply has this text and this status
 pub record IsReply (text : List ℕ) (status : Status) (reply : Reply Status) : Type 0 where

@@ -9,12 +9,12 @@ returns-in_err-kind-clause-refused c =
     let p = err_from_is_err_and c.from_residual.result c.from_residual.ensures.1 in
     rw (p.1, p.2) (log_refused c.args.part.now c.in_err-kind.field-0.0 c.in_err-kind.ensures.refused)
 
-pub returns-in-Ok-clause-ok : goal.returns-in-Ok-clause-ok
-returns-in-Ok-clause-ok c =
+pub returns-in_ok-claim_text-in-Ok-clause-ok : goal.returns-in_ok-claim_text-in-Ok-clause-ok
+returns-in_ok-claim_text-in-Ok-clause-ok c =
     accepted_answer c.args.protocol.now c.args.part.now c.in_ok-claim_text-in-Ok.field-0 c.in_ok-kind.kind c.in_ok-kind.log c.in-Ok.claim c.in_ok-kind.ensures.ok c.in-Ok.ensures.accepted c.in_ok-claim_text-in-Ok.ensures
 
-pub returns : goal.returns
-returns c = record {
+pub returns-in_ok-reject_line-in-Err : goal.returns-in_ok-reject_line-in-Err
+returns-in_ok-reject_line-in-Err c = record {
   ok = rejected_answer c.args.protocol.now c.args.part.now c.in_ok-reject_line-in-Err.field-0 c.in_ok-kind.kind c.in_ok-kind.log c.in-Err.reject c.in_ok-kind.ensures.ok (c.in-Err.ensures.rejected (search rules)) c.in_ok-reject_line-in-Err.ensures;
   refused = tt;
 }

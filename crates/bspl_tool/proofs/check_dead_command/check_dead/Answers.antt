@@ -13,22 +13,22 @@ returns-in_err-message-clause-refused c =
     let p = err_from_is_err_and c.from_residual.result c.from_residual.ensures.1 in
     rw (p.1, p.2) (dead_refused c.args.protocol.now c.args.part.now c.in_err-message.field-0.0 c.in_err-message.ensures.refused)
 
-pub check_dead-requires-clause-few : goal.check_dead-requires-clause-few
-check_dead-requires-clause-few c =
+pub check_dead-checked-requires-clause-few : goal.check_dead-checked-requires-clause-few
+check_dead-checked-requires-clause-few c =
     let x = c.args.protocol.now in
     let few = c.enact_clauses_are_few.ensures x (c.in_ok-message.message ∷ []) in
     let steps = c.dead_steps_are_fewer_than_bytes.ensures x c.args.part.now (c.in_ok-message.message ∷ []) c.in_ok-message.log c.in_ok-message.ensures.ok in
     omega (arith, few, steps, c.requires)
 
-pub returns-in-Ok-clause-ok : goal.returns-in-Ok-clause-ok
-returns-in-Ok-clause-ok c =
+pub returns-in_ok-accepted_text-in-Ok-clause-ok : goal.returns-in_ok-accepted_text-in-Ok-clause-ok
+returns-in_ok-accepted_text-in-Ok-clause-ok c =
     let m = c.in_ok-message.message in
     let text = c.in_ok-accepted_text-in-Ok.field-0 in
     let written = subst (λ (x : Expanded). text ≡ line (accepted_dead_line (message_name x m))) c.expanded.ensures.same c.in_ok-accepted_text-in-Ok.ensures in
     accepted_dead c.args.protocol.now c.args.part.now text m c.in_ok-message.log c.in_ok-message.ensures.ok c.in-Ok.ensures.ok c.in-Ok.ensures.dead written
 
-pub returns : goal.returns
-returns c = record {
+pub returns-in_ok-reject_line-in-Err : goal.returns-in_ok-reject_line-in-Err
+returns-in_ok-reject_line-in-Err c = record {
   ok = rejected_dead c.args.protocol.now c.args.part.now c.in_ok-reject_line-in-Err.field-0 c.in_ok-message.message c.in_ok-message.log c.in-Err.reject c.in_ok-message.ensures.ok ((c.in-Err.ensures.rejects (search rules) c.in-Err.reject).0 refl) c.in_ok-reject_line-in-Err.ensures;
   refused = tt;
 }

@@ -17,8 +17,8 @@ enactable-requires-clause-known c =
     let all = c.len-message-end.ensures ∙ ap (λ (x : Expanded). length x.messages) c.expanded-2.ensures.same in
     subst (λ (x : Expanded). c.loop-message.message < length x.messages) (sym c.loop-message.invariant.1) (omega (arith, more, all))
 
-pub take-requires-clause-fits : goal.take-requires-clause-fits
-take-requires-clause-fits c =
+pub take-taken-requires-clause-fits : goal.take-taken-requires-clause-fits
+take-taken-requires-clause-fits c =
     right_run_fits c.args.protocol.now c.loop-message.message c.args.conflicts c.in_ok-answer.answer (answered_of c.loop-message.search c.args.protocol.now c.loop-message.message c.conflicts.result c.args.conflicts c.in_ok-answer.answer c.loop-message.invariant.1 c.conflicts.ensures.same c.in_ok-answer.ensures.right)
 
 pub loop-message-preserved : goal.loop-message-preserved
@@ -26,8 +26,8 @@ loop-message-preserved c =
     let m = c.loop-message.message in
     let answer = c.in_ok-answer.answer in
     let right = answered_of c.loop-message.search c.args.protocol.now m c.conflicts.result c.args.conflicts answer c.loop-message.invariant.1 c.conflicts.ensures.same c.in_ok-answer.ensures.right in
-    let taken = c.in_ok-take.ensures in
-    (one_answered c.args.brief c.args.conflicts c.args.protocol.now m c.loop-message.so_far c.take.new.self answer c.loop-message.invariant.0 right taken.text taken.dead taken.undecided, c.enactable.ensures.same ∙ c.loop-message.invariant.1)
+    let taken = c.in_ok-taken.ensures in
+    (one_answered c.args.brief c.args.conflicts c.args.protocol.now m c.loop-message.so_far c.take-taken.new.self answer c.loop-message.invariant.0 right taken.text taken.dead taken.undecided, c.enactable.ensures.same ∙ c.loop-message.invariant.1)
 
 pub returns : goal.returns
 returns c =

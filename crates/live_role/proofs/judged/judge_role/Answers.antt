@@ -1,7 +1,8 @@
 -- A role that is not declared, a protocol that is not found safe, and a role that is served.
-use Rattle.std.proofs.Common.{◌≡◌, false}
+use Rattle.std.proofs.Common.{◌≡◌, false, ◌∙◌, ap}
 use Rattle.std.proofs.lemmas.Result.{IfOk-weaker}
 use Rattle.role_server.specs.Served.{first_store}
+use Rattle.tool_input.specs.Rejection.{rejection_line}
 use Rattle.live_role.specs.declared.judged.Judged.{Judged}
 use Rattle.live_role.specs.declared.judged.Judged.TheVariants.{Served}
 use Rattle.live_role.specs.inner.Judged.{IsJudged}
@@ -10,7 +11,7 @@ use Rattle.live_role.specs.Judgement.{no_role, not_safe}
 use Rattle.live_role.proofs.judged.judge_role.Goals as goal
 
 pub returns-in_default : goal.returns-in_default
-returns-in_default c = λ text declares. no_role c.args.protocol.now declares (rw c.expanded.ensures.same at c.in_default.ensures) c.in_ok-unknown_role.ensures.is_text c.in_ok-unknown_role.ensures.is_status
+returns-in_default c = λ text declares. no_role c.args.protocol.now declares (rw c.expanded.ensures.same at c.in_default.ensures) (c.in_ok-refused.ensures.0 ∙ ap rejection_line c.unknown_role.ensures) c.in_ok-refused.ensures.1
 
 pub returns-then-not-request : goal.returns-then-not-request
 returns-then-not-request c =

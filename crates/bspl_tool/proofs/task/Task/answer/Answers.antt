@@ -58,6 +58,15 @@ returns-in_err-check_dead-in-CheckDead-clause-refused c =
     let p = err_from_is_err_and c.from_residual-in_err-check_dead-in-CheckDead.result c.from_residual-in_err-check_dead-in-CheckDead.ensures.1 in
     rw (p.1, p.2, c.in-CheckDead.is) c.in_err-check_dead-in-CheckDead.ensures.refused
 
+pub returns-in_ok-serve-in-Serve-clause-ok : goal.returns-in_ok-serve-in-Serve-clause-ok
+returns-in_ok-serve-in-Serve-clause-ok c =
+    whole_answer ((rules_of c.args.self).answers c.args.protocol c.args.part.now) c.in_ok-serve-in-Serve.field-0 (rw c.in-Serve.is c.in_ok-serve-in-Serve.ensures.ok)
+
+pub returns-in_err-serve-in-Serve-clause-refused : goal.returns-in_err-serve-in-Serve-clause-refused
+returns-in_err-serve-in-Serve-clause-refused c =
+    let p = err_from_is_err_and c.from_residual-in_err-serve-in-Serve.result c.from_residual-in_err-serve-in-Serve.ensures.1 in
+    rw (p.1, p.2, c.in-Serve.is) c.in_err-serve-in-Serve.ensures.refused
+
 pub returns-in_ok-audit-in-Audit-clause-ok : goal.returns-in_ok-audit-in-Audit-clause-ok
 returns-in_ok-audit-in-Audit-clause-ok c =
     whole_answer ((rules_of c.args.self).answers c.args.protocol c.args.part.now) c.in_ok-audit-in-Audit.field-0 (rw c.in-Audit.is c.in_ok-audit-in-Audit.ensures.ok)
