@@ -9,6 +9,8 @@ use Rattle.verdict.specs.declared.outcome.Safety.{Safety}
 use Rattle.verdict.specs.declared.outcome.Safety.TheVariants as safety
 use Rattle.page_parts.specs.Fragment.{Fragment, Number, Tag, Words}
 use Rattle.page_parts.specs.Tables.{param_of}
+use Rattle.run_chart.specs.Chart.{chart}
+use Rattle.run_chart.specs.declared.finding.Finding.TheVariants.{Clash, Open}
 
 -- the text of a run, from which it can be replayed
 abbrev pub run_part : Expanded → List Event → List Fragment
@@ -36,21 +38,22 @@ undecided_words heading conflicts =
     Tag heading ∷ Tag (codes "<p>The search met as many conflicts as it may, ") ∷ Number conflicts ∷
     Tag (codes ", without an answer.</p>\n") ∷ []
 
--- what the verdict on safety says, and a run that refutes it
+-- what the verdict on safety says, and a run that refutes it, as a chart and as a text
 abbrev pub safety_section : Expanded → Safety → List Fragment
 safety_section x (safety.Safe log) =
     Tag (codes "<h2>Safety: safe</h2>\n<p>In no legal run is a parameter of one enactment ") ∷
     Tag (codes "produced twice, and no two roles ever know different values of it.</p>\n") ∷ []
 safety_section x (safety.Unsafe run param first second) =
-    unsafe_words x param first second ++ run_part x run
+    unsafe_words x param first second ++ chart x run (Clash param first second) ++ run_part x run
 safety_section x (safety.Undecided log) =
     undecided_words (codes "<h2>Safety: undecided</h2>\n") (length log.steps)
 
--- what the verdict on liveness says, and a run that refutes it
+-- what the verdict on liveness says, and a run that refutes it, as a chart and as a text
 abbrev pub liveness_section : Expanded → Liveness → List Fragment
 liveness_section x (liveness.Live log) =
     Tag (codes "<h2>Liveness: live</h2>\n<p>At each key at which a legal run is at rest, each ") ∷
     Tag (codes "public parameter that is to have a value is known to some role.</p>\n") ∷ []
-liveness_section x (liveness.NotLive run param) = not_live_words x param ++ run_part x run
+liveness_section x (liveness.NotLive run param) =
+    not_live_words x param ++ chart x run (Open param) ++ run_part x run
 liveness_section x (liveness.Undecided log) =
     undecided_words (codes "<h2>Liveness: undecided</h2>\n") (length log.steps)

@@ -10,6 +10,7 @@ use bspl_types::{Admitted, Event, Expanded};
 use list_base::{Bytes, NoMemory};
 use page_parts::{Piece, param_name, push_pieces};
 use refutation_log::Log;
+use run_chart::{Finding, push_chart};
 use run_text::write_run;
 use std::alloc::Global;
 use verdict::{Liveness, Safety};
@@ -36,7 +37,7 @@ pub(crate) fn liveness_word(liveness: &Liveness) -> &'static [u8]
     }
 }
 
-/// Appends what the verdict on safety says, and its run.
+/// Appends what the verdict on safety says, and its run as a chart and as a text.
 pub(crate) fn push_safety(
     alloc: Global,
     text: &mut Bytes,
@@ -64,14 +65,22 @@ pub(crate) fn push_safety(
             first,
             second,
         } => {
-            push_unsafe(text, a.expanded(), *param, *first, *second)?;
-            push_run(alloc, text, a, run.as_slice())
+            let finding = Finding::Clash {
+                param: *param,
+                first: *first,
+                second: *second,
+            };
+            let x = a.expanded();
+            let events = run.as_slice();
+            push_unsafe(text, x, *param, *first, *second)?;
+            push_chart(alloc, text, x, events, finding)?;
+            push_run(alloc, text, a, events)
         }
         Safety::Undecided(log) => push_undecided(text, b"<h2>Safety: undecided</h2>\n", log),
     }
 }
 
-/// Appends what the verdict on liveness says, and its run.
+/// Appends what the verdict on liveness says, and its run as a chart and as a text.
 pub(crate) fn push_liveness(
     alloc: Global,
     text: &mut Bytes,
@@ -94,8 +103,12 @@ pub(crate) fn push_liveness(
             ],
         ),
         Liveness::NotLive { run, param } => {
-            push_not_live(text, a.expanded(), *param)?;
-            push_run(alloc, text, a, run.as_slice())
+            let finding = Finding::Open { param: *param };
+            let x = a.expanded();
+            let events = run.as_slice();
+            push_not_live(text, x, *param)?;
+            push_chart(alloc, text, x, events, finding)?;
+            push_run(alloc, text, a, events)
         }
         Liveness::Undecided(log) => push_undecided(text, b"<h2>Liveness: undecided</h2>\n", log),
     }

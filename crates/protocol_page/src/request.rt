@@ -7,7 +7,7 @@ ghost use Rattle.protocol_page.specs.inner.Request.{IsRequest};
 
 use super::reply::{page_reply, too_long, usage};
 use bspl_types::is_name;
-use list_base::NoMemory;
+use list_base::{Bytes, NoMemory};
 use program_frame::{Program, Reply};
 use std::alloc::Global;
 use tool_input::{INPUT_LIMIT, Status};
@@ -43,9 +43,9 @@ impl<'a> Program<'a> for Request<'a> {
         self.name.is_some()
     }
 
-    fn reply_to(&self, alloc: Global, input: &[u8]) -> Result<Reply<Status>, NoMemory> {
+    fn reply_to(&self, alloc: Global, input: Bytes) -> Result<Reply<Status>, NoMemory> {
         match self.name {
-            Some(name) => page_reply(alloc, name, input),
+            Some(name) => page_reply(alloc, name, input.as_slice()),
             None => usage(alloc),
         }
     }

@@ -1,11 +1,25 @@
--- The run follows what names its events.
+-- The chart and the text of the run follow what names its events.
+use Rattle.std.proofs.Common.{◌≡◌, ◌++◌, List, ℕ, OnOk, ap, subst, ◌∙◌}
+use Rattle.page_parts.specs.Fragment.{written}
 use Rattle.page_text.proofs.WritingLemmas.{written_two}
 use Rattle.page_text.specs.Sections.{run_part, unsafe_words}
+use Rattle.run_chart.specs.Chart.{chart}
+use Rattle.run_chart.specs.declared.finding.Finding.TheVariants.{Clash}
 use Rattle.page_text.proofs.verdicts.push_safety.Goals as goal
 
-pub returns-in_ok-push_unsafe-in-Unsafe : goal.returns-in_ok-push_unsafe-in-Unsafe
-returns-in_ok-push_unsafe-in-Unsafe c =
+pub returns-in_ok-push_chart-in-Unsafe : goal.returns-in_ok-push_chart-in-Unsafe
+returns-in_ok-push_chart-in-Unsafe c =
+    let old = c.args.text.now in
     let x = c.args.a.now in
     let found = c.in-Unsafe in
-    let both = written_two c.args.text.now (unsafe_words x found.param found.first found.second) (run_part x found.run') in
-    rw found.is (rw (c.in_ok-push_unsafe-in-Unsafe.ensures, c.expanded.ensures.same, c.as_slice.ensures, both) at c.push_run.ensures)
+    let said = unsafe_words x found.param found.first found.second in
+    let picture = chart x found.run' (Clash found.param found.first found.second) in
+    let events = run_part x found.run' in
+    let one = rw c.expanded-x.ensures.same at c.in_ok-push_unsafe-in-Unsafe.ensures in
+    let drawn = rw (c.expanded-x.ensures.same, c.as_slice-events.ensures) at c.in_ok-push_chart-in-Unsafe.ensures in
+    let two = drawn ∙ ap (λ (ys : List ℕ). ys ++ written picture) one ∙ written_two old said picture in
+    rw found.is (
+    subst (λ (text : List ℕ). OnOk c.push_run.result (c.push_run.new.text ≡ text))
+    (ap (λ (ys : List ℕ). ys ++ written events) two ∙ written_two old (said ++ picture) events)
+    (rw c.as_slice-events.ensures at c.push_run.ensures)
+    )

@@ -9,10 +9,10 @@ use Rattle.protocol_page.proofs.ReplyLemmas.{usage_output}
 use Rattle.protocol_page.proofs.request.RequestProgram.reply_to.Goals as goal
 
 pub returns-in-Some : goal.returns-in-Some
-returns-in-Some c = λ args request. c.page_reply.ensures args (rw c.in-Some.is at request)
+returns-in-Some c = λ args request. rw c.as_slice.ensures at (c.page_reply.ensures args (rw c.in-Some.is at request))
 
-pub returns-in-None : goal.returns-in-None
-returns-in-None c =
+pub returns : goal.returns
+returns c =
     λ args request. let invalid = rw c.in-None.is at request in
-    IfOk-weaker c.usage.result (IsReply page_usage Usage) (λ (r : Reply Status). PageOutput args c.args.input.now r.text r.status)
-    (λ r said. usage_output args c.args.input.now r invalid said) c.usage.ensures
+    IfOk-weaker c.usage.result (IsReply page_usage Usage) (λ (r : Reply Status). PageOutput args c.args.input r.text r.status)
+    (λ r said. usage_output args c.args.input r invalid said) c.usage.ensures

@@ -1,0 +1,7 @@
+-- Written fragments, strokes event by event and what they show, and what events make known.
+pub mod IndexLemmas
+pub mod KnowledgeLemmas
+pub mod KnownLemmas
+pub mod ShownLemmas
+pub mod StrokeLemmas
+pub mod WritingLemmas

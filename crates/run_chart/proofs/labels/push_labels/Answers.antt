@@ -1,0 +1,19 @@
+-- The words of one event more.
+use Rattle.std.proofs.Common.{◌++◌, List, ℕ, ap, take, ◌∙◌}
+use Rattle.std.specs.List.{enumerate_from, flat_map}
+use Rattle.bspl_types.specs.declared.event.Event.{Event}
+use Rattle.page_parts.specs.Fragment.{written}
+use Rattle.run_chart.specs.Labels.{words_at}
+use Rattle.run_chart.proofs.IndexLemmas.{enumerate_more}
+use Rattle.run_chart.proofs.labels.push_labels.Goals as goal
+
+pub loop-index-preserved : goal.loop-index-preserved
+loop-index-preserved c =
+    let run = c.args.run.now in
+    let words = words_at c.args.x.now run c.args.finding in
+    let i = c.loop-index.index in
+    let d = c.index-run-index.result in
+    c.in_ok-push_words_at.ensures
+    ∙ ap (λ (ys : List ℕ). ys ++ written (words (i, d))) c.loop-index.invariant
+    ∙ ap (λ (e : Event). (c.args.text.now ++ written (flat_map words (take i (enumerate_from 0 run)))) ++ written (words (i, e))) c.index-run-index.is
+    ∙ enumerate_more words c.args.text.now run i d c.loop-index-test.true

@@ -1,0 +1,27 @@
+-- The sequence chart of a run, beside the table of its events.
+use Rattle.std.specs.Prelude.{ℕ, List, [], ◌∷◌, ◌++◌, codes, length}
+use Rattle.std.specs.List.{enumerate_from, flat_map}
+use Rattle.bspl_types.specs.declared.event.Event.{Event}
+use Rattle.bspl_types.specs.declared.expanded.Expanded.{Expanded}
+use Rattle.page_parts.specs.Fragment.{Fragment, Tag}
+use Rattle.run_chart.specs.declared.finding.Finding.{Finding}
+use Rattle.run_chart.specs.Drawing.{drawn}
+use Rattle.run_chart.specs.EventTable.{event_table}
+use Rattle.run_chart.specs.Frame.{chart_end, chart_foot, chart_head, lifeline}
+use Rattle.run_chart.specs.Labels.{words_at}
+use Rattle.run_chart.specs.Place.{rows_end}
+use Rattle.run_chart.specs.Strokes.{strokes}
+
+-- the lifelines, the strokes, and the words, in the order in which they are drawn
+abbrev pub chart_body : Expanded → List Event → Finding → List Fragment
+chart_body x run finding =
+    flat_map (lifeline (rows_end (length run))) (enumerate_from 0 x.roles) ++
+    flat_map drawn (strokes x run) ++
+    flat_map (words_at x run finding) (enumerate_from 0 run) ++
+    chart_foot x (rows_end (length run)) finding
+
+-- the chart, what explains it, and the table of events
+unfoldable pub chart : Expanded → List Event → Finding → List Fragment
+chart x run finding =
+    chart_head x run finding ++ chart_body x run finding ++ chart_end ++
+    event_table x run finding ++ Tag (codes "</div>\n") ∷ []

@@ -1,0 +1,85 @@
+-- The label of an event in a chart, and its ring.
+use Rattle.std.specs.Prelude.{ℕ, ◌+◌, nat_le, nat_lt, if◌then◌else◌, List, [], ◌∷◌, ◌++◌, codes}
+use Rattle.std.specs.Prelude.{length, take, ◌==◌, Bool, false, ◌||◌}
+use Rattle.std.specs.List.{enumerate_from, flat_map, list_any}
+use Rattle.bspl_types.specs.declared.event.Event.{Event}
+use Rattle.bspl_types.specs.declared.event.Event.TheVariants.{Emit, Receive}
+use Rattle.bspl_types.specs.declared.expanded.Expanded.{Expanded}
+use Rattle.bspl_types.specs.Expansion.{message_name, message_of}
+use Rattle.bspl_types.specs.History.{instance_of, role_of}
+use Rattle.page_parts.specs.Fragment.{Fragment, Number, Tag, Words}
+use Rattle.run_chart.specs.declared.finding.Finding.{Finding}
+use Rattle.run_chart.specs.declared.finding.Finding.TheVariants.{Clash, Open}
+use Rattle.run_chart.specs.Drawing.{circle}
+use Rattle.run_chart.specs.Knowledge.{field, news}
+use Rattle.run_chart.specs.Place.{column, row}
+use Rattle.run_chart.specs.Strokes.{receives}
+
+-- the role at the other end of the event's message
+abbrev pub other_role : Expanded → Event → ℕ
+other_role x (Emit i) = (message_of x i.message).receiver
+other_role x (Receive i) = (message_of x i.message).sender
+
+-- the event at the index is one of the two that clash
+abbrev pub is_ringed : Finding → ℕ → Bool
+is_ringed (Clash param first second) index = index + 1 == first || index + 1 == second
+is_ringed (Open param) index = false
+
+-- its ring
+abbrev pub ring : ℕ → ℕ → Bool → List Fragment
+ring role index ringed =
+    if ringed then circle (codes "<circle cx=\"") role index (codes "\" r=\"9\"/>\n") else []
+
+-- the name of the event's message, and each parameter that is new to its role
+abbrev pub label_words : Expanded → List Event → Event → List ℕ
+label_words x before event =
+    message_name x (instance_of event).message ++
+    flat_map (λ (c, v). 32 ∷ field x c.param v) (news x before event)
+
+-- words, of which no more than so many bytes are shown
+abbrev pub cut : ℕ → List ℕ → List Fragment
+cut most text =
+    if nat_le (length text) most then Words text ∷ []
+    else Words (take most text) ∷ Tag (codes "&#8230;") ∷ []
+
+-- beside the lifeline of a role, on the side of another role
+abbrev pub side : ℕ → ℕ → List ℕ
+side role other =
+    if nat_lt role other then codes "\" dx=\"10\" dy=\""
+    else codes "\" dx=\"-10\" text-anchor=\"end\" dy=\""
+
+-- where a text begins: there, in the row of the index
+abbrev pub text_start : ℕ → ℕ → ℕ → List Fragment
+text_start role other index =
+    Tag (codes "<text x=\"") ∷ Number (column role) ∷ Tag (codes "\" y=\"") ∷
+    Number (row index) ∷ Tag (side role other) ∷ []
+
+-- above the arrow of an emission, below that of a reception
+abbrev pub text_height : Event → List ℕ
+text_height (Emit i) = codes "-6\">"
+text_height (Receive i) = codes "16\">"
+
+-- the label: the number of the event from 1, and its words
+abbrev pub label : Expanded → List Event → ℕ → Event → List Fragment
+label x before index event =
+    text_start (role_of x event) (other_role x event) index ++
+    Tag (text_height event) ∷ Number (index + 1) ∷ Tag (codes " ") ∷
+    cut 28 (label_words x before event) ++ Tag (codes "</text>\n") ∷ []
+
+-- what is said of an emission that is not received
+abbrev pub not_received : ℕ → ℕ → ℕ → List Fragment
+not_received sender receiver index =
+    text_start sender receiver index ++ Tag (codes "16\">not received</text>\n") ∷ []
+
+-- it is said of each emission that the run does not receive
+abbrev pub missing : Expanded → List Event → ℕ → Event → List Fragment
+missing x run index (Emit i) =
+    if list_any (receives i) run then []
+    else not_received (message_of x i.message).sender (message_of x i.message).receiver index
+missing x run index (Receive i) = []
+
+-- the ring, the label and that
+abbrev pub words_at : Expanded → List Event → Finding → ℕ × Event → List Fragment
+words_at x run finding (index, event) =
+    ring (role_of x event) index (is_ringed finding index) ++
+    label x (take index run) index event ++ missing x run index event

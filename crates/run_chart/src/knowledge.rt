@@ -1,0 +1,169 @@
+ghost use Rattle.std.specs.Prelude.{◌≡◌, [], ◌∷◌, ◌++◌, is_none, IfOk, OnOk};
+ghost use Rattle.std.specs.List.{filter, zip};
+ghost use Rattle.bspl_types.specs.Adornment.{valued};
+ghost use Rattle.bspl_types.specs.History.{instance_of, IsRun, role_of};
+ghost use Rattle.bspl_types.specs.Instance.{Fits, pairs};
+ghost use Rattle.run_chart.specs.Knowledge.{field, news, value_before, value_in, value_known};
+
+use bspl_types::{Carried, Event, Expanded, Instance, Key, Value};
+use list_base::{Bytes, NoMemory, Seq};
+use page_parts::param_name;
+use std::alloc::Global;
+
+/// A parameter of a message and its value.
+pub(crate) type Pair = (Carried, Value);
+
+/// The parameters of the event that its role did not know before it.
+pub(crate) fn news(
+    alloc: Global,
+    x: &Expanded,
+    before: &[Event],
+    event: &Event,
+) -> Result<Seq<Pair>, NoMemory>
+    requires run { IsRun x.now before.now }
+    requires fits { Fits x.now (instance_of event.now) }
+    ensures { IfOk result (λ list. list ≡ news x.now before.now event.now) }
+{
+    let pairs = pairs_of(alloc, x, event.instance())?;
+    unknown_pairs(alloc, x, before, event, pairs.as_slice())
+}
+
+/// Those of the pairs whose parameter the event's role did not know before it.
+fn unknown_pairs(
+    alloc: Global,
+    x: &Expanded,
+    before: &[Event],
+    event: &Event,
+    pairs: &[Pair],
+) -> Result<Seq<Pair>, NoMemory>
+    requires run { IsRun x.now before.now }
+    requires fits { Fits x.now (instance_of event.now) }
+    ensures { IfOk result (λ list. list ≡
+        filter (λ (c, v). is_none (value_before x.now before.now event.now c.param)) pairs.now) }
+{
+    let mut list = Seq::new(alloc);
+    for pair in pairs {
+        if value_before(x, before, event, pair.0.param).is_none() {
+            list.push(*pair)?;
+        }
+    }
+    Ok(list)
+}
+
+/// The value of the parameter that the event's role knew from the events before it.
+pub(crate) fn value_before(
+    x: &Expanded,
+    before: &[Event],
+    event: &Event,
+    param: u32,
+) -> Option<Value>
+    requires run { IsRun x.now before.now }
+    requires fits { Fits x.now (instance_of event.now) }
+    ensures { result ≡ value_before x.now before.now event.now param }
+{
+    value_known(x, before, event.role(x), &event.instance().key, param)
+}
+
+/// Appends a parameter and its value.
+pub(crate) fn push_field(
+    words: &mut Bytes,
+    x: &Expanded,
+    param: u32,
+    value: &Value,
+) -> Result<(), NoMemory>
+    ensures { OnOk result (words.new ≡ words.old ++ field x.now param value.now) }
+{
+    words.append(param_name(x, param))?;
+    words.push(b'=')?;
+    value.write(words)
+}
+
+/// The value that the role's acts under the key make known first.
+fn value_known(x: &Expanded, events: &[Event], role: u32, key: &Key, param: u32) -> Option<Value>
+    requires { IsRun x.now events.now }
+    ensures { result ≡ value_known x.now events.now role key.now param }
+{
+    for event in events {
+        if let Some(value) = value_from(x, event, role, key, param) {
+            return Some(value);
+        }
+    }
+    None
+}
+
+/// The value that the event alone makes known.
+fn value_from(x: &Expanded, event: &Event, role: u32, key: &Key, param: u32) -> Option<Value>
+    requires { Fits x.now (instance_of event.now) }
+    ensures { result ≡ value_known x.now (event.now ∷ []) role key.now param }
+{
+    if event.role(x) != role {
+        return None;
+    }
+    if !event.instance().key.same(key) {
+        return None;
+    }
+    value_of(x, event.instance(), param)
+}
+
+/// The value of the parameter in the instance.
+fn value_of(x: &Expanded, instance: &Instance, param: u32) -> Option<Value>
+    requires { Fits x.now instance.now }
+    ensures { result ≡ value_in (pairs x.now instance.now) param }
+{
+    let message = x.message_at(instance.message);
+    value_in(
+        message.carried.as_slice(),
+        instance.values.as_slice(),
+        param,
+    )
+}
+
+/// The first value of the parameter.
+fn value_in(carried: &[Carried], values: &[Value], param: u32) -> Option<Value>
+    ensures { result ≡ value_in (zip (valued carried.now) values.now) param }
+{
+    let mut remaining = values;
+    for c in carried {
+        if c.adornment.has_value() {
+            let Some((value, rest)) = remaining.split_first() else {
+                return None;
+            };
+            if c.param == param {
+                return Some(*value);
+            }
+            remaining = rest;
+        }
+    }
+    None
+}
+
+/// Each parameter of the instance that has a value, with it.
+fn pairs_of(alloc: Global, x: &Expanded, instance: &Instance) -> Result<Seq<Pair>, NoMemory>
+    requires { Fits x.now instance.now }
+    ensures { IfOk result (λ list. list ≡ pairs x.now instance.now) }
+{
+    let message = x.message_at(instance.message);
+    zipped(
+        alloc,
+        message.carried.as_slice(),
+        instance.values.as_slice(),
+    )
+}
+
+/// Each of the parameters that has a value, with it.
+fn zipped(alloc: Global, carried: &[Carried], values: &[Value]) -> Result<Seq<Pair>, NoMemory>
+    ensures { IfOk result (λ list. list ≡ zip (valued carried.now) values.now) }
+{
+    let mut list = Seq::new(alloc);
+    let mut remaining = values;
+    for c in carried {
+        if c.adornment.has_value() {
+            let Some((value, rest)) = remaining.split_first() else {
+                return Ok(list);
+            };
+            list.push((*c, *value))?;
+            remaining = rest;
+        }
+    }
+    Ok(list)
+}

@@ -1,0 +1,23 @@
+ghost use Rattle.run_chart.specs.Laws.{ArrowsJoinInstances, MarksAreTheEvents, ShowsKnowledge};
+ghost use Rattle.run_chart.specs.Laws.{StubsAreMissing};
+
+/// A law: a chart marks each event of its run once, in order.
+pub fn marks_are_the_events()
+    ensures { MarksAreTheEvents }
+{}
+
+/// A law: an arrow leads from the emission of an instance to a reception of it, between the
+/// lifelines of its message's sender and receiver.
+pub fn arrows_join_instances()
+    ensures { ArrowsJoinInstances }
+{}
+
+/// A law: a stub begins at an emission whose instance the run does not receive.
+pub fn stubs_are_missing()
+    ensures { StubsAreMissing }
+{}
+
+/// A law: what the table shows as known before an event is what its role knows then.
+pub fn shows_knowledge()
+    ensures { ShowsKnowledge }
+{}
