@@ -13,7 +13,7 @@ abbrev pub byte_advice : List ℕ → List ℕ
 byte_advice bytes =
     if starts_with nat_eq bytes (codes "#") then codes "begin a comment with //"
     else if starts_with nat_eq bytes (codes "%")
-    then codes "a part line is alone in its line: `%% agents`, `%% log`, `%% run` or `%% histories`"
+    then codes "a part line is alone: `%% agents`, `%% log`, `%% run`, `%% histories` or `%% wire`"
     else if starts_with nat_eq bytes (239 ∷ 187 ∷ 191 ∷ [])
     then codes "save the text as UTF-8 without a byte order mark"
     else if begins_arrow bytes

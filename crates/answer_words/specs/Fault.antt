@@ -1,7 +1,8 @@
 -- What a code of a refusal stands for.
-use Rattle.std.specs.Prelude.{List, [], ◌∷◌, Option, ◌-◌, slice_get}
+use Rattle.std.specs.Prelude.{List, [], ◌∷◌, Option, None, Some, ◌-◌, ◌==◌, slice_get}
+use Rattle.std.specs.Prelude.{if◌then◌else◌}
 use Rattle.tool_input.specs.declared.rejection.Code.{Code}
-use Rattle.tool_input.specs.declared.rejection.Code.TheVariants.{E, H, L, P, S, W}
+use Rattle.tool_input.specs.declared.rejection.Code.TheVariants.{E, F, H, L, P, S, W}
 use Rattle.answer_words.specs.declared.fault.Fault.{Fault}
 use Rattle.answer_words.specs.declared.fault.Fault.TheVariants as fault
 
@@ -30,3 +31,4 @@ fault_of (L n) = slice_get log_faults (n - 1)
 fault_of (W n) = slice_get (fault.RunForm ∷ []) (n - 1)
 fault_of (S n) = slice_get script_faults (n - 1)
 fault_of (H n) = slice_get (fault.HistoryForm ∷ []) (n - 1)
+fault_of (F n) = if n == 5 then Some fault.NoRole else None

@@ -3,6 +3,7 @@
 pub mod Place
 pub mod Fault
 pub mod Sentences
+pub mod LimitText
 pub mod Nearest
 pub mod Choices
 pub mod Uses

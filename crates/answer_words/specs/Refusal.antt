@@ -1,11 +1,12 @@
 -- The words of a refusal.
-use Rattle.std.specs.Prelude.{◌≡◌, ℕ, ◌-◌, List, [], ◌++◌, codes, drop, length, take, Option, None, Some}
+use Rattle.std.specs.Prelude.{◌≡◌, ℕ, ◌-◌, List, [], ◌++◌, codes, drop, length, take}
+use Rattle.std.specs.Prelude.{Option, None, Some}
 use Rattle.bspl_parser.specs.declared.document.Document.{Document}
 use Rattle.bspl_parser.specs.Judgement.{IsText}
 use Rattle.text_lines.specs.Fields.{fields_of}
 use Rattle.tool_input.specs.declared.parts.Part.{Part}
 use Rattle.tool_input.specs.declared.rejection.Code.{Code}
-use Rattle.tool_input.specs.declared.rejection.Code.TheVariants.{E, H, L, P, S, W}
+use Rattle.tool_input.specs.declared.rejection.Code.TheVariants.{E, F, H, L, P, S, W}
 use Rattle.tool_input.specs.declared.rejection.Field.{Field}
 use Rattle.tool_input.specs.declared.rejection.Field.TheVariants as field
 use Rattle.tool_input.specs.declared.rejection.Rejection.{Rejection}
@@ -17,10 +18,11 @@ use Rattle.answer_words.specs.declared.fault.Fault.TheVariants as fault
 use Rattle.answer_words.specs.ByteAdvice.{byte_advice}
 use Rattle.answer_words.specs.Choices.{IsChoiceLine}
 use Rattle.answer_words.specs.Fault.{fault_of}
+use Rattle.answer_words.specs.LimitText.{limit_text}
 use Rattle.answer_words.specs.Nearest.{nearest_line}
 use Rattle.answer_words.specs.Place.{Spot, line_in, place_of, spot_text}
-use Rattle.answer_words.specs.ScriptRule.{rule_of_line}
-use Rattle.answer_words.specs.Sentences.{advice, wrong}
+use Rattle.answer_words.specs.ScriptRule.{names_of, rule_of, word_of}
+use Rattle.answer_words.specs.Sentences.{line_advice, wrong}
 use Rattle.answer_words.specs.Uses.{asked_text, unknown_text}
 
 -- the n-th line of the part, in the whole input
@@ -33,6 +35,7 @@ part_place input n (Some (part, bytes)) =
 -- the input begins, or a line of the part
 abbrev pub number_place : List ℕ → Code → ℕ → Option Spot
 number_place input (P k) n = None
+number_place input (F k) n = None
 number_place input (E k) n = Some (place_of input n)
 number_place input (L k) n = part_place input n (first_part input)
 number_place input (W k) n = part_place input n (first_part input)
@@ -49,10 +52,11 @@ abbrev pub number_of : Option Field → ℕ
 number_of (Some (field.Number n)) = n
 number_of other = 0
 
--- the name of a field, if it is one
+-- the name of a field, or how many there may be of what it counts
 abbrev pub name_of : Option Field → List ℕ
 name_of (Some (field.Name name)) = name
 name_of (Some (field.Part part)) = part_name part
+name_of (Some (field.Counted what)) = limit_text what
 name_of other = []
 
 -- the text of a place, if there is one
@@ -90,8 +94,9 @@ shown_line (Some spot) = spot.shown
 -- what to do
 abbrev pub advice_at : List ℕ → Fault → ℕ → Option Spot → List ℕ
 advice_at input fault.BadByte offset place = byte_advice (drop offset input)
-advice_at input fault.ScriptForm n place = rule_of_line (fields_of (shown_line place))
-advice_at input fault n place = advice fault
+advice_at input fault.ScriptForm n place = rule_of (word_of (fields_of (shown_line place)))
+advice_at input fault.ScriptName n place = names_of (word_of (fields_of (shown_line place)))
+advice_at input fault n place = line_advice fault n
 
 -- a sentence in its line
 abbrev pub sentence : List ℕ → List ℕ → List ℕ

@@ -8,7 +8,7 @@ pub(crate) fn byte_advice(bytes: &[u8]) -> &'static [u8]
     if bytes.starts_with(b"#") {
         b"begin a comment with //"
     } else if bytes.starts_with(b"%") {
-        b"a part line is alone in its line: `%% agents`, `%% log`, `%% run` or `%% histories`"
+        b"a part line is alone: `%% agents`, `%% log`, `%% run`, `%% histories` or `%% wire`"
     } else if bytes.starts_with(b"\xef\xbb\xbf") {
         b"save the text as UTF-8 without a byte order mark"
     } else if begins_arrow(bytes) {

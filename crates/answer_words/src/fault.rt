@@ -53,6 +53,8 @@ pub enum Fault {
     ScriptName,
     /// A line is none of a text of histories.
     HistoryForm,
+    /// A part does not begin with the line of a role.
+    NoRole,
 }
 
 /// What the code stands for.
@@ -66,6 +68,7 @@ pub(crate) fn fault_of(code: Code) -> Option<Fault>
         Code::W(n) => nth(&[Fault::RunForm], n),
         Code::S(n) => nth(&[Fault::ScriptForm, Fault::ScriptName], n),
         Code::H(n) => nth(&[Fault::HistoryForm], n),
+        Code::F(n) => { if n == 5 { Some(Fault::NoRole) } else { None } }
     }
 }
 

@@ -5,6 +5,7 @@ mod byte_advice;
 mod choices;
 mod distance;
 mod fault;
+mod limit_text;
 mod names;
 mod near_names;
 mod place;

@@ -18,8 +18,8 @@ use super::fault::{Fault, fault_of};
 use super::near_names::nearest_line;
 use super::place::{Place, push_place};
 use super::refused_place::{field_place, name_of, number_of, shown_line};
-use super::script_rule::rule_of_line;
-use super::sentences::{advice, push_wrong};
+use super::script_rule::{names_of, rule_of, word_of};
+use super::sentences::{line_advice, push_wrong};
 use super::uses::{push_asked, push_unknown};
 use bspl_parser::{Document, answers_once, parse};
 use bspl_types::Refusal;
@@ -194,7 +194,8 @@ fn advice_at(
 {
     match fault {
         Fault::BadByte => byte_advice(from(input, number_of(first))),
-        Fault::ScriptForm => rule_of_line(shown_line(place)),
-        _ => advice(fault),
+        Fault::ScriptForm => rule_of(word_of(shown_line(place))),
+        Fault::ScriptName => names_of(word_of(shown_line(place))),
+        _ => line_advice(fault, number_of(first)),
     }
 }

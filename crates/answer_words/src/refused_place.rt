@@ -2,8 +2,10 @@ ghost use Rattle.std.specs.Prelude.{◌≡◌};
 ghost use Rattle.std.specs.Option.{option_map};
 ghost use Rattle.tool_input.specs.Parts.{first_part};
 ghost use Rattle.answer_words.specs.Place.{spot_of};
-ghost use Rattle.answer_words.specs.Refusal.{field_place, name_of, number_of, part_place, shown_line};
+ghost use Rattle.answer_words.specs.Refusal.{field_place, name_of, number_of, part_place};
+ghost use Rattle.answer_words.specs.Refusal.{shown_line};
 
+use super::limit_text::limit_text;
 use super::place::{Place, line_of, place_of};
 use tool_input::{Code, Field, first_part};
 
@@ -19,7 +21,7 @@ pub(crate) fn field_place<'a>(
         return None;
     };
     match code {
-        Code::P(_) => None,
+        Code::P(_) | Code::F(_) => None,
         Code::E(_) => Some(place_of(input, *n)),
         Code::L(_) | Code::W(_) | Code::S(_) | Code::H(_) => part_place(input, *n),
     }
@@ -44,13 +46,14 @@ pub(crate) fn number_of(field: &Option<Field>) -> u64
     }
 }
 
-/// The name of a field, if it is one.
+/// The name of a field, or how many there may be of what it counts.
 pub(crate) fn name_of(field: &Option<Field>) -> &[u8]
     ensures { result.now ≡ name_of field.now }
 {
     match field {
         Some(Field::Name(name)) => name.as_slice(),
         Some(Field::Part(part)) => part.name(),
+        Some(Field::Counted(what)) => limit_text(*what),
         _ => b"",
     }
 }

@@ -1,5 +1,6 @@
 ghost use Rattle.std.specs.Prelude.{◌≡◌, ◌++◌, OnOk};
-ghost use Rattle.answer_words.specs.Sentences.{advice, ending, middle, opening, wrong};
+ghost use Rattle.answer_words.specs.Sentences.{advice, ending, heading, line_advice, middle};
+ghost use Rattle.answer_words.specs.Sentences.{opening, wrong};
 
 use super::fault::Fault;
 use list_base::{Bytes, NoMemory};
@@ -47,15 +48,15 @@ fn opening(fault: Fault) -> &'static [u8]
     ensures { result.now ≡ opening fault }
 {
     match fault {
-        Fault::NoPart => b"the command needs the part ",
+        Fault::NoPart => b"the command needs the part line `%% ",
         Fault::NoProtocol => b"the text declares no protocol ",
         Fault::NoMessage => b"the protocol has no message ",
         Fault::Cycle => b"references lead from the protocol ",
+        Fault::OverLimit => b"there are more than ",
         Fault::KeyMissing => b"the message ",
         Fault::ToItself => b"the message ",
         Fault::ParameterTwice => b"the message ",
         Fault::TooLong => b"the input has more bytes than may be read",
-        Fault::OverLimit => b"this count is over its limit",
         Fault::BadByte => b"no word and no sign of the language begins with this byte",
         Fault::BadToken => b"no protocol has this there, or the text ends too early",
         Fault::NameTwice => b"this name is declared a second time",
@@ -67,9 +68,10 @@ fn opening(fault: Fault) -> &'static [u8]
         Fault::LogForm => b"a log has no such line there, or it ends too early",
         Fault::LogNumber => b"a number in this line is 0 or over 2147483647",
         Fault::RunForm => b"a run has no such line there, or it ends too early",
-        Fault::ScriptForm => b"a script has no such line there",
-        Fault::ScriptName => b"the protocol has no such role, message or parameter to script",
+        Fault::ScriptForm => b"this line has no form of a script, or breaks one of its rules",
+        Fault::ScriptName => b"the line names what the protocol does not have for it",
         Fault::HistoryForm => b"histories have no such line there, or they end too early",
+        Fault::NoRole => b"the part does not begin with the line of a role of the protocol",
     }
 }
 
@@ -78,7 +80,7 @@ fn middle(fault: Fault) -> &'static [u8]
     ensures { result.now ≡ middle fault }
 {
     match fault {
-        Fault::NoPart => b", which no part line begins, or not the first",
+        Fault::NoPart => b"`, and it is not there, or another part comes first",
         Fault::Cycle => b" back to it",
         Fault::KeyMissing => b" does not bind the key ",
         Fault::ToItself => b" goes to the role that sends it",
@@ -98,11 +100,11 @@ fn ending(fault: Fault) -> &'static [u8]
 }
 
 /// What to do, unless the place says it.
-pub(crate) fn advice(fault: Fault) -> &'static [u8]
+fn advice(fault: Fault) -> &'static [u8]
     ensures { result.now ≡ advice fault }
 {
     match fault {
-        Fault::NoPart => b"write it alone in its line, as `%% agents`, and end the line above",
+        Fault::NoPart => b"write exactly that, alone in its line, and end the line above it",
         Fault::TooLong => b"give a shorter input",
         Fault::BadToken => b"write one of these, or mend what is before the mark",
         Fault::NoProtocol => {
@@ -114,19 +116,47 @@ pub(crate) fn advice(fault: Fault) -> &'static [u8]
         Fault::OtherArity => b"give each of its roles and adorned public parameters, in its order",
         Fault::BadAdornment => b"write `in`, `out` or `nil`, and in a reference the declared one",
         Fault::Cycle => b"take one of these references away",
-        Fault::OverLimit => b"split the protocol; docs/LANGUAGE.md has a table of the limits",
+        Fault::OverLimit => b"divide the protocol, and judge its parts one by one",
         Fault::NoKey => b"mark one, as in `parameters out ID key, out item`",
         Fault::KeyMissing => b"add it: `out` where an enactment begins, `in` elsewhere",
         Fault::KeyElsewhere => b"take `key` away there, or mark the public parameter",
         Fault::ToItself => b"let another role receive it; what one role does alone is no message",
         Fault::ParameterTwice => b"keep one; `out` includes the test of `nil`",
-        Fault::LogForm => b"lines are `log 1 safety`, `step CLAUSE PIVOT CLAUSE ..` and `end`",
-        Fault::LogNumber => b"clauses and variables are counted from 1",
-        Fault::RunForm => b"lines are `run 1`, `send MESSAGE PARAM=VALUE ..`, `receive ..`, `end`",
-        Fault::ScriptName => b"`order` lists messages of its role, and `value` an `out` parameter",
-        Fault::HistoryForm => {
-            b"after `histories 1` each role has `role ROLE` and its own events; then `end`"
+        Fault::LogForm => {
+            b"write `step CLAUSE PIVOT CLAUSE ..`, in `log 2` also `drop CLAUSE ..`, at last `end`"
         }
+        Fault::LogNumber => b"count clauses and variables from 1",
+        Fault::RunForm => {
+            b"write `send MESSAGE PARAM=VALUE ..` or `receive ..`, values in the message's order \
+and texts in quotes, at last `end`"
+        }
+        Fault::HistoryForm => {
+            b"write `role ROLE`, then what it sends and receives as in a run, at last `end`"
+        }
+        Fault::NoRole => b"begin it with `role ROLE`, and end that line with LF alone",
         _ => b"",
+    }
+}
+
+/// What to do about a line of that number, from 1.
+pub(crate) fn line_advice(fault: Fault, line: u64) -> &'static [u8]
+    ensures { result.now ≡ line_advice fault line }
+{
+    if line == 1 {
+        heading(fault)
+    } else {
+        advice(fault)
+    }
+}
+
+/// How a part begins.
+fn heading(fault: Fault) -> &'static [u8]
+    ensures { result.now ≡ heading fault }
+{
+    match fault {
+        Fault::LogForm => b"begin with `log 1 safety`, `log 1 liveness` or `log 1 dead MESSAGE`",
+        Fault::RunForm => b"begin with `run 1`, and end each line with LF alone",
+        Fault::HistoryForm => b"begin with `histories 1`, and end each line with LF alone",
+        _ => advice(fault),
     }
 }

@@ -36,13 +36,18 @@ unsafe_words x run param first second =
     codes "What to do: let one role decide " ++ param_name x param ++
     codes ", and let others ask that role, or pass the value on by `in`.\n"
 
+-- what to try if the search did not decide
+abbrev pub undecided_advice : List ℕ
+undecided_advice =
+    codes "What to do: give a larger number by `--conflicts`, at most 20000, or " ++
+    codes "judge a part alone.\n"
+
 -- a property that the search did not decide, and how many conflicts it met
 abbrev pub undecided_words : List ℕ → ℕ → List ℕ
 undecided_words property conflicts =
     codes "What is wrong: " ++ property ++
     codes " is undecided, since the search met as many conflicts as it may, " ++
-    numeral conflicts ++ codes ".\nWhat to do: give `bspl verify` a larger number by " ++
-    codes "`--conflicts`, or judge a part of the protocol alone.\n"
+    numeral conflicts ++ codes ".\n" ++ undecided_advice
 
 -- the words of the verdict
 abbrev pub safety_words : Expanded → Safety → List ℕ

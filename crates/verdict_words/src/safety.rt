@@ -2,7 +2,7 @@ ghost use Rattle.std.specs.Prelude.{◌≡◌, ℕ, ◌≤◌, ◌++◌, OnOk, l
 ghost use Rattle.bspl_types.specs.History.{IsRun};
 ghost use Rattle.verdict.specs.Right.{IsRight, IsUnsafeVerdict};
 ghost use Rattle.verdict_words.specs.Safety.{event_words, safe_words, safety_words, second_words};
-ghost use Rattle.verdict_words.specs.Safety.{undecided_words, unsafe_words};
+ghost use Rattle.verdict_words.specs.Safety.{undecided_advice, undecided_words, unsafe_words};
 
 use super::names::{nth_message, param_name, push_message, role_name};
 use bspl_types::{Event, Expanded};
@@ -111,6 +111,13 @@ pub(crate) fn push_undecided(
     text.append(property)?;
     text.append(b" is undecided, since the search met as many conflicts as it may, ")?;
     push_decimal(text, conflicts as u64)?;
-    text.append(b".\nWhat to do: give `bspl verify` a larger number by ")?;
-    text.append(b"`--conflicts`, or judge a part of the protocol alone.\n")
+    text.append(b".\n")?;
+    text.append(undecided_advice())
+}
+
+/// What to try if the search did not decide.
+pub fn undecided_advice() -> &'static [u8]
+    ensures { result.now ≡ undecided_advice }
+{
+    b"What to do: give a larger number by `--conflicts`, at most 20000, or judge a part alone.\n"
 }

@@ -18,16 +18,16 @@ const ROWS: [Row; 3] = [
         code: Code::S(1),
         number: 2,
         words: b"refused S1 2\nline 4, column 1\n  bogus 3\n  ^\n\
-What is wrong: a script has no such line there.\n\
-What to do: a line begins with keys, key, seed, loss, repeat, order, decline or value.\n",
+What is wrong: this line has no form of a script, or breaks one of its rules.\n\
+What to do: begin a line with keys, key, seed, loss, repeat, order, decline or value.\n",
     },
     Row {
-        input: b"P { }\n%% log\nlog 2 safety\n",
+        input: b"P { }\n%% log\nlog 3 safety\n",
         code: Code::L(1),
         number: 1,
-        words: b"refused L1 1\nline 3, column 1\n  log 2 safety\n  ^\n\
+        words: b"refused L1 1\nline 3, column 1\n  log 3 safety\n  ^\n\
 What is wrong: a log has no such line there, or it ends too early.\n\
-What to do: lines are `log 1 safety`, `step CLAUSE PIVOT CLAUSE ..` and `end`.\n",
+What to do: begin with `log 1 safety`, `log 1 liveness` or `log 1 dead MESSAGE`.\n",
     },
     Row {
         input: b"P P { roles A parameters out x }",
@@ -42,9 +42,10 @@ What to do: write one of these, or mend what is before the mark.\n",
 
 /// The words for a part line that is nearly there.
 const PART_WORDS: &[u8] = b"refused P1 agents\n\
-What is wrong: the command needs the part agents, which no part line begins, or not the first.\n\
+What is wrong: the command needs the part line `%% agents`, and it is not there, or another part \
+comes first.\n\
 The nearest line: line 2, column 1\n  %% agent\n  ^\n\
-What to do: write it alone in its line, as `%% agents`, and end the line above.\n";
+What to do: write exactly that, alone in its line, and end the line above it.\n";
 
 /// Whether the words of the rejection of the input are these.
 fn has_words(alloc: Global, input: &[u8], rejection: &Rejection, words: &[u8]) -> bool {
