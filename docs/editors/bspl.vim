@@ -41,6 +41,10 @@ syn match bsplHistoriesWord /\v^%(histories|role|send|receive|end)%(\s|$)@=/ con
 syn region bsplHistories matchgroup=bsplPart start=/^%% histories\r\=$/ end=/\%$/
       \ contains=@bsplFields,bsplHistoriesWord,bsplEquals
 
+syn match bsplWireWord /^role \@=/ contained
+syn match bsplWireName /\(^role \)\@<=\S\+$/ contained
+syn region bsplWire matchgroup=bsplPart start=/^%% wire\r\=$/ end=/\%$/ contains=bsplWireWord,bsplWireName
+
 syn match bsplNumber /-[1-9]\@=/ contained
 syn match bsplLogWord /\v^%(log|step|drop|end)%(\s|$)@=/ contained
 syn match bsplLogWord /\v%(^log \d+ )@<=%(safety|liveness|dead)%(\s|$)@=/ contained
@@ -65,6 +69,8 @@ hi def link bsplPart PreProc
 hi def link bsplAgentsWord Statement
 hi def link bsplRunWord Statement
 hi def link bsplHistoriesWord Statement
+hi def link bsplWireWord Statement
+hi def link bsplWireName Identifier
 hi def link bsplLogWord Statement
 hi def link bsplNumber Number
 hi def link bsplText String
