@@ -1,10 +1,9 @@
 -- What `restart` answers, from what is found and played over disks.
-use Rattle.std.proofs.Common.{◌≡◌, ◌≢◌, ◌≤◌, ℕ, suc, Bool, List, [], ◌∷◌, ◌++◌, length, refl, sym, ◌∙◌, ap, subst, append-nil, append_assoc, arith, codes, take}
+use Rattle.std.proofs.Common.{◌≡◌, ◌≢◌, ◌≤◌, ℕ, suc, Bool, List, [], ◌∷◌, ◌++◌, length, refl, sym, ◌∙◌, ap, subst, append-nil, append_assoc, arith, codes}
 use Rattle.std.specs.Prelude.{nat_lt}
-use Rattle.std.specs.List.{All, filter}
+use Rattle.std.specs.List.{filter}
 use Rattle.std.proofs.lemmas.Bool.{cond_both}
-use Rattle.std.proofs.lemmas.List.{length-map, length-take-le}
-use Rattle.std.proofs.lemmas.List.Elements.{All-from_recursion, All-take}
+use Rattle.std.proofs.lemmas.List.{length-map}
 use Rattle.adapter.specs.Desk.{DeskState}
 use Rattle.agent_scripts.specs.Job.{Job}
 use Rattle.bspl_types.specs.declared.event.Event.{Event}
@@ -14,11 +13,8 @@ use Rattle.program_frame.specs.declared.reply.Reply.{Reply}
 use Rattle.refutation_log.specs.declared.refutation.Log.{Log}
 use Rattle.report.specs.ExitStatus.{verdict_status}
 use Rattle.report.specs.Summary.{count_line}
-use Rattle.restart_run.specs.declared.refusal.RestartRefusal.TheVariants.{DiskFault}
-use Rattle.restart_run.specs.Disks.{IsRefused}
 use Rattle.restart_run.specs.Restarted.{IsRestarted}
 use Rattle.role_journal.specs.Counts.{Counts}
-use Rattle.role_journal.specs.Stop.{counts_of}
 use Rattle.stamped_history.specs.declared.entry.Entry.{Entry}
 use Rattle.stamped_history.specs.Entries.{events_of}
 use Rattle.stamped_history.specs.Explained.{AreLocal, history_at}
@@ -124,17 +120,3 @@ restart_answer brief budget x part job v so_far reply given verified ends is = r
   restarts = subst (λ (y : Expanded). RestartsText v.safety (length y.roles) is.restarts_text) given.protocol is.restarts;
   text = is.text;
 }
-
--- a prefix of the calls at which disks stop, for which there are as many calls as roles
-pub stops_counted : (x : Expanded) (stops : List ℕ) (roles : ℕ) → length stops ≡ 8 → roles ≡ length x.roles → length (take roles stops) ≡ length x.roles
-stops_counted x stops roles all is = length-take-le roles stops (omega (arith, all, is, x.shape.counts.few_roles)) ∙ is
-
--- each is the number of a call
-pub stops_are_calls : (roles : ℕ) → All (λ stop. 1 ≤ stop) (take roles (7 ∷ 14 ∷ 21 ∷ 28 ∷ 35 ∷ 42 ∷ 49 ∷ 56 ∷ []))
-stops_are_calls roles =
-    let stops : List ℕ = 7 ∷ 14 ∷ 21 ∷ 28 ∷ 35 ∷ 42 ∷ 49 ∷ 56 ∷ [] in
-    All-take (λ stop. 1 ≤ stop) roles stops (All-from_recursion (λ stop. 1 ≤ stop) stops (omega arith, (omega arith, (omega arith, (omega arith, (omega arith, (omega arith, (omega arith, (omega arith, tt)))))))))
-
--- a disk that stops counts no failure after a restart
-pub never_late : (IsRole : ℕ → Type 0) (role : ℕ) → IsRefused counts_of IsRole (DiskFault role) → ⊥
-never_late IsRole role refused = (let late = refused.1.1 in omega (arith, late))

@@ -11,7 +11,7 @@ use bspl_io::{PlainSink, PlainSource};
 use bspl_types::{Admitted, Bytes, Expanded, NoMemory};
 use local_store::Store;
 use program_frame::Reply;
-use role_server::{serve_from, store_with_room};
+use role_server::{ServeRefusal, serve_from, store_with_room};
 use std::alloc::Global;
 use text_lines::split_once;
 use tool_input::{Status, role_named, unknown_role};
@@ -72,8 +72,8 @@ fn replies_to(
     Bytes::from_slice(alloc, replies.written())
 }
 
-/// Writes the replies to the lines. A source and a sink in memory cannot fail, and the lines are no
-/// more than may come, so it is memory that ran out if a reply is missing.
+/// Writes the replies to the lines. A source and a sink in memory never fail, and no more lines come
+/// than may come.
 fn serve_lines(
     alloc: Global,
     store: Store,
@@ -87,6 +87,9 @@ fn serve_lines(
     let mut nothing = PlainSource::new(Bytes::new(alloc));
     match serve_from(alloc, store, lines, &mut nothing, replies) {
         Ok(_) => Ok(()),
-        Err(_) => Err(NoMemory),
+        Err(ServeRefusal::NoMemory) => Err(NoMemory),
+        Err(ServeRefusal::ReadFault | ServeRefusal::WriteFault | ServeRefusal::TooLong) => {
+            unreachable!()
+        }
     }
 }

@@ -33,7 +33,8 @@ pub data Declines (name role : List ℕ) (checked : Bool) (text out : List ℕ) 
       → Declines name role checked text out status
   -- its protocol has no such role
   no_role : (x : Expanded) → Declares name text x → ((r : ℕ) → ¬ IsRoleNamed x role r)
-      → out ≡ rejection_line unknown_role → status ≡ Refused → Declines name role checked text out status
+      → out ≡ rejection_line unknown_role → status ≡ Refused
+      → Declines name role checked text out status
   -- the protocol is to be judged, and is not found safe
   not_safe : (x : Expanded) (r : ℕ) → Declares name text x → IsRoleNamed x role r
       → checked ≡ true → IsNotFoundSafe x out status → Declines name role checked text out status

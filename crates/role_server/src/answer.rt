@@ -6,7 +6,6 @@ ghost use Rattle.role_server.specs.inner.Acts.{HoldsKey, IsBeforeLast, IsOwn, Is
 use bspl_types::Key;
 use list_base::NoMemory;
 use local_store::Store;
-use std::alloc::Global;
 use wire_form::{Act, LineReader, Reading, Refusal, Reply};
 
 /// The most keys that are held.
@@ -15,19 +14,9 @@ const HELD_LIMIT: u32 = 10_000;
 /// The last value of a clock.
 const LAST_STAMP: u64 = u64::MAX;
 
-/// Answers the line with this body, and an LF after it.
-pub fn answer_line(alloc: Global, store: &mut Store, body: &[u8]) -> Result<Reply, NoMemory>
-    ensures reply { IfOk result (λ reply.
-        Replies store.old (body.now ++ 10 ∷ []) reply store.new) }
-    ensures err { OnErr result (store.new ≡ store.old) }
-    ensures role { KeepsRole store.old store.new }
-{
-    answer_with(&mut LineReader::new(alloc), store, body)
-}
-
-/// Answers the line with this body, and an LF after it, with a reader that lives on.
+/// Answers the line with this body, and an LF after it. The reader keeps its memory for the next.
 #[tactic(auto, using(crate::proofs::ActLemmas::own_act))]
-pub fn answer_with(
+pub fn answer_line(
     reader: &mut LineReader,
     store: &mut Store,
     body: &[u8],

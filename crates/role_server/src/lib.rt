@@ -6,6 +6,6 @@ mod refusal;
 mod session;
 mod stream;
 
-pub use answer::{answer_line, answer_with};
+pub use answer::answer_line;
 pub use refusal::ServeRefusal;
 pub use stream::{serve, serve_from, store_with_room};

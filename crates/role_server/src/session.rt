@@ -5,7 +5,7 @@ ghost use Rattle.bspl_io.specs.Sink.{AppendsPrefix};
 ghost use Rattle.role_server.specs.inner.Session.{AppendsReply, EndsLine, Feeds, IsFresh, PushesReply, kept_more};
 ghost use Rattle.wire_form.specs.Reply.{reply_text};
 
-use super::answer::answer_with;
+use super::answer::answer_line;
 use bspl_io::{Sink, WriteRefusal, write_all};
 use list_base::{Bytes, NoMemory};
 use local_store::Store;
@@ -133,7 +133,7 @@ fn push_answer(
 ) -> Result<(), NoMemory>
     ensures { OnOk result (AppendsReply store.old body.now store.new text.old text.new) }
 {
-    match answer_with(reader, store, body) {
+    match answer_line(reader, store, body) {
         Ok(reply) => push_text(alloc, text, store, &reply),
         Err(error) => Err(error),
     }

@@ -11,7 +11,6 @@ use Rattle.json.specs.Token.{Token}
 use Rattle.json.specs.Value.{items_view, value_view}
 use Rattle.json.specs.declared.value.Value.{Value}
 use Rattle.std.specs.declared.alloc.Global.{Global}
-use Rattle.serde_json.proofs.Numbers.{number_of-decimal}
 use Rattle.serde_json.specs.Data.{Data, Members, array, item, member, no_members, number, object, put, string, unsigned}
 use Rattle.serde_json.specs.Read.{of_items, of_json, of_members, read}
 use Rattle.serde_json.specs.View.{items_of}
@@ -20,6 +19,7 @@ use Rattle.wire_form.specs.Request.{attempt_data, fields_data, sent_data, texts_
 use Rattle.wire_form.specs.declared.asked.Field.{Field as TextField}
 use Rattle.wire_form.specs.inner.Asked.{fields_of, texts_of}
 use Rattle.wire_form.specs.inner.Sorted.{members_in}
+use Rattle.wire_form.proofs.DecimalLemmas.{decimal_read}
 
 -- a text that is one value and nothing else
 pub read_whole : (text : List ℕ) (j : json.Json) (left : List Token) → json.value 127 (tokens text) ≡ Some (j, left) → left ≡ [] → read text ≡ of_json j
@@ -40,7 +40,7 @@ number_read json.null text n is spelled same few = absurd (cc)
 number_read (json.boolean b) text n is spelled same few = absurd (cc)
 number_read (json.number s) text n is spelled same few =
     let whole : s ≡ text = cc in
-    ap (λ (t : List ℕ). of_json (json.number t)) (whole ∙ spelled ∙ same) ∙ ap (option_map number) (number_of-decimal n few)
+    ap (λ (t : List ℕ). of_json (json.number t)) (whole ∙ spelled ∙ same) ∙ ap (option_map number) (decimal_read n few)
 number_read (json.string s) text n is spelled same few = absurd (cc)
 number_read (json.array js) text n is spelled same few = absurd (cc)
 number_read (json.object ms) text n is spelled same few = absurd (cc)

@@ -4,5 +4,6 @@ pub mod FormLemmas
 pub mod MeaningLemmas
 pub mod ActLemmas
 pub mod SortedLemmas
+pub mod DecimalLemmas
 pub mod InOrderLemmas
 pub mod WritingLemmas

@@ -21,6 +21,6 @@ mod texts;
 
 pub use act::{Act, Reading};
 pub use laws::asks_once;
-pub use line::{LineReader, read_line};
+pub use line::LineReader;
 pub use reply::{Refusal, Reply};
 pub use reply_text::push_reply;

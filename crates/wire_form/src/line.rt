@@ -51,13 +51,6 @@ impl LineReader {
     }
 }
 
-/// What the line with this body, and an LF after it, asks of the role.
-pub fn read_line(alloc: Global, a: &Admitted, role: u32, body: &[u8]) -> Result<Reading, NoMemory>
-    ensures { IfOk result (IsReading a.now role (body.now ++ 10 ∷ [])) }
-{
-    LineReader::new(alloc).read(a, role, body)
-}
-
 /// What the line asks, whatever order its members have.
 fn read_in_any_order(
     alloc: Global,

@@ -5,7 +5,7 @@ use Rattle.list_base.specs.Lines.{Line}
 use Rattle.wire_form.specs.declared.act.Reading.{Reading}
 use Rattle.wire_form.specs.Meaning.{AsksFor, IsReading}
 use Rattle.role_server.proofs.ActLemmas.{line_answered}
-use Rattle.role_server.proofs.answer.answer_with.Goals as goal
+use Rattle.role_server.proofs.answer.answer_line.Goals as goal
 
 -- as the act is answered
 pub returns-in-Meant-clause-reply : goal.returns-in-Meant-clause-reply
