@@ -36,7 +36,8 @@ pub record IsGenerateAnswer (stages budget threads : ℕ) (x : Expanded) (part o
   pub answer : IsSummedUp stages budget threads
       (record { protocol = x; script = script; plan = plan }) out status
 
--- it needs agents, and refuses their text as `run` does; the search and the threads may go otherwise
+-- it needs agents, and refuses their text as `run` does; the search and the threads may go
+-- otherwise
 abbrev pub generate_rules : ℕ → ℕ → ℕ → CommandRules
 generate_rules stages budget threads = record {
   part = Some part.Agents;

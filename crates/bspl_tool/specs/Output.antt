@@ -14,8 +14,8 @@ use Rattle.bspl_tool.specs.Request.{HasCommandLine}
 use Rattle.bspl_tool.specs.Task.{rules_of, task_bytes}
 use Rattle.bspl_tool.specs.Texts.{usage_text}
 
--- a right answer to the task on these bytes: on the protocol that they declare, with the part that it
--- needs
+-- a right answer to the task on these bytes: on the protocol that they declare, with the part that
+-- it needs
 pub record AnswersInput (task : Task) (name input out : List ℕ) (status : Status) : Type 0 where
   pub part : List ℕ
   pub has_part : HasPart (rules_of task).part input part

@@ -44,8 +44,8 @@ pub enum Task {
         conflicts: Budget,
         threads: ThreadCount,
     },
-    /// It is verified likewise, and if it is safe, agents play it on one thread, over disks of which
-    /// each stops once.
+    /// It is verified likewise, and if it is safe, agents play it on one thread, over disks of
+    /// which each stops once.
     Restart {
         brief: bool,
         conflicts: Budget,

@@ -95,7 +95,8 @@ fn run<R: Source, W: Sink>(
     requires fresh { IsFresh session.old }
     requires short { length ahead.now ≤ input_limit }
     ensures ok { OnOk result (ServesAll session.old.store ahead.now
-        (passed R.remaining W.contents input.old input.new output.old output.new) session.new.store) }
+        (passed R.remaining W.contents input.old input.new output.old output.new)
+        session.new.store) }
     ensures err { IfErr result (Stops session.old.store ahead.now
         (passed R.remaining W.contents input.old input.new output.old output.new)) }
     ensures faults { AreFaultsCounted
