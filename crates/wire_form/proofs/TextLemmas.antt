@@ -10,7 +10,7 @@ use Rattle.serde_json.specs.declared.value.Value.{Value}
 use Rattle.wire_form.specs.Request.{Field, fields_data}
 use Rattle.wire_form.specs.declared.asked.Field.{Field as TextField}
 use Rattle.wire_form.specs.inner.Asked.{fields_of}
-use Rattle.wire_form.specs.inner.Found.{IsText, fields_in, text_in, texts_in}
+use Rattle.wire_form.specs.inner.Found.{IsText, fields_in, texts_in}
 
 -- an entry of an object
 abbrev pub Entry : Type 0

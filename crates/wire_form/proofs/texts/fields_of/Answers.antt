@@ -1,5 +1,5 @@
 -- One member more is a field.
-use Rattle.std.proofs.Common.{[], ◌∷◌, ◌++◌, map, sym, ap, ap₂, ◌∙◌}
+use Rattle.std.proofs.Common.{[], ◌∷◌, ◌++◌, sym, ap, ap₂, ◌∙◌}
 use Rattle.std.proofs.lemmas.List.{append_assoc, map-append}
 use Rattle.wire_form.specs.declared.asked.Field.{Field as TextField}
 use Rattle.wire_form.specs.inner.Asked.{fields_of}
