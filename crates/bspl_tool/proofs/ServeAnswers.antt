@@ -1,13 +1,16 @@
 -- What `serve` answers, from the first line of the part and from what is served.
-use Rattle.std.proofs.Common.{◌≡◌, ◌≢◌, ℕ, false, true, List, [], ◌∷◌, ◌++◌, All, Some, codes, eqb, refl, sym, ◌∙◌, ap, subst, append_assoc, append-nil}
+use Rattle.std.proofs.Common.{◌≡◌, ◌≢◌, ◌≤◌, ℕ, false, true, List, [], ◌∷◌, ◌++◌, All, Some, arith, codes, eqb, length, refl, sym, ◌∙◌, ap, subst, append_assoc, append-nil, ⊎_elim}
 use Rattle.std.proofs.lemmas.Bool.{both_ways, ne_eqb, or_parts, or_right}
 use Rattle.std.proofs.lemmas.List.Elements.{All-weaker}
 use Rattle.std.proofs.lemmas.List.Folds.{list_any-append, list_any_none}
+use Rattle.bspl_io.specs.Faults.{HasCounted, last_count}
 use Rattle.bspl_types.specs.declared.expanded.Expanded.{Expanded}
+use Rattle.bspl_types.specs.Limits.{input_limit}
 use Rattle.history_audit.specs.HistoryText.{role_name}
 use Rattle.local_store.specs.State.{StoreState}
+use Rattle.role_server.specs.declared.refusal.ServeRefusal.TheVariants.{TooLong}
 use Rattle.role_server.specs.Served.{Served}
-use Rattle.role_server.specs.Stream.{ServesAll}
+use Rattle.role_server.specs.Stream.{ServesAll, Stops}
 use Rattle.tool_input.specs.RoleName.{IsRoleNamed}
 use Rattle.bspl_tool.specs.ServeAnswer.{AreReplies, OpensRole}
 use Rattle.bspl_tool.specs.inner.Serve.{IsRoleOf}
@@ -86,3 +89,15 @@ all_replied store end lines source sink text rest no_source no_sink all =
     let whole : lines ++ all.bytes ≡ lines = ap (λ (t : List ℕ). lines ++ t) none ∙ append-nil lines in
     let out : all.out ≡ text = sym (all.written ∙ ap (λ (t : List ℕ). t ++ all.out) no_sink) in
     (end, subst (λ (t : List ℕ). Served store lines t end) out (subst (λ (t : List ℕ). Served store t all.out end) whole all.served))
+
+-- a counter that stays at 0 has counted nothing
+pub nothing_counted : ¬ HasCounted 0 0
+nothing_counted counted = ⊎_elim (λ rose. omega (arith, rose)) (λ (full : (0 ≡ last_count) × (0 ≡ last_count)). omega (arith, full.0)) counted
+
+-- lines that are no more than may come, and nothing after them, are not too long
+pub never_too_long : (store : StoreState) (lines source sink text rest : List ℕ) → source ≡ [] → length lines ≤ input_limit → ¬ Stops store lines (record { remaining = Some source; remaining_after = Some rest; contents = Some sink; contents_after = Some text }) TooLong
+never_too_long store lines source sink text rest no_source short stops =
+    let first = stops.0 in
+    let none : first.bytes ≡ [] = empty_front first.bytes rest (sym first.taken ∙ no_source) in
+    let whole : length (lines ++ first.bytes) ≡ length lines = ap (λ (t : List ℕ). length (lines ++ t)) none ∙ ap length (append-nil lines) in
+    omega (arith, short, stops.1, whole)

@@ -88,8 +88,8 @@ fn serve_lines(
     match serve_from(alloc, store, lines, &mut nothing, replies) {
         Ok(_) => Ok(()),
         Err(ServeRefusal::NoMemory) => Err(NoMemory),
-        Err(ServeRefusal::ReadFault | ServeRefusal::WriteFault | ServeRefusal::TooLong) => {
-            unreachable!()
-        }
+        Err(ServeRefusal::ReadFault) => unreachable!(),
+        Err(ServeRefusal::WriteFault) => unreachable!(),
+        Err(ServeRefusal::TooLong) => unreachable!(),
     }
 }
