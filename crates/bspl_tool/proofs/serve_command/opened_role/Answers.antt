@@ -1,5 +1,5 @@
 -- The first line is that of the role, or of no role.
-use Rattle.std.proofs.Common.{◌≢◌, ◌∷◌, All, length, length-append, ap, arith, subst}
+use Rattle.std.proofs.Common.{◌∷◌, length, length-append, ap, arith}
 use Rattle.bspl_tool.proofs.ServeAnswers.{never_opened, not_opened, opened}
 use Rattle.bspl_tool.proofs.serve_command.opened_role.Goals as goal
 

@@ -1,5 +1,5 @@
 -- The answer is the replies of the role that the part names, or the part names none.
-use Rattle.std.proofs.Common.{◌≤◌, refl, arith}
+use Rattle.std.proofs.Common.{refl, arith}
 use Rattle.bspl_tool.proofs.serve_command.serve.Goals as goal
 
 pub replies_to-requires-clause-known : goal.replies_to-requires-clause-known
