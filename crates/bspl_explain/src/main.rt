@@ -1,4 +1,4 @@
-//! The program that explains the verdicts on a protocol, or why its text is refused.
+//! The program that answers as `bspl` does, with words on verdicts and on refusals.
 #![tactic(auto)]
 
 ghost use Rattle.std.specs.Prelude.{◌≡◌, map, string_bytes, IfOk, IfErr};

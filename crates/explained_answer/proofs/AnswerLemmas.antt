@@ -1,22 +1,39 @@
--- What an explained answer says of a protocol is true.
-use Rattle.std.proofs.Common.{◌≡◌, ℕ, List, refl}
+-- What makes an explained answer, and that what it says of a protocol is true.
+use Rattle.std.proofs.Common.{◌≡◌, ℕ, Bool, List, ◌++◌, refl, ◌∙◌}
+use Rattle.bspl_tool.specs.VerifyAnswer.{IsVerdictAnswer}
 use Rattle.bspl_types.specs.declared.expanded.Expanded.{Expanded}
 use Rattle.enactment_model.specs.Liveness.{LiveProtocol}
 use Rattle.enactment_model.specs.Safety.{SafeProtocol}
+use Rattle.program_frame.specs.declared.reply.Reply.{Reply}
 use Rattle.refutation_log.specs.declared.refutation.Log.{Log}
 use Rattle.report.specs.ExitStatus.{verdict_status}
+use Rattle.tool_input.specs.declared.status.Status.{Status}
 use Rattle.tool_input.specs.declared.status.Status.TheVariants as status
 use Rattle.verdict.specs.declared.outcome.Liveness.{Liveness}
 use Rattle.verdict.specs.declared.outcome.Liveness.TheVariants as liveness
 use Rattle.verdict.specs.declared.outcome.Safety.{Safety}
 use Rattle.verdict.specs.declared.outcome.Safety.TheVariants as safety
+use Rattle.verdict.specs.declared.outcome.Verdicts.{Verdicts}
 use Rattle.verdict.specs.Right.{IsRight}
 use Rattle.verdict.specs.RightLiveness.{IsRightLiveness}
+use Rattle.verdict_words.specs.Words.{IsVerdictWords}
 use Rattle.explained_answer.specs.Answer.{IsExplainedAnswer}
 
+-- words behind a right answer with verdicts
+pub words_behind : (brief : Bool) (budget : ℕ) (x : Expanded) (v : Verdicts) (said reply : Reply Status) (words : List ℕ) → IsVerdictAnswer brief budget x v said.text → said.status ≡ verdict_status v.safety v.liveness → IsVerdictWords x v words → reply.text ≡ said.text ++ words → reply.status ≡ said.status → IsExplainedAnswer brief budget x reply.text reply.status
+words_behind brief budget x v said reply words answer ends are text status = record {
+  verdicts = v;
+  verdict_text = said.text;
+  answer = answer;
+  words = words;
+  are_words = are;
+  text = text;
+  ends = status ∙ ends;
+}
+
 -- a right verdict that the protocol is safe is true
-right_safe : (x : Expanded) (s : Safety) (log : Log) → s ≡ safety.Safe log → IsRight x 10000 s → SafeProtocol x
-right_safe x s log is right = (rw is at right).holds
+right_safe : (x : Expanded) (budget : ℕ) (s : Safety) (log : Log) → s ≡ safety.Safe log → IsRight x budget s → SafeProtocol x
+right_safe x budget s log is right = (rw is at right).holds
 
 -- the status 0 is that of both verdicts
 both_done : (s : Safety) (l : Liveness) → status.Done ≡ verdict_status s l → ((log : Log) × (s ≡ safety.Safe log)) × ((log : Log) × (l ≡ liveness.Live log))
@@ -29,11 +46,12 @@ both_done (safety.Undecided log) (liveness.NotLive run param) is = absurd cc
 both_done (safety.Undecided log) (liveness.Undecided log') is = absurd cc
 
 -- a right verdict that the protocol is live is true
-right_live : (x : Expanded) (l : Liveness) (log : Log) → l ≡ liveness.Live log → IsRightLiveness x 10000 l → LiveProtocol x
-right_live x l log is right = (rw is at right).holds
+right_live : (x : Expanded) (budget : ℕ) (l : Liveness) (log : Log) → l ≡ liveness.Live log → IsRightLiveness x budget l → LiveProtocol x
+right_live x budget l log is right = (rw is at right).holds
 
 -- so is the status 0
-pub done_true : (x : Expanded) (out : List ℕ) → IsExplainedAnswer x out status.Done → SafeProtocol x × LiveProtocol x
-done_true x out answer =
-    let both = both_done answer.verdicts.safety answer.verdicts.liveness answer.ends in
-    (right_safe x answer.verdicts.safety both.0.0 both.0.1 answer.right.safety, right_live x answer.verdicts.liveness both.1.0 both.1.1 answer.right.liveness)
+pub done_true : (brief : Bool) (budget : ℕ) (x : Expanded) (out : List ℕ) → IsExplainedAnswer brief budget x out status.Done → SafeProtocol x × LiveProtocol x
+done_true brief budget x out is =
+    let both = both_done is.verdicts.safety is.verdicts.liveness is.ends in
+    let right = is.answer.right in
+    (right_safe x budget is.verdicts.safety both.0.0 both.0.1 right.safety, right_live x budget is.verdicts.liveness both.1.0 both.1.1 right.liveness)

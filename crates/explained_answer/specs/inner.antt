@@ -1,3 +1,3 @@
 -- What only private functions cite.
 pub mod Reply
-pub mod Request
+pub mod Task

@@ -8,8 +8,8 @@ use program_frame::{Ending, serve};
 use std::alloc::Global;
 use tool_input::Status;
 
-/// Reads the protocol that the arguments name, and writes the verdicts on it, or the refusal of the
-/// input, with words that explain them.
+/// Reads what the arguments request, as the tool does, and writes its answer with words: what its
+/// verdicts mean, or what is wrong with an input that is refused. Agents play on this thread.
 pub fn bspl_explain<R: Source, W: Sink>(
     alloc: Global,
     args: &[String],

@@ -1,39 +1,36 @@
-ghost use Rattle.std.specs.Prelude.{map, string_bytes, MatchOption, [], ◌∷◌};
-ghost use Rattle.bspl_types.specs.Limits.{input_limit};
-ghost use Rattle.explained_answer.specs.Call.{AsksForInput};
-ghost use Rattle.explained_answer.specs.Output.{ExplainedOutput};
-ghost use Rattle.explained_answer.specs.Request.{IsUsage, Requests};
-ghost use Rattle.explained_answer.specs.inner.Request.{IsRequest};
-
-use super::reply::{explained_reply, too_long, usage};
-use bspl_types::is_name;
+use super::outcome::explained_outcome;
+use super::reply::{too_long, usage};
 use list_base::{Bytes, NoMemory};
 use program_frame::{Program, Reply};
 use std::alloc::Global;
 use tool_input::{INPUT_LIMIT, Status};
 
-/// What the arguments request: the verdicts on the protocol of a name, explained. Invalid ones
-/// request none.
+/// What the arguments request: a task of the tool, in words.
 #[derive(Clone, Copy)]
 pub struct Request<'a> {
-    name: Option<&'a [u8]>,
+    asked: bspl_tool::Request<'a>,
 }
 
 impl<'a> Program<'a> for Request<'a> {
     type Status = Status;
 
-    ghost requests = { λ args request. IsRequest args request.name };
+    ghost use Rattle.bspl_types.specs.Limits.{input_limit};
+    ghost use Rattle.bspl_tool.specs.Request.{IsRequest, RequestsInput};
+    ghost use Rattle.explained_answer.specs.Output.{ExplainedOutput};
 
-    ghost asks = { AsksForInput };
+    ghost requests = { λ args request. IsRequest args request.asked };
+
+    ghost asks = { RequestsInput };
 
     ghost answers = { ExplainedOutput };
 
     ghost limit = { input_limit };
 
     fn request(alloc: Global, args: &'a [String]) -> Result<Request<'a>, NoMemory> {
-        Ok(Request {
-            name: name_in(args),
-        })
+        match bspl_tool::Request::request(alloc, args) {
+            Ok(asked) => Ok(Request { asked }),
+            Err(_) => Err(NoMemory),
+        }
     }
 
     fn input_limit(&self) -> u64 {
@@ -41,42 +38,19 @@ impl<'a> Program<'a> for Request<'a> {
     }
 
     fn asks_input(&self) -> bool {
-        self.name.is_some()
+        self.asked.asks_input()
     }
 
     fn reply_to(&self, alloc: Global, input: Bytes) -> Result<Reply<Status>, NoMemory> {
-        match self.name {
-            Some(name) => explained_reply(alloc, name, input.as_slice()),
-            None => usage(alloc),
+        match &self.asked {
+            bspl_tool::Request::Usage => usage(alloc),
+            bspl_tool::Request::Do { task, name } => {
+                explained_outcome(alloc, *task, name, input.as_slice())
+            }
         }
     }
 
     fn too_long(&self, alloc: Global) -> Result<Reply<Status>, NoMemory> {
         too_long(alloc)
-    }
-}
-
-/// The name that comes after the command.
-fn name_in(args: &[String]) -> Option<&[u8]>
-    ensures { MatchOption result
-        (IsUsage (map string_bytes args.now))
-        (λ name. Requests (map string_bytes args.now) name.now) }
-{
-    match args {
-        [command, name] => name_of(command.as_bytes(), name.as_bytes()),
-        _ => None,
-    }
-}
-
-/// The name, if the command is `verify` and it is a name.
-fn name_of<'a>(command: &[u8], name: &'a [u8]) -> Option<&'a [u8]>
-    ensures { MatchOption result
-        (IsUsage (command.now ∷ name.now ∷ []))
-        (λ found. Requests (command.now ∷ name.now ∷ []) found.now) }
-{
-    if command == b"verify".as_slice() && is_name(name) {
-        Some(name)
-    } else {
-        None
     }
 }
