@@ -1,6 +1,6 @@
 use answer_words::refusal_text;
 use std::alloc::Global;
-use tool_input::{Code, Field, InputRefusal, Part, Rejection, input_rejection};
+use tool_input::{Code, Field, INPUT_LIMIT, InputRefusal, Part, Rejection, input_rejection};
 
 /// A refusal of an input at a number, and its words.
 #[derive(Clone, Copy)]
@@ -47,6 +47,11 @@ comes first.\n\
 The nearest line: line 2, column 1\n  %% agent\n  ^\n\
 What to do: write exactly that, alone in its line, and end the line above it.\n";
 
+/// The words for an input that is too long.
+const LONG_WORDS: &[u8] = b"refused P2 536870912\n\
+What is wrong: the input has more bytes than may be read.\n\
+What to do: give a shorter input.\n";
+
 /// Whether the words of the rejection of the input are these.
 fn has_words(alloc: Global, input: &[u8], rejection: &Rejection, words: &[u8]) -> bool {
     refusal_text(alloc, input, rejection)
@@ -68,4 +73,6 @@ fn explains_refusals(rt: HostRuntime) {
     }
     let part = input_rejection(InputRefusal::NoPart { part: Part::Agents });
     assert!(rt; has_words(rt.alloc(), b"P { }\n%% agent\n", &part, PART_WORDS));
+    let long = input_rejection(InputRefusal::TooLong { limit: INPUT_LIMIT });
+    assert!(rt; has_words(rt.alloc(), b"", &long, LONG_WORDS));
 }
