@@ -1,5 +1,5 @@
--- What an explained answer says is what the tool says, and true. Each statement is the contract of a
--- function.
+-- What an explained answer says is what the tool says, and true. Each statement is the contract of
+-- a function.
 use Rattle.std.specs.Prelude.{◌≡◌, ℕ, Bool, List, ◌++◌}
 use Rattle.bspl_tool.specs.Output.{Output}
 use Rattle.bspl_tool.specs.Request.{HasCommandLine}
