@@ -73,7 +73,7 @@ pub(crate) fn push_safety(
             let x = a.expanded();
             let events = run.as_slice();
             push_unsafe(text, x, *param, *first, *second)?;
-            push_chart(alloc, text, x, events, finding)?;
+            push_chart(alloc, text, a, events, finding)?;
             push_run(alloc, text, a, events)
         }
         Safety::Undecided(log) => push_undecided(text, b"<h2>Safety: undecided</h2>\n", log),
@@ -107,7 +107,7 @@ pub(crate) fn push_liveness(
             let x = a.expanded();
             let events = run.as_slice();
             push_not_live(text, x, *param)?;
-            push_chart(alloc, text, x, events, finding)?;
+            push_chart(alloc, text, a, events, finding)?;
             push_run(alloc, text, a, events)
         }
         Liveness::Undecided(log) => push_undecided(text, b"<h2>Liveness: undecided</h2>\n", log),

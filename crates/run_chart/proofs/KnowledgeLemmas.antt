@@ -1,23 +1,27 @@
--- What events make known, one after another.
-use Rattle.std.proofs.Common.{◌≡◌, ◌==◌, ℕ, ◌+◌, ◌<◌, Bool, true, false, List, [], ◌∷◌, ◌++◌, Option, None, Some, length, drop, get_or, refl, sym, ap, ◌∙◌}
-use Rattle.std.specs.Prelude.{cond}
-use Rattle.std.specs.List.{filter, flat_map}
-use Rattle.std.proofs.lemmas.Grind.{flat_map-append}
-use Rattle.std.proofs.lemmas.List.{append-nil, drop_more}
-use Rattle.std.proofs.lemmas.List.Elements.{filter-append}
-use Rattle.std.proofs.lemmas.Option.{none-some}
+-- The values of pairs, and what one event makes known.
+use Rattle.std.proofs.Common.{◌≡◌, ◌==◌, ℕ, Bool, true, false, List, [], ◌∷◌, ◌++◌, Option, None, Some, refl, sym, ap, inl, inr, ◌⊎◌, subst}
+use Rattle.std.specs.Prelude.{cond, MatchOption}
+use Rattle.std.specs.List.{Contains}
+use Rattle.std.proofs.lemmas.Bool.{both_ways, cond_both, eq-eqb}
+use Rattle.std.proofs.lemmas.Bool.Decides.{Decides-eqb}
+use Rattle.std.proofs.lemmas.List.Elements.{Contains-append_right}
+use Rattle.std.proofs.lemmas.Option.{none-some, same_Some}
+use Rattle.list_base.proofs.Members.{cons_cases, here, here_same, nowhere, only, there}
 use Rattle.bspl_types.specs.declared.event.Event.{Event}
 use Rattle.bspl_types.specs.declared.expanded.Expanded.{Expanded}
+use Rattle.bspl_types.specs.declared.protocol.Adornment.{Adornment}
 use Rattle.bspl_types.specs.declared.protocol.Carried.{Carried}
 use Rattle.bspl_types.specs.declared.value.Value.{Value}
-use Rattle.bspl_types.specs.History.{history_of, instance_of, role_of}
+use Rattle.bspl_types.specs.Equality.{equal_values_decides}
+use Rattle.bspl_types.specs.History.{instance_of}
 use Rattle.bspl_types.specs.Instance.{pairs}
+use Rattle.bspl_types.specs.Knowledge.{IsKnown, Knows}
 use Rattle.bspl_types.specs.Value.{equal_values}
-use Rattle.enactment_model.specs.Projection.{run_under}
-use Rattle.run_chart.specs.Knowledge.{value_in, value_known}
+use Rattle.role_knowledge.specs.FirstKnown.{IsFirstKnown}
+use Rattle.run_chart.specs.Knowledge.{value_in}
 
 -- without a value in the first pairs, the others have it
-value_after : (a b : List (Carried × Value)) (p : ℕ) → value_in a p ≡ None → value_in (a ++ b) p ≡ value_in b p
+pub value_after : (a b : List (Carried × Value)) (p : ℕ) → value_in a p ≡ None → value_in (a ++ b) p ≡ value_in b p
 value_after [] b p none = refl
 value_after (pair ∷ a) b p none =
     (elim (pair.0.param == p) as (λ t. cond t (Some pair.1) (value_in a p) ≡ None → cond t (Some pair.1) (value_in (a ++ b) p) ≡ value_in b p) [
@@ -26,7 +30,7 @@ value_after (pair ∷ a) b p none =
     ]) none
 
 -- the value of the first pairs is that of all
-value_before_others : (a b : List (Carried × Value)) (p : ℕ) (v : Value) → value_in a p ≡ Some v → value_in (a ++ b) p ≡ Some v
+pub value_before_others : (a b : List (Carried × Value)) (p : ℕ) (v : Value) → value_in a p ≡ Some v → value_in (a ++ b) p ≡ Some v
 value_before_others [] b p v some = absurd (none-some v some)
 value_before_others (pair ∷ a) b p v some =
     (elim (pair.0.param == p) as (λ t. cond t (Some pair.1) (value_in a p) ≡ Some v → cond t (Some pair.1) (value_in (a ++ b) p) ≡ Some v) [
@@ -34,55 +38,77 @@ value_before_others (pair ∷ a) b p v some =
       | false ↦ λ is. value_before_others a b p v is
     ]) some
 
--- the pairs of a role's acts under a key
-abbrev pairs_of : Expanded → List Event → ℕ → List Value → List (Carried × Value)
-pairs_of x events role key = flat_map (λ e. pairs x (instance_of e)) (run_under key (history_of x role events))
+-- a value is that of a pair for the parameter
+value_found : (ps : List (Carried × Value)) (p : ℕ) (v : Value) → value_in ps p ≡ Some v → (a : Adornment) × Contains ps (record { param = p; adornment = a }, v)
+value_found [] p v = λ found. absurd (none-some v found)
+value_found (pair ∷ ps) p v =
+    cond_both (pair.0.param == p) (Some pair.1) (value_in ps p) (λ o. o ≡ Some v → (a : Adornment) × Contains (pair ∷ ps) (record { param = p; adornment = a }, v))
+    (λ same found. (pair.0.adornment, here_same pair ps (record { param = p; adornment = pair.0.adornment }, v) (λ i. (record { param = (Decides-eqb pair.0.param p).0 same i; adornment = pair.0.adornment }, same_Some pair.1 v found i))))
+    (λ _ found. let rest = value_found ps p v found in (rest.0, there pair ps _ rest.1))
 
--- those of the first event, and those of the others
-pairs_split : (x : Expanded) (e : Event) (events : List Event) (role : ℕ) (key : List Value) → pairs_of x (e ∷ events) role key ≡ pairs_of x (e ∷ []) role key ++ pairs_of x events role key
-pairs_split x e events role key =
-    let acts = history_of x role in
-    let each = flat_map (λ (f : Event). pairs x (instance_of f)) in
-    ap (λ (h : List Event). each (run_under key h)) (filter-append (λ (f : Event). role_of x f == role) (e ∷ []) events)
-    ∙ ap each (filter-append (λ (f : Event). equal_values (instance_of f).key key) (acts (e ∷ [])) (acts events))
-    ∙ flat_map-append (λ (f : Event). pairs x (instance_of f)) (run_under key (acts (e ∷ []))) (run_under key (acts events))
+-- without a value no pair is for the parameter
+value_missing : (ps : List (Carried × Value)) (p : ℕ) → value_in ps p ≡ None → (a : Adornment) (v : Value) → ¬ Contains ps (record { param = p; adornment = a }, v)
+value_missing [] p = λ none a v among. nowhere _ among
+value_missing (pair ∷ ps) p =
+    cond_both (pair.0.param == p) (Some pair.1) (value_in ps p) (λ o. o ≡ None → (a : Adornment) (v : Value) → ¬ Contains (pair ∷ ps) (record { param = p; adornment = a }, v))
+    (λ _ none. absurd (none-some pair.1 (sym none)))
+    (λ other none a v among. elim (cons_cases pair ps (record { param = p; adornment = a }, v) among) [
+      | inl is ↦ both_ways (pair.0.param == p) other (eq-eqb pair.0.param p (ap (λ q. q.0.param) is))
+      | inr rest ↦ value_missing ps p none a v rest
+    ])
 
--- what the event does not make known, the events after it do
-pub known_later : (x : Expanded) (events : List Event) (i : ℕ) (d : Event) (role : ℕ) (key : List Value) (p : ℕ) → i < length events → value_known x (get_or events i d ∷ []) role key p ≡ None → value_known x (drop (i + 1) events) role key p ≡ value_known x (drop i events) role key p
-known_later x events i d role key p within none =
-    let e = get_or events i d in
-    let rest = drop (i + 1) events in
-    sym (
-    ap (λ (es : List Event). value_known x es role key p) (drop_more events i d within)
-    ∙ ap (λ (ps : List (Carried × Value)). value_in ps p) (pairs_split x e rest role key)
-    ∙ value_after (pairs_of x (e ∷ []) role key) (pairs_of x rest role key) p none
-    )
+-- no event makes nothing known
+pub unknown_first : (x : Expanded) (key : List Value) (p : ℕ) → ¬ IsKnown x [] key p
+unknown_first x key p (v, knows) = nowhere knows.event knows.among
 
--- what the event makes known is known first
-pub known_here : (x : Expanded) (events : List Event) (i : ℕ) (d : Event) (role : ℕ) (key : List Value) (p : ℕ) (v : Value) → i < length events → value_known x (get_or events i d ∷ []) role key p ≡ Some v → value_known x (drop i events) role key p ≡ Some v
-known_here x events i d role key p v within some =
-    let e = get_or events i d in
-    let rest = drop (i + 1) events in
-    ap (λ (es : List Event). value_known x es role key p) (drop_more events i d within)
-    ∙ ap (λ (ps : List (Carried × Value)). value_in ps p) (pairs_split x e rest role key)
-    ∙ value_before_others (pairs_of x (e ∷ []) role key) (pairs_of x rest role key) p v some
-
--- an act of the role under the key makes known what it carries
-pub known_from_act : (x : Expanded) (e : Event) (role : ℕ) (key : List Value) (p : ℕ) → (role_of x e == role) ≡ true → equal_values (instance_of e).key key ≡ true → value_known x (e ∷ []) role key p ≡ value_in (pairs x (instance_of e)) p
-known_from_act x e role key p of_role under =
-    ap (λ (b : Bool). value_in (flat_map (λ (f : Event). pairs x (instance_of f)) (run_under key (cond b (e ∷ []) []))) p) of_role
-    ∙ ap (λ (b : Bool). value_in (flat_map (λ (f : Event). pairs x (instance_of f)) (cond b (e ∷ []) [])) p) under
-    ∙ ap (λ (ps : List (Carried × Value)). value_in ps p) (append-nil (pairs x (instance_of e)))
-
--- an act of another role makes nothing known
-pub unknown_by_role : (x : Expanded) (e : Event) (role : ℕ) (key : List Value) (p : ℕ) → (role_of x e == role) ≡ false → value_known x (e ∷ []) role key p ≡ None
-unknown_by_role x e role key p other =
-    ap (λ (b : Bool). value_in (flat_map (λ (f : Event). pairs x (instance_of f)) (run_under key (cond b (e ∷ []) []))) p) other
-
--- nor does an act under another key
-pub unknown_by_key : (x : Expanded) (e : Event) (role : ℕ) (key : List Value) (p : ℕ) → equal_values (instance_of e).key key ≡ false → value_known x (e ∷ []) role key p ≡ None
-unknown_by_key x e role key p other =
-    elim (role_of x e == role) as (λ t. value_in (flat_map (λ (f : Event). pairs x (instance_of f)) (run_under key (cond t (e ∷ []) []))) p ≡ None) [
-      | true ↦ ap (λ (b : Bool). value_in (flat_map (λ (f : Event). pairs x (instance_of f)) (cond b (e ∷ []) [])) p) other
-      | false ↦ refl
+-- what an act and others make known, the act does or the others do
+known_cases : (x : Expanded) (e : Event) (history : List Event) (key : List Value) (p : ℕ) → IsKnown x (e ∷ history) key p → IsKnown x (e ∷ []) key p ⊎ IsKnown x history key p
+known_cases x e history key p (v, knows) =
+    elim (cons_cases e history knows.event knows.among) [
+      | inl is ↦ inl (v, record { event = knows.event; among = here_same e [] knows.event is; under = knows.under; adornment = knows.adornment; carries = knows.carries })
+      | inr rest ↦ inr (v, record { event = knows.event; among = rest; under = knows.under; adornment = knows.adornment; carries = knows.carries })
     ]
+
+-- an act under another key makes nothing known
+pub unknown_by_key : (x : Expanded) (e : Event) (key : List Value) (p : ℕ) → equal_values (instance_of e).key key ≡ false → ¬ IsKnown x (e ∷ []) key p
+unknown_by_key x e key p other (v, knows) =
+    let under = subst (λ (f : Event). (instance_of f).key ≡ key) (sym (only e knows.event knows.among)) knows.under in
+    both_ways (equal_values (instance_of e).key key) other ((equal_values_decides (instance_of e).key key).1 under)
+
+-- nor does one without a value of the parameter
+pub unknown_by_pairs : (x : Expanded) (e : Event) (key : List Value) (p : ℕ) → value_in (pairs x (instance_of e)) p ≡ None → ¬ IsKnown x (e ∷ []) key p
+unknown_by_pairs x e key p none (v, knows) =
+    let carried = λ (f : Event). Contains (pairs x (instance_of f)) (record { param = p; adornment = knows.adornment }, v) in
+    value_missing (pairs x (instance_of e)) p none knows.adornment v (subst carried (sym (only e knows.event knows.among)) knows.carries)
+
+-- an act under the key makes its value known
+pub known_by_act : (x : Expanded) (e : Event) (key : List Value) (p : ℕ) (v : Value) → equal_values (instance_of e).key key ≡ true → value_in (pairs x (instance_of e)) p ≡ Some v → Knows x (e ∷ []) key p v
+known_by_act x e key p v under found =
+    let pair = value_found (pairs x (instance_of e)) p v found in
+    record { event = e; among = here e []; under = (equal_values_decides (instance_of e).key key).0 under; adornment = pair.0; carries = pair.1 }
+
+-- after an act that makes nothing known, the first value is that of the others
+pub first_after : (x : Expanded) (e : Event) (history : List Event) (key : List Value) (p : ℕ) (o : Option Value) → (¬ IsKnown x (e ∷ []) key p) → MatchOption o (¬ IsKnown x history key p) (IsFirstKnown x history key p) → MatchOption o (¬ IsKnown x (e ∷ history) key p) (IsFirstKnown x (e ∷ history) key p)
+first_after x e history key p None none shown = λ known. elim (known_cases x e history key p known) [ inl one ↦ none one | inr rest ↦ shown rest ]
+first_after x e history key p (Some v) none shown =
+    record {
+      before = e ∷ shown.before;
+      event = shown.event;
+      after = shown.after;
+      split = ap (λ (acts : List Event). e ∷ acts) shown.split;
+      unknown = λ known. elim (known_cases x e shown.before key p known) [ inl one ↦ none one | inr rest ↦ shown.unknown rest ];
+      knows = shown.knows;
+    }
+
+-- what is known first is known
+pub known_first : (x : Expanded) (history : List Event) (key : List Value) (p : ℕ) (v : Value) → IsFirstKnown x history key p v → Knows x history key p v
+known_first x history key p v first =
+    let knows = first.knows in
+    let within = here_same first.event first.after knows.event (only first.event knows.event knows.among) in
+    record {
+      event = knows.event;
+      among = subst (λ (acts : List Event). Contains acts knows.event) (sym first.split) (Contains-append_right first.before (first.event ∷ first.after) knows.event within);
+      under = knows.under;
+      adornment = knows.adornment;
+      carries = knows.carries;
+    }

@@ -1,76 +1,71 @@
--- What is shown as known is what is known.
-use Rattle.std.proofs.Common.{◌≡◌, ◌==◌, ℕ, List, [], ◌∷◌, Option, None, Some, refl, sym, ap, inl, inr, subst}
-use Rattle.std.specs.Prelude.{MatchOption}
-use Rattle.std.specs.List.{Contains, flat_map}
-use Rattle.std.proofs.lemmas.Bool.{both_ways, cond_both, eq-eqb}
-use Rattle.std.proofs.lemmas.Bool.Decides.{Decides-eqb}
-use Rattle.std.proofs.lemmas.List.Elements.{Contains-append_left, Contains-append_right}
-use Rattle.std.proofs.lemmas.Option.{none-some, same_Some}
-use Rattle.list_base.proofs.Filtered.{filtered_member, kept_member}
-use Rattle.list_base.proofs.Members.{cons_cases, here_same, nowhere, there}
+-- What is shown as known is what is known first.
+use Rattle.std.proofs.Common.{◌≡◌, ℕ, true, false, List, [], ◌∷◌, ◌++◌, Option, None, Some, refl, sym, ap, subst}
+use Rattle.std.specs.Prelude.{cond, ◌↔◌, IfSome, IsSome, MatchOption}
+use Rattle.std.specs.List.{flat_map}
+use Rattle.std.proofs.lemmas.Bool.{false≢true}
 use Rattle.bspl_types.specs.declared.event.Event.{Event}
 use Rattle.bspl_types.specs.declared.expanded.Expanded.{Expanded}
-use Rattle.bspl_types.specs.declared.protocol.Adornment.{Adornment}
 use Rattle.bspl_types.specs.declared.protocol.Carried.{Carried}
 use Rattle.bspl_types.specs.declared.value.Value.{Value}
-use Rattle.bspl_types.specs.Equality.{equal_values_decides}
+use Rattle.bspl_types.specs.Admission.{IsAdmitted}
 use Rattle.bspl_types.specs.History.{history_of, instance_of}
 use Rattle.bspl_types.specs.Instance.{pairs}
-use Rattle.bspl_types.specs.Knowledge.{IsKnown, Knows}
+use Rattle.bspl_types.specs.Knowledge.{IsKnown}
 use Rattle.bspl_types.specs.Value.{equal_values}
 use Rattle.enactment_model.specs.Projection.{run_under}
+use Rattle.role_knowledge.specs.FirstKnown.{IsFirstKnown}
+use Rattle.role_knowledge.specs.Laws.{FirstKnownIsOne}
 use Rattle.run_chart.specs.Knowledge.{value_in, value_known}
-use Rattle.run_chart.proofs.ShownLemmas.{joined_member}
+use Rattle.run_chart.specs.Laws.{ShowsKnowledge}
+use Rattle.run_chart.proofs.KnowledgeLemmas.{first_after, known_by_act, known_first, unknown_by_key, unknown_by_pairs, unknown_first, value_after, value_before_others}
 
--- a value is that of a pair for the parameter
-value_found : (ps : List (Carried × Value)) (p : ℕ) (v : Value) → value_in ps p ≡ Some v → (a : Adornment) × Contains ps (record { param = p; adornment = a }, v)
-value_found [] p v = λ found. absurd (none-some v found)
-value_found (pair ∷ ps) p v =
-    cond_both (pair.0.param == p) (Some pair.1) (value_in ps p) (λ o. o ≡ Some v → (a : Adornment) × Contains (pair ∷ ps) (record { param = p; adornment = a }, v))
-    (λ same found. (pair.0.adornment, here_same pair ps (record { param = p; adornment = pair.0.adornment }, v) (λ i. (record { param = (Decides-eqb pair.0.param p).0 same i; adornment = pair.0.adornment }, same_Some pair.1 v found i))))
-    (λ _ found. let rest = value_found ps p v found in (rest.0, there pair ps _ rest.1))
+-- the value that acts make known first
+abbrev value_shown : Expanded → List Event → List Value → ℕ → Option Value
+value_shown x history key p = value_in (flat_map (λ e. pairs x (instance_of e)) (run_under key history)) p
 
--- without a value no pair is for the parameter
-value_missing : (ps : List (Carried × Value)) (p : ℕ) → value_in ps p ≡ None → (a : Adornment) (v : Value) → ¬ Contains ps (record { param = p; adornment = a }, v)
-value_missing [] p = λ none a v among. nowhere _ among
-value_missing (pair ∷ ps) p =
-    cond_both (pair.0.param == p) (Some pair.1) (value_in ps p) (λ o. o ≡ None → (a : Adornment) (v : Value) → ¬ Contains (pair ∷ ps) (record { param = p; adornment = a }, v))
-    (λ _ none. absurd (none-some pair.1 (sym none)))
-    (λ other none a v among. elim (cons_cases pair ps (record { param = p; adornment = a }, v) among) [
-      | inl is ↦ both_ways (pair.0.param == p) other (eq-eqb pair.0.param p (ap (λ q. q.0.param) is))
-      | inr rest ↦ value_missing ps p none a v rest
-    ])
+-- it is known first, or nothing is
+abbrev IsShown : Expanded → List Event → List Value → ℕ → Option Value → Type 0
+IsShown x history key p o = MatchOption o (¬ IsKnown x history key p) (IsFirstKnown x history key p)
 
--- a member of one of the lists that are joined
-member_joined : {X A : Type 0} (f : X → List A) (xs : List X) (x : X) (a : A) → Contains xs x → Contains (f x) a → Contains (flat_map f xs) a
-member_joined f [] x a among inside = absurd (nowhere x among)
-member_joined f (y ∷ xs) x a among inside =
-    elim (cons_cases y xs x among) [
-      | inl is ↦ Contains-append_left (f y) (flat_map f xs) a (subst (λ z. Contains (f z) a) (sym is) inside)
-      | inr rest ↦ Contains-append_right (f y) (flat_map f xs) a (member_joined f xs x a rest inside)
-    ]
-
--- the value shown as known is known, and without one none is
-pub shown_known : (x : Expanded) (events : List Event) (role : ℕ) (key : List Value) (p : ℕ) → MatchOption (value_known x events role key p) (¬ IsKnown x (history_of x role events) key p) (Knows x (history_of x role events) key p)
-shown_known x events role key p =
-    let history = history_of x role events in
-    let carried = λ (e : Event). pairs x (instance_of e) in
-    let under = λ (e : Event). equal_values (instance_of e).key key in
-    (elim (value_known x events role key p) as (λ o. value_known x events role key p ≡ o → MatchOption o (¬ IsKnown x history key p) (Knows x history key p)) [
-      | None ↦ λ none known.
-          let (v, knows) = known in
-          let kept = kept_member under history knows.event ((equal_values_decides (instance_of knows.event).key key).1 knows.under) knows.among in
-          value_missing (flat_map carried (run_under key history)) p none knows.adornment v
-          (member_joined carried (run_under key history) knows.event (record { param = p; adornment = knows.adornment }, v) kept knows.carries)
-      | Some v ↦ λ found.
-          let pair = value_found (flat_map carried (run_under key history)) p v found in
-          let act = joined_member carried (run_under key history) (record { param = p; adornment = pair.0 }, v) pair.1 in
-          let member = filtered_member under history act.0 act.1 in
-          record {
-            event = act.0;
-            among = member.0;
-            under = (equal_values_decides (instance_of act.0).key key).0 member.1;
-            adornment = pair.0;
-            carries = act.2;
-          }
+-- of an act under the key its value is shown, or else that of the acts after it
+shown_under : (x : Expanded) (e : Event) (history : List Event) (key : List Value) (p : ℕ) → equal_values (instance_of e).key key ≡ true → IsShown x history key p (value_shown x history key p) → IsShown x (e ∷ history) key p (value_in (pairs x (instance_of e) ++ flat_map (λ f. pairs x (instance_of f)) (run_under key history)) p)
+shown_under x e history key p under rest =
+    let act = pairs x (instance_of e) in
+    let others = flat_map (λ (f : Event). pairs x (instance_of f)) (run_under key history) in
+    (elim (value_in act p) as (λ o. value_in act p ≡ o → IsShown x (e ∷ history) key p (value_in (act ++ others) p)) [
+      | None ↦ λ none. subst (IsShown x (e ∷ history) key p) (sym (value_after act others p none)) (first_after x e history key p (value_in others p) (unknown_by_pairs x e key p none) rest)
+      | Some v ↦ λ found. subst (IsShown x (e ∷ history) key p) (sym (value_before_others act others p v found))
+          (record { before = []; event = e; after = history; split = refl; unknown = unknown_first x key p; knows = known_by_act x e key p v under found })
     ]) refl
+
+-- each history shows what it makes known first
+history_shown : (x : Expanded) (history : List Event) (key : List Value) (p : ℕ) → IsShown x history key p (value_shown x history key p)
+history_shown x [] key p = unknown_first x key p
+history_shown x (e ∷ history) key p =
+    let under = run_under key history in
+    let rest = history_shown x history key p in
+    (elim (equal_values (instance_of e).key key) as (λ t. equal_values (instance_of e).key key ≡ t → IsShown x (e ∷ history) key p (value_in (flat_map (λ (f : Event). pairs x (instance_of f)) (cond t (e ∷ under) under)) p)) [
+      | true ↦ λ is. shown_under x e history key p is rest
+      | false ↦ λ other. first_after x e history key p (value_shown x history key p) (unknown_by_key x e key p other) rest
+    ]) refl
+
+-- the value shown as known is the first known, and without one none is known
+pub shown_known : ShowsKnowledge
+shown_known x events role key p = history_shown x (history_of x role events) key p
+
+-- what is found as the first known is shown
+pub found_is_shown : (x : Expanded) (events : List Event) (role : ℕ) (key : List Value) (p : ℕ) (found : Option Value) → ShowsKnowledge → FirstKnownIsOne → IsAdmitted x → (IsSome found ↔ IsKnown x (history_of x role events) key p) → IfSome found (IsFirstKnown x (history_of x role events) key p) → found ≡ value_known x events role key p
+found_is_shown x events role key p found shows one admitted exact first =
+    let history = history_of x role events in
+    (elim found as (λ o. (IsSome o ↔ IsKnown x history key p) → IfSome o (IsFirstKnown x history key p) → o ≡ value_known x events role key p) [
+      | None ↦ λ none _.
+          (elim (value_known x events role key p) as (λ o. IsShown x history key p o → None ≡ o) [
+            | None ↦ λ _. refl
+            | Some v ↦ λ is. absurd (false≢true (none.1 (v, known_first x history key p v is)))
+          ]) (shows x events role key p)
+      | Some v ↦ λ some is.
+          (elim (value_known x events role key p) as (λ o. IsShown x history key p o → Some v ≡ o) [
+            | None ↦ λ unknown. absurd (unknown (some.0 refl))
+            | Some w ↦ λ shown. ap Some (one x history key p v w admitted is shown)
+          ]) (shows x events role key p)
+    ]) exact first

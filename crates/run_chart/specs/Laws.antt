@@ -8,7 +8,8 @@ use Rattle.bspl_types.specs.declared.expanded.Expanded.{Expanded}
 use Rattle.bspl_types.specs.declared.value.Value.{Value}
 use Rattle.bspl_types.specs.Expansion.{message_of}
 use Rattle.bspl_types.specs.History.{history_of}
-use Rattle.bspl_types.specs.Knowledge.{IsKnown, Knows}
+use Rattle.bspl_types.specs.Knowledge.{IsKnown}
+use Rattle.role_knowledge.specs.FirstKnown.{IsFirstKnown}
 use Rattle.run_chart.specs.Knowledge.{value_known}
 use Rattle.run_chart.specs.Strokes.{Arrow, Mark, Stroke, Stub, strokes}
 
@@ -54,11 +55,11 @@ StubsAreMissing =
     (x : Expanded) (run : List Event) (sent sender receiver : ℕ) →
     Contains (strokes x run) (Stub sent sender receiver) → IsMissing x run sent sender receiver
 
--- the value shown as known is one that the role's history makes known under the key; if none is
--- shown, none is known
+-- the value shown as known is the first that the role's history makes known under the key; if none
+-- is shown, none is known
 abbrev pub ShowsKnowledge : Type 0
 ShowsKnowledge =
     (x : Expanded) (events : List Event) (role : ℕ) (key : List Value) (p : ℕ) →
     MatchOption (value_known x events role key p)
     (¬ IsKnown x (history_of x role events) key p)
-    (Knows x (history_of x role events) key p)
+    (IsFirstKnown x (history_of x role events) key p)

@@ -1,5 +1,6 @@
 ghost use Rattle.std.specs.Prelude.{◌≡◌, ◌≤◌, ◌++◌, length, OnOk};
 ghost use Rattle.std.specs.List.{enumerate_from, flat_map};
+ghost use Rattle.bspl_types.specs.Admission.{IsAdmitted};
 ghost use Rattle.bspl_types.specs.History.{instance_of, IsRun};
 ghost use Rattle.bspl_types.specs.Instance.{Fits};
 ghost use Rattle.bspl_types.specs.Limits.{param_limit};
@@ -21,6 +22,7 @@ pub(crate) fn push_news(
     before: &[Event],
     event: &Event,
 ) -> Result<(), NoMemory>
+    requires admitted { IsAdmitted x.now }
     requires run { IsRun x.now before.now }
     requires fits { Fits x.now (instance_of event.now) }
     ensures { OnOk result (text.new ≡
@@ -50,6 +52,7 @@ pub(crate) fn push_known(
     before: &[Event],
     event: &Event,
 ) -> Result<(), NoMemory>
+    requires admitted { IsAdmitted x.now }
     requires run { IsRun x.now before.now }
     requires fits { Fits x.now (instance_of event.now) }
     ensures { OnOk result (text.new ≡
@@ -68,6 +71,7 @@ fn push_known_params(
     event: &Event,
     params: &[ParamInfo],
 ) -> Result<(), NoMemory>
+    requires admitted { IsAdmitted x.now }
     requires run { IsRun x.now before.now }
     requires fits { Fits x.now (instance_of event.now) }
     requires few { length params.now ≤ param_limit }

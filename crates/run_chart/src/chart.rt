@@ -1,4 +1,5 @@
 ghost use Rattle.std.specs.Prelude.{◌≡◌, ◌++◌, OnOk};
+ghost use Rattle.bspl_types.specs.Admission.{IsAdmitted};
 ghost use Rattle.bspl_types.specs.History.{IsRun};
 ghost use Rattle.page_parts.specs.Fragment.{written};
 ghost use Rattle.run_chart.specs.Chart.{chart, chart_body};
@@ -13,7 +14,7 @@ use super::lifelines::{push_described, push_lifelines};
 use super::place::{chart_height, chart_width, rows_end};
 use super::strokes::push_strokes;
 use super::words::push_cut;
-use bspl_types::{Event, Expanded};
+use bspl_types::{Admitted, Event, Expanded};
 use list_base::{Bytes, NoMemory};
 use page_parts::{Piece, param_name, push_pieces};
 use std::alloc::Global;
@@ -23,11 +24,26 @@ use std::alloc::Global;
 pub fn push_chart(
     alloc: Global,
     text: &mut Bytes,
+    a: &Admitted,
+    run: &[Event],
+    finding: Finding,
+) -> Result<(), NoMemory>
+    requires { IsRun a.now run.now }
+    ensures { OnOk result (text.new ≡ text.old ++ written (chart a.now run.now finding)) }
+{
+    push_parts(alloc, text, a.expanded(), run, finding)
+}
+
+/// Appends the parts of the chart, one after another.
+fn push_parts(
+    alloc: Global,
+    text: &mut Bytes,
     x: &Expanded,
     run: &[Event],
     finding: Finding,
 ) -> Result<(), NoMemory>
-    requires { IsRun x.now run.now }
+    requires admitted { IsAdmitted x.now }
+    requires run { IsRun x.now run.now }
     ensures { OnOk result (text.new ≡ text.old ++ written (chart x.now run.now finding)) }
 {
     push_head(text, x, run, finding)?;
@@ -153,7 +169,8 @@ fn push_body(
     run: &[Event],
     finding: Finding,
 ) -> Result<(), NoMemory>
-    requires { IsRun x.now run.now }
+    requires admitted { IsAdmitted x.now }
+    requires run { IsRun x.now run.now }
     ensures { OnOk result (text.new ≡ text.old ++ written (chart_body x.now run.now finding)) }
 {
     push_lifelines(text, x.roles.as_slice(), rows_end(run))?;

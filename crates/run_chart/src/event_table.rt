@@ -1,5 +1,6 @@
 ghost use Rattle.std.specs.Prelude.{◌≡◌, ◌<◌, ◌++◌, length, OnOk};
 ghost use Rattle.std.specs.List.{enumerate_from, flat_map};
+ghost use Rattle.bspl_types.specs.Admission.{IsAdmitted};
 ghost use Rattle.bspl_types.specs.History.{instance_of, IsRun};
 ghost use Rattle.bspl_types.specs.Instance.{Fits};
 ghost use Rattle.page_parts.specs.Fragment.{written};
@@ -21,7 +22,8 @@ pub(crate) fn push_event_table(
     run: &[Event],
     finding: Finding,
 ) -> Result<(), NoMemory>
-    requires { IsRun x.now run.now }
+    requires admitted { IsAdmitted x.now }
+    requires run { IsRun x.now run.now }
     ensures { OnOk result (text.new ≡ text.old ++ written (event_table x.now run.now finding)) }
 {
     push_heads(text)?;
@@ -54,7 +56,8 @@ fn push_rows(
     run: &[Event],
     finding: Finding,
 ) -> Result<(), NoMemory>
-    requires { IsRun x.now run.now }
+    requires admitted { IsAdmitted x.now }
+    requires run { IsRun x.now run.now }
     ensures { OnOk result (text.new ≡ text.old ++
         written (flat_map (event_row x.now run.now finding) (enumerate_from 0 run.now))) }
 {
@@ -74,6 +77,7 @@ fn push_row(
     index: usize,
     event: &Event,
 ) -> Result<(), NoMemory>
+    requires admitted { IsAdmitted x.now }
     requires run { IsRun x.now run.now }
     requires fits { Fits x.now (instance_of event.now) }
     requires within { index < length run.now }

@@ -1,13 +1,16 @@
-ghost use Rattle.std.specs.Prelude.{◌≡◌, [], ◌∷◌, ◌++◌, is_none, IfOk, OnOk};
+ghost use Rattle.std.specs.Prelude.{◌≡◌, ◌++◌, is_none, IfOk, OnOk};
 ghost use Rattle.std.specs.List.{filter, zip};
+ghost use Rattle.bspl_types.specs.Admission.{IsAdmitted};
 ghost use Rattle.bspl_types.specs.Adornment.{valued};
-ghost use Rattle.bspl_types.specs.History.{instance_of, IsRun, role_of};
+ghost use Rattle.bspl_types.specs.History.{instance_of, IsRun};
 ghost use Rattle.bspl_types.specs.Instance.{Fits, pairs};
-ghost use Rattle.run_chart.specs.Knowledge.{field, news, value_before, value_in, value_known};
+ghost use Rattle.run_chart.specs.Knowledge.{field, news, value_before};
 
-use bspl_types::{Carried, Event, Expanded, Instance, Key, Value};
+use super::laws::shows_knowledge;
+use bspl_types::{Carried, Event, Expanded, Instance, Value};
 use list_base::{Bytes, NoMemory, Seq};
 use page_parts::param_name;
+use role_knowledge::{answers_once, knows};
 use std::alloc::Global;
 
 /// A parameter of a message and its value.
@@ -20,6 +23,7 @@ pub(crate) fn news(
     before: &[Event],
     event: &Event,
 ) -> Result<Seq<Pair>, NoMemory>
+    requires admitted { IsAdmitted x.now }
     requires run { IsRun x.now before.now }
     requires fits { Fits x.now (instance_of event.now) }
     ensures { IfOk result (λ list. list ≡ news x.now before.now event.now) }
@@ -36,6 +40,7 @@ fn unknown_pairs(
     event: &Event,
     pairs: &[Pair],
 ) -> Result<Seq<Pair>, NoMemory>
+    requires admitted { IsAdmitted x.now }
     requires run { IsRun x.now before.now }
     requires fits { Fits x.now (instance_of event.now) }
     ensures { IfOk result (λ list. list ≡
@@ -57,11 +62,16 @@ pub(crate) fn value_before(
     event: &Event,
     param: u32,
 ) -> Option<Value>
+    requires admitted { IsAdmitted x.now }
     requires run { IsRun x.now before.now }
     requires fits { Fits x.now (instance_of event.now) }
     ensures { result ≡ value_before x.now before.now event.now param }
 {
-    value_known(x, before, event.role(x), &event.instance().key, param)
+    // law: the value that is shown as known is the first known
+    shows_knowledge();
+    // law: there is one such value
+    answers_once();
+    knows(x, before, event.role(x), &event.instance().key, param)
 }
 
 /// Appends a parameter and its value.
@@ -76,65 +86,6 @@ pub(crate) fn push_field(
     words.append(param_name(x, param))?;
     words.push(b'=')?;
     value.write(words)
-}
-
-/// The value that the role's acts under the key make known first.
-fn value_known(x: &Expanded, events: &[Event], role: u32, key: &Key, param: u32) -> Option<Value>
-    requires { IsRun x.now events.now }
-    ensures { result ≡ value_known x.now events.now role key.now param }
-{
-    for event in events {
-        if let Some(value) = value_from(x, event, role, key, param) {
-            return Some(value);
-        }
-    }
-    None
-}
-
-/// The value that the event alone makes known.
-fn value_from(x: &Expanded, event: &Event, role: u32, key: &Key, param: u32) -> Option<Value>
-    requires { Fits x.now (instance_of event.now) }
-    ensures { result ≡ value_known x.now (event.now ∷ []) role key.now param }
-{
-    if event.role(x) != role {
-        return None;
-    }
-    if !event.instance().key.same(key) {
-        return None;
-    }
-    value_of(x, event.instance(), param)
-}
-
-/// The value of the parameter in the instance.
-fn value_of(x: &Expanded, instance: &Instance, param: u32) -> Option<Value>
-    requires { Fits x.now instance.now }
-    ensures { result ≡ value_in (pairs x.now instance.now) param }
-{
-    let message = x.message_at(instance.message);
-    value_in(
-        message.carried.as_slice(),
-        instance.values.as_slice(),
-        param,
-    )
-}
-
-/// The first value of the parameter.
-fn value_in(carried: &[Carried], values: &[Value], param: u32) -> Option<Value>
-    ensures { result ≡ value_in (zip (valued carried.now) values.now) param }
-{
-    let mut remaining = values;
-    for c in carried {
-        if c.adornment.has_value() {
-            let Some((value, rest)) = remaining.split_first() else {
-                return None;
-            };
-            if c.param == param {
-                return Some(*value);
-            }
-            remaining = rest;
-        }
-    }
-    None
 }
 
 /// Each parameter of the instance that has a value, with it.

@@ -1,5 +1,6 @@
 ghost use Rattle.std.specs.Prelude.{◌≡◌, ◌<◌, ◌++◌, length, OnOk, take};
 ghost use Rattle.std.specs.List.{enumerate_from, flat_map};
+ghost use Rattle.bspl_types.specs.Admission.{IsAdmitted};
 ghost use Rattle.bspl_types.specs.History.{instance_of, IsRun};
 ghost use Rattle.bspl_types.specs.Instance.{Fits};
 ghost use Rattle.page_parts.specs.Fragment.{written};
@@ -26,7 +27,8 @@ pub(crate) fn push_labels(
     run: &[Event],
     finding: Finding,
 ) -> Result<(), NoMemory>
-    requires { IsRun x.now run.now }
+    requires admitted { IsAdmitted x.now }
+    requires run { IsRun x.now run.now }
     ensures { OnOk result (text.new ≡ text.old ++
         written (flat_map (words_at x.now run.now finding) (enumerate_from 0 run.now))) }
 {
@@ -46,6 +48,7 @@ fn push_words_at(
     index: usize,
     event: &Event,
 ) -> Result<(), NoMemory>
+    requires admitted { IsAdmitted x.now }
     requires run { IsRun x.now run.now }
     requires fits { Fits x.now (instance_of event.now) }
     requires within { index < length run.now }
@@ -83,6 +86,7 @@ fn push_label(
     index: usize,
     event: &Event,
 ) -> Result<(), NoMemory>
+    requires admitted { IsAdmitted x.now }
     requires run { IsRun x.now run.now }
     requires fits { Fits x.now (instance_of event.now) }
     requires within { index < length run.now }
@@ -110,6 +114,7 @@ fn push_label_words(
     before: &[Event],
     event: &Event,
 ) -> Result<(), NoMemory>
+    requires admitted { IsAdmitted x.now }
     requires run { IsRun x.now before.now }
     requires fits { Fits x.now (instance_of event.now) }
     ensures { OnOk result (text.new ≡

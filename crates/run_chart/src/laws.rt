@@ -17,7 +17,7 @@ pub fn stubs_are_missing()
     ensures { StubsAreMissing }
 {}
 
-/// A law: what the table shows as known before an event is what its role knows then.
+/// A law: what the table shows as known before an event is what its role knew first.
 pub fn shows_knowledge()
     ensures { ShowsKnowledge }
 {}

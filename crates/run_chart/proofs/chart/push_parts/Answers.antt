@@ -5,7 +5,7 @@ use Rattle.run_chart.specs.Chart.{chart, chart_body}
 use Rattle.run_chart.specs.Frame.{chart_end, chart_head}
 use Rattle.run_chart.specs.EventTable.{event_table}
 use Rattle.run_chart.proofs.WritingLemmas.{then_written}
-use Rattle.run_chart.proofs.chart.push_chart.Goals as goal
+use Rattle.run_chart.proofs.chart.push_parts.Goals as goal
 
 pub returns : goal.returns
 unfolding chart
