@@ -7,7 +7,8 @@ use Rattle.page_parts.specs.Fragment.{Fragment, Tag}
 use Rattle.run_chart.specs.declared.finding.Finding.{Finding}
 use Rattle.run_chart.specs.Drawing.{drawn}
 use Rattle.run_chart.specs.EventTable.{event_table}
-use Rattle.run_chart.specs.Frame.{chart_end, chart_foot, chart_head, lifeline}
+use Rattle.run_chart.specs.Foot.{chart_foot}
+use Rattle.run_chart.specs.Frame.{chart_end, chart_head, lifeline}
 use Rattle.run_chart.specs.Labels.{words_at}
 use Rattle.run_chart.specs.Place.{rows_end}
 use Rattle.run_chart.specs.Strokes.{strokes}

@@ -1,6 +1,6 @@
 -- The table of a run's events: what each is, what it adds to what its role knows, and what the role
 -- knew before it.
-use Rattle.std.specs.Prelude.{ℕ, ◌+◌, Bool, if◌then◌else◌, List, [], ◌∷◌, ◌++◌, codes, take}
+use Rattle.std.specs.Prelude.{ℕ, ◌+◌, if◌then◌else◌, List, [], ◌∷◌, ◌++◌, codes, take}
 use Rattle.std.specs.Prelude.{Option, None, Some}
 use Rattle.std.specs.List.{enumerate_from, flat_map}
 use Rattle.bspl_types.specs.declared.event.Event.{Event}
@@ -11,6 +11,7 @@ use Rattle.bspl_types.specs.Expansion.{message_of}
 use Rattle.page_parts.specs.Fragment.{Fragment, Number, Tag, Words}
 use Rattle.page_parts.specs.Tables.{role_words}
 use Rattle.run_chart.specs.declared.finding.Finding.{Finding}
+use Rattle.run_chart.specs.declared.finding.Finding.TheVariants.{Bad, Clash, Open, Plain}
 use Rattle.run_chart.specs.Knowledge.{field, news, value_before}
 use Rattle.run_chart.specs.Labels.{is_ringed}
 
@@ -44,21 +45,27 @@ known_cell x before event =
     flat_map (λ (p, info). known_item x p (value_before x before event p))
     (enumerate_from 0 x.params)
 
--- what follows an event in words: whether it is one of the two that clash
-abbrev pub act_end : Bool → List ℕ
-act_end ringed =
-    if ringed then codes " <b>clash</b></td><td class=\"v\">" else codes "</td><td class=\"v\">"
+-- what is said of an event that is ringed
+abbrev pub ring_word : Finding → List ℕ
+ring_word (Clash param first second) = codes " <b>clash</b>"
+ring_word (Open param) = []
+ring_word (Bad event) = codes " <b>not allowed</b>"
+ring_word Plain = []
 
--- the number of an event, and the event in words
-abbrev pub event_start : Expanded → ℕ → Event → Bool → List Fragment
-event_start x index event ringed =
+-- it is said of the event at the index if that is ringed
+abbrev pub ring_words : Finding → ℕ → List ℕ
+ring_words finding index = if is_ringed finding index then ring_word finding else []
+
+-- the number of an event, the event in words, and what is said of it
+abbrev pub event_start : Expanded → ℕ → Event → List ℕ → List Fragment
+event_start x index event said =
     Tag (codes "<tr><th scope=\"row\">") ∷ Number (index + 1) ∷ Tag (codes "</th><td>") ∷
-    act x event ++ Tag (act_end ringed) ∷ []
+    act x event ++ Tag said ∷ Tag (codes "</td><td class=\"v\">") ∷ []
 
 -- the row of an event: these, what it adds, and what its role knew before it
 abbrev pub event_row : Expanded → List Event → Finding → ℕ × Event → List Fragment
 event_row x run finding (index, event) =
-    event_start x index event (is_ringed finding index) ++ news_cell x (take index run) event ++
+    event_start x index event (ring_words finding index) ++ news_cell x (take index run) event ++
     (Tag (codes "</td><td class=\"v\">") ∷ []) ++ known_cell x (take index run) event ++
     Tag (codes "</td></tr>\n") ∷ []
 

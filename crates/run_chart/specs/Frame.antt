@@ -1,5 +1,4 @@
--- What stands round the strokes and labels of a chart: title, style, lifelines, and what the run
--- shows.
+-- What stands round the strokes and labels of a chart: title, style and lifelines.
 use Rattle.std.specs.Prelude.{ℕ, List, [], ◌∷◌, ◌++◌, codes, length}
 use Rattle.std.specs.List.{flat_map}
 use Rattle.bspl_types.specs.declared.event.Event.{Event}
@@ -7,7 +6,7 @@ use Rattle.bspl_types.specs.declared.expanded.Expanded.{Expanded}
 use Rattle.bspl_types.specs.Expansion.{param_name}
 use Rattle.page_parts.specs.Fragment.{Fragment, Number, Tag, Words}
 use Rattle.run_chart.specs.declared.finding.Finding.{Finding}
-use Rattle.run_chart.specs.declared.finding.Finding.TheVariants.{Clash, Open}
+use Rattle.run_chart.specs.declared.finding.Finding.TheVariants.{Bad, Clash, Open, Plain}
 use Rattle.run_chart.specs.Labels.{cut}
 use Rattle.run_chart.specs.Place.{chart_height, chart_width, column}
 
@@ -18,6 +17,10 @@ chart_title x (Clash param first second) =
     Tag (codes " both produce ") ∷ Words (param_name x param) ∷ []
 chart_title x (Open param) =
     Tag (codes "Sequence chart: at its end no role knows ") ∷ Words (param_name x param) ∷ []
+chart_title x (Bad event) =
+    Tag (codes "Sequence chart: event ") ∷ Number event ∷
+    Tag (codes " may not follow those before it") ∷ []
+chart_title x Plain = Tag (codes "Sequence chart of a legal run") ∷ []
 
 -- a role's name in the description
 abbrev pub described : List ℕ → List Fragment
@@ -63,24 +66,6 @@ lifeline end (role, name) =
     Tag (codes " 8h80v28h-160v-28zm0 28V") ∷ Number end ∷ Tag (codes "\"/><text x=\"") ∷
     Number (column role) ∷ Tag (codes "\" y=\"27\" text-anchor=\"middle\">") ∷
     cut 20 name ++ Tag (codes "</text>\n") ∷ []
-
--- which parameter the two ringed events produce
-abbrev pub clash_foot : List ℕ → ℕ → List Fragment
-clash_foot name end =
-    Tag (codes "<text x=\"10\" dy=\"22\" y=\"") ∷ Number end ∷
-    Tag (codes "\">ringed: both produce ") ∷ cut 18 name ++ Tag (codes "</text>\n") ∷ []
-
--- which parameter no role knows
-abbrev pub open_foot : List ℕ → ℕ → List Fragment
-open_foot name end =
-    Tag (codes "<path stroke-dasharray=\"6 4\" d=\"M0 ") ∷ Number end ∷
-    Tag (codes "H360\"/><text x=\"10\" dy=\"22\" y=\"") ∷ Number end ∷
-    Tag (codes "\">no role knows ") ∷ cut 18 name ++ Tag (codes "</text>\n") ∷ []
-
--- what the run shows, below the lifelines
-abbrev pub chart_foot : Expanded → ℕ → Finding → List Fragment
-chart_foot x end (Clash param first second) = clash_foot (param_name x param) end
-chart_foot x end (Open param) = open_foot (param_name x param) end
 
 -- what explains the shapes
 abbrev pub chart_end : List Fragment

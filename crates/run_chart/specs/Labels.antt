@@ -9,7 +9,7 @@ use Rattle.bspl_types.specs.Expansion.{message_name, message_of}
 use Rattle.bspl_types.specs.History.{instance_of, role_of}
 use Rattle.page_parts.specs.Fragment.{Fragment, Number, Tag, Words}
 use Rattle.run_chart.specs.declared.finding.Finding.{Finding}
-use Rattle.run_chart.specs.declared.finding.Finding.TheVariants.{Clash, Open}
+use Rattle.run_chart.specs.declared.finding.Finding.TheVariants.{Bad, Clash, Open, Plain}
 use Rattle.run_chart.specs.Drawing.{circle}
 use Rattle.run_chart.specs.Knowledge.{field, news}
 use Rattle.run_chart.specs.Place.{column, row}
@@ -20,10 +20,12 @@ abbrev pub other_role : Expanded → Event → ℕ
 other_role x (Emit i) = (message_of x i.message).receiver
 other_role x (Receive i) = (message_of x i.message).sender
 
--- the event at the index is one of the two that clash
+-- the event at the index is one of the two that clash, or may not follow those before it
 abbrev pub is_ringed : Finding → ℕ → Bool
 is_ringed (Clash param first second) index = index + 1 == first || index + 1 == second
 is_ringed (Open param) index = false
+is_ringed (Bad event) index = index + 1 == event
+is_ringed Plain index = false
 
 -- its ring
 abbrev pub ring : ℕ → ℕ → Bool → List Fragment

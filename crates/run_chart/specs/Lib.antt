@@ -7,5 +7,6 @@ pub mod Knowledge
 pub mod Labels
 pub mod EventTable
 pub mod Frame
+pub mod Foot
 pub mod Chart
 pub mod Laws

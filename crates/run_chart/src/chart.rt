@@ -3,17 +3,16 @@ ghost use Rattle.bspl_types.specs.Admission.{IsAdmitted};
 ghost use Rattle.bspl_types.specs.History.{IsRun};
 ghost use Rattle.page_parts.specs.Fragment.{written};
 ghost use Rattle.run_chart.specs.Chart.{chart, chart_body};
-ghost use Rattle.run_chart.specs.Frame.{chart_description, chart_end, chart_foot, chart_head};
-ghost use Rattle.run_chart.specs.Frame.{chart_start, chart_style, chart_title, clash_foot};
-ghost use Rattle.run_chart.specs.Frame.{open_foot};
+ghost use Rattle.run_chart.specs.Frame.{chart_description, chart_end, chart_head};
+ghost use Rattle.run_chart.specs.Frame.{chart_start, chart_style, chart_title};
 
 use super::event_table::push_event_table;
 use super::finding::Finding;
+use super::foot::push_foot;
 use super::labels::push_labels;
 use super::lifelines::{push_described, push_lifelines};
 use super::place::{chart_height, chart_width, rows_end};
 use super::strokes::push_strokes;
-use super::words::push_cut;
 use bspl_types::{Admitted, Event, Expanded};
 use list_base::{Bytes, NoMemory};
 use page_parts::{Piece, param_name, push_pieces};
@@ -115,6 +114,15 @@ fn push_title(text: &mut Bytes, x: &Expanded, finding: Finding) -> Result<(), No
                 Piece::Words(param_name(x, param)),
             ],
         ),
+        Finding::Bad { event } => push_pieces(
+            text,
+            &[
+                Piece::Tag(b"Sequence chart: event "),
+                Piece::Number(event as u64),
+                Piece::Tag(b" may not follow those before it"),
+            ],
+        ),
+        Finding::Plain => push_pieces(text, &[Piece::Tag(b"Sequence chart of a legal run")]),
     }
 }
 
@@ -177,50 +185,6 @@ fn push_body(
     push_strokes(text, x, run)?;
     push_labels(alloc, text, x, run, finding)?;
     push_foot(text, x, rows_end(run), finding)
-}
-
-/// Appends what the run shows, below the lifelines.
-fn push_foot(text: &mut Bytes, x: &Expanded, end: u64, finding: Finding) -> Result<(), NoMemory>
-    ensures { OnOk result (text.new ≡ text.old ++ written (chart_foot x.now end finding)) }
-{
-    match finding {
-        Finding::Clash { param, .. } => push_clash_foot(text, param_name(x, param), end),
-        Finding::Open { param } => push_open_foot(text, param_name(x, param), end),
-    }
-}
-
-/// Appends what the two ringed events produce.
-fn push_clash_foot(text: &mut Bytes, name: &[u8], end: u64) -> Result<(), NoMemory>
-    ensures { OnOk result (text.new ≡ text.old ++ written (clash_foot name.now end)) }
-{
-    push_pieces(
-        text,
-        &[
-            Piece::Tag(b"<text x=\"10\" dy=\"22\" y=\""),
-            Piece::Number(end),
-            Piece::Tag(b"\">ringed: both produce "),
-        ],
-    )?;
-    push_cut(text, 18, name)?;
-    push_pieces(text, &[Piece::Tag(b"</text>\n")])
-}
-
-/// Appends what no role knows.
-fn push_open_foot(text: &mut Bytes, name: &[u8], end: u64) -> Result<(), NoMemory>
-    ensures { OnOk result (text.new ≡ text.old ++ written (open_foot name.now end)) }
-{
-    push_pieces(
-        text,
-        &[
-            Piece::Tag(b"<path stroke-dasharray=\"6 4\" d=\"M0 "),
-            Piece::Number(end),
-            Piece::Tag(b"H360\"/><text x=\"10\" dy=\"22\" y=\""),
-            Piece::Number(end),
-            Piece::Tag(b"\">no role knows "),
-        ],
-    )?;
-    push_cut(text, 18, name)?;
-    push_pieces(text, &[Piece::Tag(b"</text>\n")])
 }
 
 /// Appends what explains the shapes.

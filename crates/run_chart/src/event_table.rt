@@ -4,11 +4,11 @@ ghost use Rattle.bspl_types.specs.Admission.{IsAdmitted};
 ghost use Rattle.bspl_types.specs.History.{instance_of, IsRun};
 ghost use Rattle.bspl_types.specs.Instance.{Fits};
 ghost use Rattle.page_parts.specs.Fragment.{written};
-ghost use Rattle.run_chart.specs.EventTable.{act, act_end, event_heads, event_row, event_start};
+ghost use Rattle.run_chart.specs.EventTable.{act, event_heads, event_row, event_start};
 ghost use Rattle.run_chart.specs.EventTable.{event_table};
 
 use super::cells::{push_known, push_news};
-use super::finding::{Finding, is_ringed};
+use super::finding::{Finding, ring_words};
 use bspl_types::{Event, Expanded};
 use list_base::{Bytes, NoMemory};
 use page_parts::{Piece, push_pieces, role_name};
@@ -84,25 +84,25 @@ fn push_row(
     ensures { OnOk result (text.new ≡
         text.old ++ written (event_row x.now run.now finding (index, event.now))) }
 {
-    push_event(text, x, index, event, is_ringed(finding, index))?;
+    push_event(text, x, index, event, ring_words(finding, index))?;
     push_news(alloc, text, x, &run[..index], event)?;
     push_pieces(text, &[Piece::Tag(b"</td><td class=\"v\">")])?;
     push_known(alloc, text, x, &run[..index], event)?;
     push_pieces(text, &[Piece::Tag(b"</td></tr>\n")])
 }
 
-/// Appends the number of an event, and the event in words.
+/// Appends the number of an event, the event in words, and what is said of it.
 fn push_event(
     text: &mut Bytes,
     x: &Expanded,
     index: usize,
     event: &Event,
-    ringed: bool,
+    said: &[u8],
 ) -> Result<(), NoMemory>
     requires fits { Fits x.now (instance_of event.now) }
     requires within { index < usize.MAX }
     ensures { OnOk result (text.new ≡
-        text.old ++ written (event_start x.now index event.now ringed)) }
+        text.old ++ written (event_start x.now index event.now said.now)) }
 {
     push_pieces(
         text,
@@ -113,7 +113,10 @@ fn push_event(
         ],
     )?;
     push_act(text, x, event)?;
-    push_pieces(text, &[Piece::Tag(act_end(ringed))])
+    push_pieces(
+        text,
+        &[Piece::Tag(said), Piece::Tag(b"</td><td class=\"v\">")],
+    )
 }
 
 /// Appends the event in words.
@@ -143,15 +146,4 @@ fn push_act(text: &mut Bytes, x: &Expanded, event: &Event) -> Result<(), NoMemor
             Piece::Words(other),
         ],
     )
-}
-
-/// What follows an event in words.
-fn act_end(ringed: bool) -> &'static [u8]
-    ensures { result.now ≡ act_end ringed }
-{
-    if ringed {
-        b" <b>clash</b></td><td class=\"v\">"
-    } else {
-        b"</td><td class=\"v\">"
-    }
 }

@@ -1,5 +1,6 @@
 ghost use Rattle.std.specs.Prelude.{◌≡◌, ◌<◌};
 ghost use Rattle.run_chart.specs.Labels.{is_ringed};
+ghost use Rattle.run_chart.specs.EventTable.{ring_words};
 
 /// What a run shows of a protocol.
 #[derive(Clone, Copy, Debug)]
@@ -14,15 +15,37 @@ pub enum Finding {
     Open {
         param: u32,
     },
+    /// The event, counted from 1, may not follow those before it.
+    Bad {
+        event: usize,
+    },
+    /// Nothing that is marked.
+    Plain,
 }
 
-/// Whether the event at the index is one of two that clash.
+/// Whether the event at the index is ringed: it is one of two that clash, or may not follow.
 pub(crate) fn is_ringed(finding: Finding, index: usize) -> bool
     requires { index < usize.MAX }
     ensures { result ≡ is_ringed finding index }
 {
     match finding {
         Finding::Clash { first, second, .. } => index + 1 == first || index + 1 == second,
-        Finding::Open { .. } => false,
+        Finding::Bad { event } => index + 1 == event,
+        Finding::Open { .. } | Finding::Plain => false,
+    }
+}
+
+/// What the table says of the event at the index, if it is ringed.
+pub(crate) fn ring_words(finding: Finding, index: usize) -> &'static [u8]
+    requires { index < usize.MAX }
+    ensures { result.now ≡ ring_words finding index }
+{
+    if !is_ringed(finding, index) {
+        return b"";
+    }
+    match finding {
+        Finding::Clash { .. } => b" <b>clash</b>",
+        Finding::Bad { .. } => b" <b>not allowed</b>",
+        Finding::Open { .. } | Finding::Plain => b"",
     }
 }

@@ -6,6 +6,7 @@ mod chart;
 mod circle;
 mod event_table;
 mod finding;
+mod foot;
 mod knowledge;
 mod labels;
 mod laws;

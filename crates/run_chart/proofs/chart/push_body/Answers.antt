@@ -1,7 +1,8 @@
 -- The lifelines, the strokes, the words and the foot, one after another.
 use Rattle.std.proofs.Common.{◌≡◌, ◌++◌, length, List, ℕ, OnOk, subst, ◌∙◌}
 use Rattle.std.specs.List.{enumerate_from, flat_map}
-use Rattle.run_chart.specs.Frame.{chart_foot, lifeline}
+use Rattle.run_chart.specs.Foot.{chart_foot}
+use Rattle.run_chart.specs.Frame.{lifeline}
 use Rattle.run_chart.specs.Drawing.{drawn}
 use Rattle.run_chart.specs.Labels.{words_at}
 use Rattle.run_chart.specs.Place.{rows_end}

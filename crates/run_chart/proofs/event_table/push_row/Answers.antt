@@ -1,8 +1,7 @@
 -- The event and both cells, one after another.
 use Rattle.std.proofs.Common.{◌≡◌, ◌∷◌, [], ◌++◌, codes, take, List, ℕ, OnOk, subst, ◌∙◌}
 use Rattle.page_parts.specs.Fragment.{Fragment, Tag}
-use Rattle.run_chart.specs.EventTable.{event_start, known_cell, news_cell}
-use Rattle.run_chart.specs.Labels.{is_ringed}
+use Rattle.run_chart.specs.EventTable.{event_start, known_cell, news_cell, ring_words}
 use Rattle.run_chart.proofs.WritingLemmas.{then_written}
 use Rattle.run_chart.proofs.event_table.push_row.Goals as goal
 
@@ -13,12 +12,12 @@ returns c =
     let event = c.args.event.now in
     let index = c.args.index in
     let before = take index c.args.run.now in
-    let start = event_start x index event (is_ringed c.args.finding index) in
+    let start = event_start x index event (ring_words c.args.finding index) in
     let new = news_cell x before event in
     let middle : List Fragment = Tag (codes "</td><td class=\"v\">") ∷ [] in
     let known = known_cell x before event in
     let last : List Fragment = Tag (codes "</td></tr>\n") ∷ [] in
-    let one = rw c.is_ringed.ensures at c.in_ok-push_event.ensures in
+    let one = rw c.ring_words.ensures at c.in_ok-push_event.ensures in
     let two = c.in_ok-push_news.ensures ∙ then_written old _ start new one in
     let three = c.in_ok-push_pieces.ensures ∙ then_written old _ (start ++ new) middle two in
     let four = c.in_ok-push_known.ensures ∙ then_written old _ ((start ++ new) ++ middle) known three in
