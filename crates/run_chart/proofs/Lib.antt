@@ -1,4 +1,5 @@
 -- Written fragments, strokes event by event and what they show, and what events make known.
+pub mod ArrowLemmas
 pub mod IndexLemmas
 pub mod KnowledgeLemmas
 pub mod KnownLemmas

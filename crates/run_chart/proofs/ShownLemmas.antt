@@ -75,7 +75,7 @@ same_is i j same =
     λ t. record { message = message t; key = key t; values = values t }
 
 -- and one instance passes it
-is_same : (i : Instance) → same_instance i i ≡ true
+pub is_same : (i : Instance) → same_instance i i ≡ true
 is_same i = rw ((Decides-eqb i.message i.message).1 refl, (equal_values_decides i.key i.key).1 refl, (equal_values_decides i.values i.values).1 refl) refl
 
 -- what passes as an emission of the instance is that

@@ -1,5 +1,5 @@
 -- What a chart shows of a run. Each statement is the contract of a function.
-use Rattle.std.specs.Prelude.{◌≡◌, ℕ, List, Option, None, Some, MatchOption, slice_get}
+use Rattle.std.specs.Prelude.{◌≡◌, ℕ, ◌<◌, List, Option, None, Some, MatchOption, slice_get}
 use Rattle.std.specs.List.{Contains, enumerate_from, filter_map}
 use Rattle.bspl_types.specs.declared.event.Event.{Event}
 use Rattle.bspl_types.specs.declared.event.Event.TheVariants.{Emit, Receive}
@@ -9,6 +9,7 @@ use Rattle.bspl_types.specs.declared.value.Value.{Value}
 use Rattle.bspl_types.specs.Expansion.{message_of}
 use Rattle.bspl_types.specs.History.{history_of}
 use Rattle.bspl_types.specs.Knowledge.{IsKnown}
+use Rattle.enactment_model.specs.Legal.{IsLegal}
 use Rattle.role_knowledge.specs.FirstKnown.{IsFirstKnown}
 use Rattle.run_chart.specs.Knowledge.{value_known}
 use Rattle.run_chart.specs.Strokes.{Arrow, Mark, Stroke, Stub, strokes}
@@ -40,6 +41,20 @@ ArrowsJoinInstances =
     (x : Expanded) (run : List Event) (sent sender received receiver : ℕ) →
     Contains (strokes x run) (Arrow sent sender received receiver) →
     JoinsInstance x run sent sender received receiver
+
+-- an arrow leads from an earlier emission of the instance to the index, between the roles of its
+-- message
+pub record HasArrow (x : Expanded) (run : List Event) (received : ℕ) (i : Instance) : Type 0 where
+  pub sent : ℕ
+  pub earlier : sent < received
+  pub drawn : Contains (strokes x run)
+      (Arrow sent (message_of x i.message).sender received (message_of x i.message).receiver)
+
+-- so it is for each reception of a legal run
+abbrev pub ReceptionsHaveArrows : Type 0
+ReceptionsHaveArrows =
+    (x : Expanded) (run : List Event) (received : ℕ) (i : Instance) → IsLegal x run →
+    slice_get run received ≡ Some (Receive i) → HasArrow x run received i
 
 -- a stub begins at an emission that the run does not receive
 pub record IsMissing (x : Expanded) (run : List Event) (sent sender receiver : ℕ) : Type 0 where

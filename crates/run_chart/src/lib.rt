@@ -18,4 +18,7 @@ mod words;
 
 pub use chart::push_chart;
 pub use finding::Finding;
-pub use laws::{arrows_join_instances, marks_are_the_events, shows_knowledge, stubs_are_missing};
+pub use laws::{
+    arrows_join_instances, marks_are_the_events, receptions_have_arrows, shows_knowledge,
+    stubs_are_missing,
+};
