@@ -1,0 +1,104 @@
+ghost use Rattle.std.specs.Prelude.{◌≡◌, ◌≤◌, ◌++◌, length, OnOk};
+ghost use Rattle.bspl_types.specs.History.{IsRun};
+ghost use Rattle.enactment_model.specs.Legal.{IsLegal};
+ghost use Rattle.page_parts.specs.Fragment.{written};
+ghost use Rattle.page_sections.specs.RunSection.{AppendsRun, illegal_section, legal_section};
+
+use super::found::finding_of;
+use super::words::{push_illegal_words, push_legal_words, push_report};
+use bspl_types::{Admitted, Event};
+use enactment_model::{Conflict, Why};
+use list_base::{Bytes, NoMemory};
+use run_chart::{Finding, push_chart};
+use run_index::{RunIndex, legal, producers};
+use std::alloc::Global;
+
+/// Appends the section of the run, and in it the lines of a report on it: a legal run as a whole,
+/// and an illegal one up to the first event that may not follow those before it.
+pub fn push_run(
+    alloc: Global,
+    text: &mut Bytes,
+    a: &Admitted,
+    run: &[Event],
+    report: &[u8],
+) -> Result<(), NoMemory>
+    requires { IsRun a.now run.now }
+    ensures { OnOk result (AppendsRun a.now run.now report.now text.old text.new) }
+{
+    let index = RunIndex::of(alloc, run)?;
+    push_along(alloc, text, a, &index, report)
+}
+
+/// Appends the section of the run along its index.
+fn push_along(
+    alloc: Global,
+    text: &mut Bytes,
+    a: &Admitted,
+    index: &RunIndex<'_>,
+    report: &[u8],
+) -> Result<(), NoMemory>
+    requires { IsRun a.now index.now }
+    ensures { OnOk result (AppendsRun a.now index.now report.now text.old text.new) }
+{
+    let answer = legal(alloc, a.expanded(), index)?;
+    let run = index.events();
+    match answer {
+        Ok(()) => push_legal(alloc, text, a, index, report),
+        Err(bad) => push_illegal(alloc, text, a, run, bad.place, bad.why, report),
+    }
+}
+
+/// Appends the section of an illegal run.
+fn push_illegal(
+    alloc: Global,
+    text: &mut Bytes,
+    a: &Admitted,
+    run: &[Event],
+    place: usize,
+    why: Why,
+    report: &[u8],
+) -> Result<(), NoMemory>
+    requires fits { IsRun a.now run.now }
+    requires within { place ≤ length run.now }
+    ensures { OnOk result (text.new ≡ text.old ++ written
+        (illegal_section a.now run.now (record { place = place; why = why }) report.now)) }
+{
+    let finding = Finding::Bad { event: place };
+    push_illegal_words(alloc, text, a.expanded(), place, why)?;
+    push_chart(alloc, text, a, &run[..place], finding)?;
+    push_report(text, report)
+}
+
+/// Appends the section of a legal run.
+fn push_legal(
+    alloc: Global,
+    text: &mut Bytes,
+    a: &Admitted,
+    index: &RunIndex<'_>,
+    report: &[u8],
+) -> Result<(), NoMemory>
+    requires fits { IsRun a.now index.now }
+    requires legal { IsLegal a.now index.now }
+    ensures { OnOk result (AppendsRun a.now index.now report.now text.old text.new) }
+{
+    let found = producers(alloc, a.expanded(), index)?;
+    push_found(alloc, text, a, index.events(), found, report)
+}
+
+/// Appends the section of a legal run with this conflict, or without one.
+fn push_found(
+    alloc: Global,
+    text: &mut Bytes,
+    a: &Admitted,
+    run: &[Event],
+    found: Option<Conflict>,
+    report: &[u8],
+) -> Result<(), NoMemory>
+    requires { IsRun a.now run.now }
+    ensures { OnOk result (text.new ≡
+        text.old ++ written (legal_section a.now run.now found report.now)) }
+{
+    push_legal_words(text, a.expanded(), found)?;
+    push_chart(alloc, text, a, run, finding_of(found))?;
+    push_report(text, report)
+}
