@@ -1,6 +1,7 @@
 """Writes the page of a protocol, from what docs/LANGUAGE.md says of a page and from the definitions of page_parts,
-page_text and run_chart: of a protocol text without references, as `bspl expand` prints it, and of verdicts, as
-`bspl verify --brief` prints them. It shares nothing with the program."""
+page_sections, page_text and run_chart: of a protocol text without references, as `bspl expand` prints it, of verdicts
+and dead messages, as `bspl verify --brief` and `bspl dead --brief` print them, and of a run text and what `bspl replay`
+prints of it. It shares nothing with the program."""
 import re
 from pathlib import Path
 from typing import NamedTuple
@@ -56,7 +57,8 @@ def cut(most, text):
 
 
 class Chart:
-    """The chart of a run. A finding is ("clash", parameter, first, second) or ("open", parameter)."""
+    """The chart of a run. A finding is ("clash", parameter, first, second), ("open", parameter), ("bad", event) or
+    ("plain",)."""
 
     def __init__(self, protocol, run, finding):
         self.protocol, self.run, self.finding = protocol, run, finding
@@ -83,7 +85,7 @@ class Chart:
         return [(name, value) for name, value in self.run[k].values if name not in known]
 
     def is_ringed(self, k):
-        return self.finding[0] == "clash" and k + 1 in self.finding[2:]
+        return self.finding[0] == "clash" and k + 1 in self.finding[2:] or self.finding == ("bad", k + 1)
 
     def is_missing(self, event):
         return event.act == "send" and event._replace(act="receive") not in self.run
@@ -124,21 +126,30 @@ class Chart:
         event = self.run[k]
         sender, receiver, _ = self.protocol.messages[event.message]
         act = (sender, "sends", "to", receiver) if event.act == "send" else (receiver, "receives", "from", sender)
-        clash = " <b>clash</b>" if self.is_ringed(k) else ""
+        mark = "clash" if self.finding[0] == "clash" else "not allowed"
+        clash = f" <b>{mark}</b>" if self.is_ringed(k) else ""
         cells = ["".join(f"<span>{words(f'{name}={value}')}</span> " for name, value in pairs) for pairs in (self.news(k), self.known(k))]
         said = f"{words(act[0])} {act[1]} {words(event.message)} {act[2]} {words(act[3])}"
         return f'<tr><th scope="row">{k + 1}</th><td>{said}{clash}</td><td class="v">{cells[0]}</td><td class="v">{cells[1]}</td></tr>\n'
 
     def foot(self):
+        if self.finding[0] == "plain":
+            return ""
+        if self.finding[0] == "bad":
+            return f'<text x="10" dy="22" y="{self.end}">ringed: may not follow those before it</text>\n'
         name = cut(FOOT, self.finding[1])
         if self.finding[0] == "clash":
             return f'<text x="10" dy="22" y="{self.end}">ringed: both produce {name}</text>\n'
-        line = f'<path stroke-dasharray="6 4" d="M0 {self.end}H360"/>'
+        line = f'<path stroke-dasharray="6 4" d="M0 {self.end}H{180 * max(2, len(self.protocol.roles))}"/>'
         return f'{line}<text x="10" dy="22" y="{self.end}">no role knows {name}</text>\n'
 
     def title(self):
         if self.finding[0] == "clash":
             return f"Sequence chart: events {self.finding[2]} and {self.finding[3]} both produce {words(self.finding[1])}"
+        if self.finding[0] == "bad":
+            return f"Sequence chart: event {self.finding[1]} may not follow those before it"
+        if self.finding[0] == "plain":
+            return "Sequence chart of a legal run"
         return f"Sequence chart: at its end no role knows {words(self.finding[1])}"
 
     def text(self):
@@ -240,6 +251,50 @@ def verdicts_of(text):
             found[3].append(line)
 
 
+def why(reason):
+    """Why an event may not follow those before it, from the words of `bspl replay`."""
+    if reason[0] == "missing":
+        return f"its sender does not know <b>{words(reason[1])}</b>"
+    if reason[0] == "bound":
+        return f"its sender knows <b>{words(reason[1])}</b> already, as {words(reason[2])}"
+    if reason[0] == "other":
+        return f"its sender knows <b>{words(reason[1])}</b> with the value {words(reason[2])}"
+    return "what is received was not sent before"
+
+
+def run_section(protocol, run, report):
+    """The section of a run that is given: the lines of its events, and what `bspl replay` prints of it."""
+    first, second, *_ = [line.split(" ") for line in report.splitlines()] + [[]]
+    events = run_of(run)
+    legal = "<h2>Run: legal</h2>\n<p>Each event of the run may follow those before it"
+    if first[0] == "illegal":
+        finding, events = ("bad", int(first[1])), events[: int(first[1])]
+        said = (
+            f"<h2>Run: illegal</h2>\n<p>Event {first[1]} of the run, with which the chart ends, may not follow those before it: "
+            f"{why(first[2:])}.</p>\n"
+        )
+    elif second[0] == "conflict":
+        finding = ("clash", second[1], int(second[2]), int(second[3]))
+        said = f"{legal}. Events {second[2]} and {second[3]} both produce <b>{words(second[1])}</b> in one enactment.</p>\n"
+    else:
+        finding = ("plain",)
+        said = f"{legal}, and none produces what another has produced in the same enactment.</p>\n"
+    lines = f"<p>The lines of <code>bspl replay</code>:</p>\n<pre>{words(report)}</pre>\n"
+    return said + Chart(protocol, events, finding).text() + lines
+
+
+def fates(dead):
+    """Which messages are dead, from the lines of `bspl dead --brief`."""
+    found = [line.split(" ")[1:3] for line in dead.splitlines()[1:]]
+    listed = "".join(f"<li>{words(name)}: {fate}</li>\n" for name, fate in found if fate != "enacted")
+    if not listed:
+        return "<h2>Dead messages: none</h2>\n<p>For each message there is a legal run that sends it.</p>\n"
+    return (
+        "<h2>Dead messages</h2>\n<p>A message is dead if no legal run sends it. For each message that is not listed there is one "
+        f"that does.</p>\n<ul>\n{listed}</ul>\n"
+    )
+
+
 def tables(protocol):
     keys = dict(protocol.params)
     out = [
@@ -270,13 +325,15 @@ def tables(protocol):
     return "".join(out) + "</tbody>\n</table>\n"
 
 
-def page(text, verdicts):
-    """The page of the protocol of the text with these verdicts."""
+def page(text, verdicts, dead, run=None, report=""):
+    """The page of the protocol of the text with these verdicts and dead messages, and the lines of a run's events with what
+    `bspl replay` prints of it."""
     protocol, found = protocol_of(text), list(verdicts_of(verdicts))
     said = {property_: verdict.replace("-", " ") for property_, verdict, _, _ in found}
     title = f"{words(protocol.name)}: safety {said['safety']}, liveness {said['liveness']}"
     return (
         '<!DOCTYPE html>\n<html lang="en">\n<head>\n<meta charset="utf-8">\n<meta name="viewport" content="width=device-width">\n'
         f"<title>{title}</title>\n{STYLE}</head>\n<body>\n<h1>{title}</h1>\n"
-        f"{''.join(section(protocol, *one) for one in found)}{tables(protocol)}</body>\n</html>\n"
+        f"{''.join(section(protocol, *one) for one in found)}"
+        f"{'' if run is None else run_section(protocol, run, report)}{fates(dead)}{tables(protocol)}</body>\n</html>\n"
     )

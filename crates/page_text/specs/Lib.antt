@@ -1,3 +1,4 @@
--- The page, and its sections for the two verdicts.
-pub mod Page
+-- The page, its sections for the two verdicts, and the run that was given.
 pub mod Sections
+pub mod Page
+pub mod Given

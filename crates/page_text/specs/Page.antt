@@ -1,4 +1,4 @@
--- The page of a protocol and of the verdicts on it.
+-- The page of a protocol, of the verdicts on it, and of a run that was given.
 use Rattle.std.specs.Prelude.{ℕ, List, [], ◌∷◌, ◌++◌, codes}
 use Rattle.bspl_types.specs.declared.expanded.Expanded.{Expanded}
 use Rattle.verdict.specs.declared.outcome.Liveness.{Liveness}
@@ -9,6 +9,8 @@ use Rattle.verdict.specs.declared.outcome.Verdicts.{Verdicts}
 use Rattle.page_parts.specs.Fragment.{Fragment, Tag, Words}
 use Rattle.page_parts.specs.Style.{style}
 use Rattle.page_parts.specs.Tables.{message_table, source_table}
+use Rattle.page_sections.specs.declared.fate.Fate.{Fate}
+use Rattle.page_sections.specs.Fates.{fates_section}
 use Rattle.page_text.specs.Sections.{liveness_section, safety_section}
 
 -- the verdict on safety in a word
@@ -49,8 +51,17 @@ page_head name =
     page_start ++ name ++ title_end ++ style ++ style_end ++ name ++
     Tag (codes "</h1>\n") ∷ []
 
--- the page: the title, both verdicts with their evidence, the messages, and what roles can learn
-abbrev pub page : Expanded → Verdicts → List Fragment
-page x v =
-    page_head (title x v) ++ safety_section x v.safety ++ liveness_section x v.liveness ++
-    message_table x ++ source_table x ++ Tag (codes "</body>\n</html>\n") ∷ []
+-- the title, and both verdicts with their evidence
+abbrev pub page_verdicts : Expanded → Verdicts → List Fragment
+page_verdicts x v =
+    page_head (title x v) ++ safety_section x v.safety ++ liveness_section x v.liveness
+
+-- which messages are dead, the messages, and what roles can learn
+abbrev pub page_tables : Expanded → List Fate → List Fragment
+page_tables x fates =
+    fates_section x fates ++ message_table x ++ source_table x ++
+    Tag (codes "</body>\n</html>\n") ∷ []
+
+-- the page: these, and between them the section of a run that was given
+abbrev pub page : Expanded → Verdicts → List Fate → List Fragment → List Fragment
+page x v fates shown = page_verdicts x v ++ shown ++ page_tables x fates

@@ -1,30 +1,62 @@
 ghost use Rattle.std.specs.Prelude.{◌≡◌, ◌++◌, map, IfOk, OnOk};
 ghost use Rattle.page_parts.specs.Fragment.{written};
-ghost use Rattle.page_text.specs.Page.{page, page_head, page_start, title};
+ghost use Rattle.page_text.specs.Given.{HasFittingEvents, IsPageWith};
+ghost use Rattle.page_text.specs.Page.{page_head, page_start, page_tables, page_verdicts, title};
 ghost use Rattle.page_parts.specs.Piece.{fragment_of};
 ghost use Rattle.report.specs.VerdictText.{HaveFittingRuns};
 
+use super::given::{GivenRun, push_given};
 use super::verdicts::{liveness_word, push_liveness, push_safety, safety_word};
 use bspl_types::{Admitted, Expanded};
 use list_base::{Bytes, NoMemory};
 use page_parts::{Piece, push_messages, push_pieces, push_sources, push_style};
+use page_sections::{Fate, push_fates};
 use std::alloc::Global;
 use verdict::Verdicts;
 
-/// The page of the verdicts: one file that needs no other.
-pub fn page_text(alloc: Global, a: &Admitted, v: &Verdicts) -> Result<Bytes, NoMemory>
-    requires { HaveFittingRuns a.now v.now }
-    ensures { IfOk result (λ text. text ≡ written (page a.now v.now)) }
+/// The page of the verdicts, of what becomes of each message, and of a run that was given: one file
+/// that needs no other.
+pub fn page_text(
+    alloc: Global,
+    a: &Admitted,
+    v: &Verdicts,
+    fates: &[Fate],
+    given: Option<GivenRun<'_>>,
+) -> Result<Bytes, NoMemory>
+    requires verdicts { HaveFittingRuns a.now v.now }
+    requires given { HasFittingEvents a.now given }
+    ensures { IfOk result (IsPageWith a.now v.now fates.now given) }
 {
-    let x = a.expanded();
     let mut text = Bytes::new(alloc);
-    push_title(&mut text, x, v)?;
-    push_safety(alloc, &mut text, a, &v.safety)?;
-    push_liveness(alloc, &mut text, a, &v.liveness)?;
-    push_messages(&mut text, x)?;
-    push_sources(&mut text, x)?;
-    push_pieces(&mut text, &[Piece::Tag(b"</body>\n</html>\n")])?;
+    push_verdicts(alloc, &mut text, a, v)?;
+    push_given(alloc, &mut text, a, given)?;
+    push_tables(&mut text, a.expanded(), fates)?;
     Ok(text)
+}
+
+/// Appends the beginning of the page, and both verdicts.
+fn push_verdicts(
+    alloc: Global,
+    text: &mut Bytes,
+    a: &Admitted,
+    v: &Verdicts,
+) -> Result<(), NoMemory>
+    requires { HaveFittingRuns a.now v.now }
+    ensures { OnOk result (text.new ≡ text.old ++ written (page_verdicts a.now v.now)) }
+{
+    push_title(text, a.expanded(), v)?;
+    push_safety(alloc, text, a, &v.safety)?;
+    push_liveness(alloc, text, a, &v.liveness)
+}
+
+/// Appends the dead messages, the tables, and the end of the page.
+fn push_tables(text: &mut Bytes, x: &Expanded, fates: &[Fate]) -> Result<(), NoMemory>
+    ensures { OnOk result (text.new ≡ text.old ++ written (page_tables x.now fates.now)) }
+{
+    push_fates(text, x, fates)?;
+    push_messages(text, x)?;
+    push_sources(text, x)?;
+    push_pieces(text, &[Piece::Tag(b"</body>\n</html>\n")])
 }
 
 /// Appends the beginning of the page of the verdicts.

@@ -1,2 +1,4 @@
+pub mod AnswerLemmas
+pub mod FateLemmas
 pub mod PageLemmas
 pub mod ReplyLemmas

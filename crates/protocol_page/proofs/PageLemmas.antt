@@ -1,5 +1,6 @@
 -- What a page says of a protocol is true.
-use Rattle.std.proofs.Common.{◌≡◌, ℕ, List, refl}
+use Rattle.std.proofs.Common.{◌≡◌, ℕ, List, Option, refl}
+use Rattle.bspl_types.specs.declared.event.Event.{Event}
 use Rattle.bspl_types.specs.declared.expanded.Expanded.{Expanded}
 use Rattle.enactment_model.specs.Liveness.{LiveProtocol}
 use Rattle.enactment_model.specs.Safety.{SafeProtocol}
@@ -33,7 +34,7 @@ right_live : (x : Expanded) (l : Liveness) (log : Log) → l ≡ liveness.Live l
 right_live x l log is right = (rw is at right).holds
 
 -- so is the status 0
-pub done_true : (x : Expanded) (out : List ℕ) → IsPageAnswer x out status.Done → SafeProtocol x × LiveProtocol x
-done_true x out answer =
+pub done_true : (x : Expanded) (given : Option (List Event)) (out : List ℕ) → IsPageAnswer x given out status.Done → SafeProtocol x × LiveProtocol x
+done_true x given out answer =
     let both = both_done answer.verdicts.safety answer.verdicts.liveness answer.ends in
     (right_safe x answer.verdicts.safety both.0.0 both.0.1 answer.right.safety, right_live x answer.verdicts.liveness both.1.0 both.1.1 answer.right.liveness)

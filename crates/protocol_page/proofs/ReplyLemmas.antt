@@ -1,17 +1,20 @@
 -- The outputs of a call, from its replies.
-use Rattle.std.proofs.Common.{◌≡◌, ℕ, ◌<◌, Bool, List, length, Option, Some, None, sym, ◌∙◌}
+use Rattle.std.proofs.Common.{◌≡◌, ℕ, ◌<◌, ◌≤◌, Bool, List, length, Option, Some, None, inl, inr, sym, ◌∙◌}
 use Rattle.std.specs.Prelude.{◌↔◌, IsTrue, is_some}
 use Rattle.std.specs.Borrow.{Bor}
 use Rattle.std.proofs.lemmas.Bool.{false≢true}
+use Rattle.bspl_types.specs.declared.expanded.Expanded.{Expanded}
 use Rattle.bspl_types.specs.Limits.{input_limit}
 use Rattle.program_frame.specs.declared.reply.Reply.{Reply}
 use Rattle.tool_input.specs.declared.status.Status.{Status}
 use Rattle.tool_input.specs.declared.status.Status.TheVariants.{Refused, Usage}
+use Rattle.tool_input.specs.Input.{Declares}
+use Rattle.tool_input.specs.Parts.{protocol_text}
 use Rattle.tool_input.specs.Rejection.{over_limit, rejection_line}
 use Rattle.protocol_page.specs.Call.{AsksForInput}
-use Rattle.protocol_page.specs.Output.{PageOutput, answered, page_usage, refused, too_long, usage}
+use Rattle.protocol_page.specs.Output.{PageOutput, answered, page_usage, refused, run, too_long, usage}
 use Rattle.protocol_page.specs.Request.{IsUsage, Requests}
-use Rattle.protocol_page.specs.inner.Reply.{IsReply}
+use Rattle.protocol_page.specs.inner.Reply.{IsPartReply, IsReply}
 use Rattle.protocol_page.specs.inner.Request.{IsRequest}
 
 -- the usage line is an output of invalid arguments
@@ -22,6 +25,13 @@ usage_output args bytes reply invalid is = rw (is.is_text, is.is_status) (usage 
 pub long_output : (args : List (List ℕ)) (bytes : List ℕ) (reply : Reply Status) → AsksForInput args → input_limit < length bytes → IsReply (rejection_line (over_limit input_limit)) Refused reply → PageOutput args bytes reply.text reply.status
 long_output args bytes reply (name, requests) long is =
     rw (is.is_text, is.is_status) (refused name (over_limit input_limit) requests (too_long long))
+
+-- the reply on the protocol that the input declares is its output
+pub part_output : (args : List (List ℕ)) (name input : List ℕ) (x : Expanded) (reply : Reply Status) → Requests args name → length input ≤ input_limit → Declares name (protocol_text input) x → IsPartReply x input reply → PageOutput args input reply.text reply.status
+part_output args name input x reply requests short declared (inl page) =
+    answered name reply.text reply.status requests (record { short = short; protocol = x; declared = declared; given = page.given; gives = page.gives; answer = page.answer })
+part_output args name input x reply requests short declared (inr bad) =
+    rw (bad.is_line.is_text, bad.is_line.is_status) (refused name bad.rejection requests (run x bad.rejection short declared bad.refuses))
 
 -- what is answered to arguments that ask for no input is right for each input
 pub unasked_output : (args : List (List ℕ)) → ¬ AsksForInput args → (bytes other out : List ℕ) (status : Status) → PageOutput args bytes out status → PageOutput args other out status

@@ -1,26 +1,18 @@
--- The sections are written one after another.
-use Rattle.std.proofs.Common.{◌≡◌, ◌∷◌, [], ◌++◌, codes, List, ℕ, ap, subst, ◌∙◌}
-use Rattle.bspl_types.specs.declared.expanded.Expanded.{Expanded}
-use Rattle.page_parts.specs.Fragment.{Fragment, Tag, written}
-use Rattle.page_parts.specs.Tables.{message_table, source_table}
+-- The verdicts, the run that was given, and the tables.
+use Rattle.std.proofs.Common.{◌≡◌, ◌∷◌, [], ◌++◌, List, ℕ, ap, ◌∙◌}
+use Rattle.page_parts.specs.Fragment.{written}
 use Rattle.page_text.proofs.WritingLemmas.{written_all}
-use Rattle.page_text.specs.Page.{page_head, title}
-use Rattle.page_text.specs.Sections.{liveness_section, safety_section}
+use Rattle.page_text.specs.Page.{page_tables, page_verdicts}
 use Rattle.page_text.proofs.page.page_text.Goals as goal
 
 pub returns : goal.returns
 returns c =
-    let x = c.expanded-x.result.now in
+    let x = c.args.a.now in
     let v = c.args.v.now in
-    let head = page_head (title x v) in
-    let safety = safety_section c.args.a.now v.safety in
-    let liveness = liveness_section c.args.a.now v.liveness in
-    let last : List Fragment = Tag (codes "</body>\n</html>\n") ∷ [] in
-    let one = c.in_ok-push_title.ensures ∙ ap (λ (ys : List ℕ). ys ++ written head) c.new-text.ensures in
-    let two = c.in_ok-push_safety.ensures ∙ ap (λ (ys : List ℕ). ys ++ written safety) one in
-    let three = c.in_ok-push_liveness.ensures ∙ ap (λ (ys : List ℕ). ys ++ written liveness) two in
-    let four = c.in_ok-push_messages.ensures ∙ ap (λ (ys : List ℕ). ys ++ written (message_table x)) three in
-    let five = c.in_ok-push_sources.ensures ∙ ap (λ (ys : List ℕ). ys ++ written (source_table x)) four in
-    let six = c.in_ok-push_pieces.ensures ∙ ap (λ (ys : List ℕ). ys ++ written last) five in
-    subst (λ (shown : Expanded). c.push_pieces.new.text ≡ written (page_head (title shown v) ++ safety ++ liveness ++ message_table shown ++ source_table shown ++ last)) c.expanded-x.ensures.same
-    (six ∙ written_all [] head (safety ∷ liveness ∷ message_table x ∷ source_table x ∷ last ∷ []))
+    let given = c.in_ok-push_given.ensures in
+    let verdicts = page_verdicts x v in
+    let tables = page_tables x c.args.fates.now in
+    let one = c.in_ok-push_verdicts.ensures ∙ ap (λ (ys : List ℕ). ys ++ written verdicts) c.new-text.ensures in
+    let two = given.text ∙ ap (λ (ys : List ℕ). ys ++ written given.shown) one in
+    let three = (rw c.expanded.ensures.same at c.in_ok-push_tables.ensures) ∙ ap (λ (ys : List ℕ). ys ++ written tables) two in
+    record { shown = given.shown; shows = given.shows; is_page = three ∙ written_all [] verdicts (given.shown ∷ tables ∷ []) }

@@ -5,17 +5,18 @@ use Rattle.program_frame.specs.declared.reply.Reply.{Reply}
 use Rattle.tool_input.specs.declared.status.Status.{Status}
 use Rattle.tool_input.specs.declared.status.Status.TheVariants as status
 use Rattle.tool_input.specs.Rejection.{rejection_line, text_rejection}
-use Rattle.protocol_page.specs.Answer.{IsPageAnswer}
-use Rattle.protocol_page.specs.Output.{PageOutput, answered, refused, text}
+use Rattle.protocol_page.specs.Output.{PageOutput, refused, text}
+use Rattle.protocol_page.specs.inner.Reply.{IsPartReply}
+use Rattle.protocol_page.proofs.ReplyLemmas.{part_output}
 use Rattle.protocol_page.proofs.reply.page_reply.Goals as goal
 
 pub returns-in-Ok : goal.returns-in-Ok
 returns-in-Ok c =
     let input = c.args.input.now in
     let x = c.in-Ok.protocol in
-    λ args requests. IfOk-weaker c.page_answer.result (λ (reply : Reply Status). IsPageAnswer x reply.text reply.status) (λ (reply : Reply Status). PageOutput args input reply.text reply.status)
-    (λ reply is. answered c.args.name.now reply.text reply.status requests (record { short = c.requires; protocol = x; declared = c.in-Ok.ensures.ok; answer = is }))
-    c.page_answer.ensures
+    λ args requests. IfOk-weaker c.part_reply.result (IsPartReply x input) (λ (reply : Reply Status). PageOutput args input reply.text reply.status)
+    (λ reply is. part_output args c.args.name.now input x reply requests c.requires c.in-Ok.ensures.ok is)
+    c.part_reply.ensures
 
 pub returns-in-Some : goal.returns-in-Some
 returns-in-Some c =
