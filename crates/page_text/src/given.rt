@@ -21,7 +21,7 @@ pub(crate) fn push_given(
     given: Option<GivenRun<'_>>,
 ) -> Result<(), NoMemory>
     requires { HasFittingEvents a.now given }
-    ensures { OnOk result (AppendsGiven a.now given text.old text.new) }
+    ensures { OnOk result (AppendsGiven a.now given.entry text.old text.new) }
 {
     match given {
         Some(given) => push_run(alloc, text, a, given.run, given.report),

@@ -25,7 +25,7 @@ pub fn page_text(
 ) -> Result<Bytes, NoMemory>
     requires verdicts { HaveFittingRuns a.now v.now }
     requires given { HasFittingEvents a.now given }
-    ensures { IfOk result (IsPageWith a.now v.now fates.now given) }
+    ensures { IfOk result (IsPageWith a.now v.now fates.now given.entry) }
 {
     let mut text = Bytes::new(alloc);
     push_verdicts(alloc, &mut text, a, v)?;

@@ -47,7 +47,7 @@ fn answer_with(
     given: Option<GivenRun<'_>>,
 ) -> Result<Reply<Status>, NoMemory>
     requires { HasFittingEvents protocol.now given }
-    ensures { IfOk result (IsPageOf protocol.now given) }
+    ensures { IfOk result (IsPageOf protocol.now given.entry) }
 {
     let fates = message_fates(alloc, protocol, CONFLICTS)?;
     fated_answer(alloc, protocol, fates.as_slice(), given)
@@ -61,7 +61,7 @@ fn fated_answer(
     given: Option<GivenRun<'_>>,
 ) -> Result<Reply<Status>, NoMemory>
     requires { HasFittingEvents protocol.now given }
-    ensures { IfOk result (IsFatedPage protocol.now given fates.now) }
+    ensures { IfOk result (IsFatedPage protocol.now given.entry fates.now) }
 {
     // law: the runs of right verdicts fit the protocol
     right_runs_fit();

@@ -16,7 +16,7 @@ returns-in_ok-push_chart-in-Unsafe c =
     let picture = chart x found.run' (Clash found.param found.first found.second) in
     let events = run_part x found.run' in
     let one = rw c.expanded-x.ensures.same at c.in_ok-push_unsafe-in-Unsafe.ensures in
-    let drawn = rw (c.expanded-x.ensures.same, c.as_slice-events.ensures) at c.in_ok-push_chart-in-Unsafe.ensures in
+    let drawn = rw c.as_slice-events.ensures at c.in_ok-push_chart-in-Unsafe.ensures in
     let two = drawn ∙ ap (λ (ys : List ℕ). ys ++ written picture) one ∙ written_two old said picture in
     rw found.is (
     subst (λ (text : List ℕ). OnOk c.push_run.result (c.push_run.new.text ≡ text))

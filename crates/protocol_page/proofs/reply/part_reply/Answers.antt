@@ -14,8 +14,8 @@ use Rattle.protocol_page.proofs.reply.part_reply.Goals as goal
 pub returns-in-Ok : goal.returns-in-Ok
 returns-in-Ok c = c.run_reply.ensures c.args.input.now c.in-Ok.ensures.ok
 
-pub returns : goal.returns
-returns c =
+pub returns-in-Err : goal.returns-in-Err
+returns-in-Err c =
     let x = c.args.protocol.now in
     let input = c.args.input.now in
     let (part, lacks, is) = c.in-Err.ensures.refused in
