@@ -1,5 +1,5 @@
 -- The page that is made is the page of the answer.
-use Rattle.std.proofs.Common.{◌≡◌, ℕ, List, None, Some, subst}
+use Rattle.std.proofs.Common.{None, Some}
 use Rattle.bspl_types.specs.declared.expanded.Expanded.{Expanded}
 use Rattle.page_text.specs.declared.given.GivenRun.{GivenRun}
 use Rattle.program_frame.specs.declared.reply.Reply.{Reply}

@@ -1,5 +1,5 @@
 -- The page of a protocol, as it is made.
-use Rattle.std.specs.Prelude.{◌≡◌, ℕ, List, Option}
+use Rattle.std.specs.Prelude.{◌≡◌, List, Option}
 use Rattle.bspl_types.specs.declared.expanded.Expanded.{Expanded}
 use Rattle.page_sections.specs.declared.fate.Fate.{Fate}
 use Rattle.page_text.specs.declared.given.GivenRun.{GivenRun}

@@ -1,7 +1,6 @@
 -- Each message has its fate, from the first one to the last.
-use Rattle.std.proofs.Common.{◌≡◌, ◌<◌, ◌+◌, List, length, sym, ◌∙◌, ap, subst, arith}
+use Rattle.std.proofs.Common.{◌<◌, ◌+◌, length, sym, ◌∙◌, ap, subst, arith}
 use Rattle.bspl_types.specs.declared.expanded.Expanded.{Expanded}
-use Rattle.page_sections.specs.declared.fate.Fate.{Fate}
 use Rattle.protocol_page.specs.Fates.{HasFate}
 use Rattle.protocol_page.specs.inner.Fates.{HaveFates}
 use Rattle.protocol_page.proofs.FateLemmas.{no_fates, one_fate}

@@ -1,5 +1,5 @@
 -- The reply with the run of the part, or without one if the part is another or missing.
-use Rattle.std.proofs.Common.{◌≡◌, None, Some, ℕ, List, inl, sym, subst}
+use Rattle.std.proofs.Common.{None, Some, ℕ, List, inl, sym, subst}
 use Rattle.std.proofs.lemmas.Option.{same_Some}
 use Rattle.std.proofs.lemmas.Result.{IfOk-weaker}
 use Rattle.program_frame.specs.declared.reply.Reply.{Reply}
