@@ -12,6 +12,7 @@ mod LowerLemmas
 mod ModelLemmas
 mod NumberLemmas
 mod PositionLemmas
+mod ShorteningLemmas
 mod SolvingLemmas
 mod StepLemmas
 mod StoredSetLemmas

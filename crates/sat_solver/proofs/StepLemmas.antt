@@ -80,7 +80,7 @@ OthersFalse-at t position number l reason at read has m among other =
     (found.1.leaves.others m (subst (λ x. Contains x m) (number_one (numbering_of t) number reason found.0 has found.1.has_number) among) (λ same. other (same ∙ sym (negated-negated l))))
 
 -- the new literals are those of a resolvent
-resolvent-of : (clause_of : ListsHaveClauses) (clause reason old new : List Lit) (pivot : Lit) → HasExactly clause old → CanResolve clause pivot reason → ResolvesSet old pivot reason new → IsResolvent clause pivot reason (clause_of new).0
+pub resolvent-of : (clause_of : ListsHaveClauses) (clause reason old new : List Lit) (pivot : Lit) → HasExactly clause old → CanResolve clause pivot reason → ResolvesSet old pivot reason new → IsResolvent clause pivot reason (clause_of new).0
 resolvent-of clause_of clause reason old new pivot exactly can resolves =
     let r = clause_of new in record {
       can = can;

@@ -114,14 +114,12 @@ same-clause sets t number chain f position clause gathers ascending exactly =
     sets gathers.clause clause gathers.ascending ascending
     (λ m. (λ among. (exactly m).1 ((gathers.exactly m).0 among), λ among. (gathers.exactly m).1 ((exactly m).0 among)))
 
--- the clause of literals of which one is of the current level is learned
-pub IsLearned-gathered : (sets : ClausesAreSets) (t : State) (number : ℕ) (chain : Chain) (f : FalseLits) (position : ℕ) → IsTrail t → 0 < t.level → IsFalsified (numbering_of t) (values_of t.entries) number → Gathers t number chain f position → HasCurrent t f.set.lits → f.current ≤ 1 → (d : Derivation) → IsDerivationOf chain f.set.lits d → IsLearned t d.chain d.clause
-IsLearned-gathered sets t number chain f position trail above first gathers current few d is_of =
-    subst (λ ch. IsLearned t ch d.clause) (sym is_of.same)
-    (subst (λ c. IsLearned t chain c) (same-clause sets t number chain f position d.clause gathers is_of.ascending is_of.exactly)
-    (IsLearned-end t number chain gathers.clause position trail above first gathers.resolving
+-- the gathered clause of which one literal is of the current level is learned
+pub IsLearned-gathered : (t : State) (number : ℕ) (chain : Chain) (f : FalseLits) (position : ℕ) → IsTrail t → 0 < t.level → IsFalsified (numbering_of t) (values_of t.entries) number → (gathers : Gathers t number chain f position) → HasCurrent t f.set.lits → f.current ≤ 1 → IsLearned t chain gathers.clause
+IsLearned-gathered t number chain f position trail above first gathers current few =
+    IsLearned-end t number chain gathers.clause position trail above first gathers.resolving
     (record { literal = current.literal; among = (gathers.exactly current.literal).1 current.among; current = current.current })
-    (λ two. omega (arith, few, gathers.are_false.counted, counted-two t f.set.lits (two-along t gathers.clause f.set.lits (λ m among. (gathers.exactly m).0 among) two)))))
+    (λ two. omega (arith, few, gathers.are_false.counted, counted-two t f.set.lits (two-along t gathers.clause f.set.lits (λ m among. (gathers.exactly m).0 among) two)))
 
 -- the false clause before the first resolution has a literal of the current level
 pub HasCurrent-start : (t : State) (number position : ℕ) (chain : Chain) (f : FalseLits) → IsTrail t → 0 < t.level → IsFalsified (numbering_of t) (values_of t.entries) number → chain.links ≡ [] → Gathers t number chain f position → HasCurrent t f.set.lits

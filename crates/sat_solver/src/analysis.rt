@@ -1,13 +1,15 @@
-ghost use Rattle.std.specs.Prelude.{◌≡◌, ◌+◌, ◌<◌, ◌≤◌, ◌⊎◌, Some, IfSome, [], length, IfOk, OnOk};
+ghost use Rattle.std.specs.Prelude.{◌≡◌, ◌+◌, ◌<◌, ◌≤◌, ◌⊎◌, ◌↔◌, Some, IsTrue, IfSome, [], length};
+ghost use Rattle.std.specs.Prelude.{IfOk, OnOk};
 ghost use Rattle.clause_core.specs.Clause.{VariablesExist};
 ghost use Rattle.clause_core.specs.Propagation.{IsFalsified};
 ghost use Rattle.sat_trail.specs.Entry.{values_of};
-ghost use Rattle.sat_trail.specs.State.{numbering_of};
+ghost use Rattle.sat_trail.specs.State.{IsNumberUpTo, numbering_of};
 ghost use Rattle.sat_solver.specs.inner.Analysis.{IsLearned, IsLowerLevel, Refuted, HasReason};
-ghost use Rattle.sat_solver.specs.inner.Gathered.{IsDerivationOf, Gathers, StepsOver};
+ghost use Rattle.sat_solver.specs.inner.Gathered.{IsDerivationOf, Gathers, StepsOver, Asserts};
 
-use super::false_lits::FalseLits;
+use super::false_lits::{FalseLits, is_current, others_are_lower};
 use clause_core::{Clause, Lit, equal_members, lists_have_clauses};
+use implied_lits::ImpliedLits;
 use list_base::{NoMemory, Seq};
 use order_trail::OrderTrail;
 use refutation_log::{Chain, Link};
@@ -23,11 +25,13 @@ pub struct Derivation {
 }
 
 /// Derives an asserting clause: resolves the false clause along the trail until one literal of the
-/// current level is left, at the first unique implication point.
+/// current level is left, at the first unique implication point, and then resolves those of lower
+/// levels away that the others imply.
 pub fn derive_asserting(
     alloc: Global,
     trail: &OrderTrail,
     number: u32,
+    implied: &mut ImpliedLits,
     lits: &mut FalseLits,
 ) -> Result<Derivation, NoMemory>
     requires falsified { let values = values_of trail.now.entries in
@@ -45,9 +49,71 @@ pub fn derive_asserting(
         position -= 1;
         step(trail, lits, &mut chain, position)?;
     }
+    shorten(trail, implied, lits, &mut chain)?;
     // law: clauses with the same literals are equal
     equal_members();
     derived(alloc, chain, lits.set.as_slice())
+}
+
+/// Resolves the literals away that the others imply (Sorensson and Biere 2009).
+fn shorten(
+    trail: &OrderTrail,
+    implied: &mut ImpliedLits,
+    lits: &mut FalseLits,
+    chain: &mut Chain,
+) -> Result<(), NoMemory>
+    requires asserts { Asserts trail.now chain.old lits.old }
+    ensures asserts { OnOk result (Asserts trail.now chain.new lits.new) }
+    ensures vars { lits.new.set.vars ≡ trail.now.vars }
+{
+    implied.find(trail, lits.set.as_slice())?;
+    for lit in implied.as_slice().iter().rev() {
+        if exists(trail, *lit) {
+            resolve_away(trail, lits, chain, *lit)?;
+        }
+    }
+    Ok(())
+}
+
+/// Whether the literal's variable exists.
+fn exists(trail: &OrderTrail, lit: Lit) -> bool
+    ensures { IsTrue result ↔ IsNumberUpTo trail.now.vars lit.var }
+{
+    0 < lit.var && lit.var <= trail.vars()
+}
+
+/// Resolves the literal away, if it and the others of its reason are of lower levels.
+fn resolve_away(
+    trail: &OrderTrail,
+    lits: &mut FalseLits,
+    chain: &mut Chain,
+    lit: Lit,
+) -> Result<(), NoMemory>
+    requires asserts { Asserts trail.now chain.old lits.old }
+    requires exists { IsNumberUpTo trail.now.vars lit.var }
+    ensures asserts { OnOk result (Asserts trail.now chain.new lits.new) }
+    ensures vars { lits.new.set.vars ≡ trail.now.vars }
+{
+    // law: what every trail keeps
+    trail.is_trail();
+    if !lits.set.has(lit) || is_current(trail, lit) {
+        return Ok(());
+    }
+    let Some(reason) = trail.reason(lit.var) else {
+        return Ok(());
+    };
+    let clause = trail.clause(reason);
+    if !others_are_lower(trail, clause.lits(), lit.negation()) {
+        return Ok(());
+    }
+    // law: each list of literals has a clause
+    lists_have_clauses();
+    lits.resolve(trail, lit, clause.lits());
+    chain.links.push(Link {
+        pivot: lit,
+        clause: reason,
+    })?;
+    Ok(())
 }
 
 /// Resolves the false clause of level 0 along the whole trail, down to the empty clause.

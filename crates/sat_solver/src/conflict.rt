@@ -23,6 +23,7 @@ impl<'f> Learner<'f> {
             alloc,
             &self.trail,
             number,
+            &mut self.implied,
             &mut self.lits,
         )?;
         // law: what every trail keeps

@@ -1,9 +1,10 @@
-ghost use Rattle.std.specs.Prelude.{◌≡◌, ◌<◌, ◌≤◌, [], IfOk, Contains};
+ghost use Rattle.std.specs.Prelude.{◌≡◌, ◌<◌, ◌≤◌, ◌↔◌, [], IsTrue, IfOk, Contains};
+ghost use Rattle.clause_core.specs.Clause.{VariablesExist};
 ghost use Rattle.clause_core.specs.Literal.{negated};
 ghost use Rattle.clause_core.specs.Propagation.{MakesFalse, Falsifies, OthersFalse};
 ghost use Rattle.sat_trail.specs.Entry.{values_of};
 ghost use Rattle.sat_solver.specs.inner.Gathered.{is_current, AreFalse};
-ghost use Rattle.sat_solver.specs.inner.Gathered.{AddsLiteral, AddsLiterals, ResolvesSet};
+ghost use Rattle.sat_solver.specs.inner.Gathered.{AddsLiteral, AddsLiterals, ResolvesSet, OthersAreLower};
 
 use super::lit_set::LitSet;
 use clause_core::Lit;
@@ -86,8 +87,16 @@ impl FalseLits {
     }
 }
 
+/// Whether the literals of the clause but for this one were set at lower levels.
+pub fn others_are_lower(trail: &OrderTrail, clause: &[Lit], lit: Lit) -> bool
+    requires { VariablesExist trail.now.vars clause.now }
+    ensures { IsTrue result ↔ OthersAreLower trail.now clause.now lit }
+{
+    clause.iter().all(|l| *l == lit || !is_current(trail, *l))
+}
+
 /// Whether the literal was set at the current level.
-fn is_current(trail: &OrderTrail, lit: Lit) -> bool
+pub fn is_current(trail: &OrderTrail, lit: Lit) -> bool
     requires from_one { 0 < lit.var }
     requires exists { lit.var ≤ trail.now.vars }
     ensures { result ≡ is_current trail.now lit }

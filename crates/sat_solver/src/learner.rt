@@ -3,6 +3,7 @@ ghost use Rattle.std.specs.Prelude.{◌≡◌};
 use super::decision_rule::DecisionRule;
 use super::false_lits::FalseLits;
 use super::given_formula::GivenFormula;
+use implied_lits::ImpliedLits;
 use list_base::{NoMemory, Seq};
 use order_trail::OrderTrail;
 use refutation_log::{ChainList, Log};
@@ -17,6 +18,8 @@ pub struct Learner<'f> {
     pub trail: OrderTrail<'f>,
     /// The literals of the clause that is being resolved.
     pub lits: FalseLits,
+    /// What proposes which of them to resolve away.
+    pub implied: ImpliedLits,
     /// What proposes the next decision.
     pub rule: DecisionRule,
     pub ghost set_fits: { lits.set.vars ≡ trail.vars },
@@ -34,11 +37,13 @@ impl<'f> Learner<'f> {
     {
         let trail = f.trail(alloc)?;
         let lits = FalseLits::new(alloc, f.vars())?;
+        let implied = ImpliedLits::new(alloc, f.vars())?;
         let rule = DecisionRule::new(alloc, f.vars())?;
         Ok(Learner {
             steps: Seq::new(alloc),
             trail,
             lits,
+            implied,
             rule,
         })
     }

@@ -1,6 +1,6 @@
 -- The literals that an analysis has gathered, which are false under the trail.
 use Rattle.std.specs.Prelude.{◌≡◌, ◌≢◌, ℕ, ◌↔◌, ◌⊎◌, Bool, false, Some, List, Contains, slice_get}
-use Rattle.std.specs.Prelude.{count_by, unwrap_or, ◌==◌}
+use Rattle.std.specs.Prelude.{count_by, unwrap_or, ◌==◌, All}
 use Rattle.std.specs.Option.{option_map}
 use Rattle.clause_core.specs.declared.literal.Lit.{Lit}
 use Rattle.clause_core.specs.Literal.{negated}
@@ -14,7 +14,7 @@ use Rattle.sat_trail.specs.State.{State}
 use Rattle.sat_solver.specs.declared.analysis.Derivation.{Derivation}
 use Rattle.sat_solver.specs.declared.false_lits.FalseLits.{FalseLits}
 use Rattle.sat_solver.specs.inner.LiteralSet.{IsLiteralSet}
-use Rattle.sat_solver.specs.inner.Analysis.{Resolving}
+use Rattle.sat_solver.specs.inner.Analysis.{Resolving, IsLearned}
 
 -- whether the literal was set at the current level
 abbrev pub is_current : State → Lit → Bool
@@ -40,6 +40,10 @@ pub record AddsLiterals (old clause new : List Lit) : Type 0 where
 pub record ResolvesSet (old : List Lit) (pivot : Lit) (clause new : List Lit) : Type 0 where
   pub members : (l : Lit) → Contains new l ↔ (Keeps old pivot l ⊎ Keeps clause (negated pivot) l)
 
+-- the literals of the clause but for this one were set below the current level
+abbrev pub OthersAreLower : State → List Lit → Lit → Type 0
+OthersAreLower t clause lit = All (λ l. (l ≡ lit) ⊎ (is_current t l ≡ false)) clause
+
 -- the derivation has the chain and the clause of the literals
 pub record IsDerivationOf (chain : Chain) (lits : List Lit) (d : Derivation) : Type 0 where
   pub same : d.chain ≡ chain
@@ -60,3 +64,11 @@ pub record StepsOver (t : State) (old new : Chain) (f g : FalseLits) (position :
   pub gathers : Gathers t old.first new g position
   pub kept : (l : Lit) (e : Entry) → Contains f.set.lits l → slice_get t.entries position ≡ Some e →
       l ≢ negated e.lit → Contains g.set.lits l
+
+-- the chain derives the clause of the literals, which are false, and one of the current level
+pub record Asserts (t : State) (chain : Chain) (f : FalseLits) : Type 0 where
+  pub clause : List Lit
+  pub exactly : HasExactly clause f.set.lits
+  pub ascending : IsAscending clause
+  pub learned : IsLearned t chain clause
+  pub are_false : AreFalse t f

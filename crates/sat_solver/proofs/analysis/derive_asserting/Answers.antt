@@ -1,9 +1,10 @@
--- Each step leaves a literal of the current level, and the last one leaves one alone.
+-- Each step leaves a literal of the current level, the last one leaves one alone, and so it stays.
 use Rattle.std.proofs.Common.{arith}
 use Rattle.std.proofs.lemmas.Result.{IfOk-weaker}
 use Rattle.sat_solver.specs.inner.Analysis.{IsLearned}
 use Rattle.sat_solver.specs.inner.Gathered.{IsDerivationOf}
-use Rattle.sat_solver.proofs.UipLemmas.{HasCurrent-start, HasReason-last, Gathers-at, Gathers-after, HasCurrent-after, IsLearned-gathered, gathered-some}
+use Rattle.sat_solver.proofs.UipLemmas.{HasCurrent-start, HasReason-last, Gathers-at, Gathers-after, HasCurrent-after, gathered-some}
+use Rattle.sat_solver.proofs.ShorteningLemmas.{Asserts-gathered, IsLearned-asserts}
 use Rattle.sat_solver.proofs.analysis.derive_asserting.Goals as goal
 
 pub resolving-init : goal.resolving-init
@@ -36,9 +37,14 @@ resolving-preserved c = record {
   current = HasCurrent-after c.args.trail.now c.args.number _ c.resolving.chain c.step.new.chain c.resolving.lits c.step.new.lits c.resolving-test.true c.resolving.invariant.gathers c.in_ok-step.ensures.steps;
 }
 
+pub shorten-requires : goal.shorten-requires
+shorten-requires c = record {
+  asserts = Asserts-gathered c.args.trail.now c.args.number c.resolving.chain c.resolving.lits _ c.is_trail.ensures c.requires.above c.requires.falsified c.resolving.invariant.gathers c.resolving.invariant.current c.resolving-test.false;
+}
+
 pub returns-clause-learned : goal.returns-clause-learned
 returns-clause-learned c =
     let of_lits = rw c.as_slice.ensures.same at c.derived.ensures in
-    IfOk-weaker c.derived.result (IsDerivationOf c.resolving.chain c.resolving.lits.set.lits) (λ d. IsLearned c.args.trail.now d.chain d.clause)
-    (IsLearned-gathered c.equal_members.ensures c.args.trail.now c.args.number c.resolving.chain c.resolving.lits _ c.is_trail.ensures c.requires.above c.requires.falsified c.resolving.invariant.gathers c.resolving.invariant.current c.resolving-test.false)
+    IfOk-weaker c.derived.result (IsDerivationOf c.shorten.new.chain c.shorten.new.lits.set.lits) (λ d. IsLearned c.args.trail.now d.chain d.clause)
+    (IsLearned-asserts c.equal_members.ensures c.args.trail.now c.shorten.new.chain c.shorten.new.lits c.in_ok-shorten.ensures.asserts)
     of_lits
