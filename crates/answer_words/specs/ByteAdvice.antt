@@ -1,21 +1,48 @@
 -- What to do about a byte at which no token begins, by the bytes there.
-use Rattle.std.specs.Prelude.{ℕ, Bool, nat_eq, ◌||◌, if◌then◌else◌, List, [], ◌∷◌, codes}
+use Rattle.std.specs.Prelude.{ℕ, Bool, false, nat_eq, nat_le, ◌||◌, if◌then◌else◌}
+use Rattle.std.specs.Prelude.{List, [], ◌∷◌, codes}
 use Rattle.std.specs.List.{starts_with}
+
+-- the bytes begin with what others write for a comment: `#`, `/*`, or a single `/`
+abbrev pub begins_comment : List ℕ → Bool
+begins_comment bytes = starts_with nat_eq bytes (codes "#") || starts_with nat_eq bytes (codes "/")
 
 -- the bytes begin with what others write for an arrow: `=>`, `-->`, `<-`, or an arrow of Unicode
 abbrev pub begins_arrow : List ℕ → Bool
 begins_arrow bytes =
-    (starts_with nat_eq bytes (codes "=") || starts_with nat_eq bytes (codes "-")) ||
+    (starts_with nat_eq bytes (codes "=>") || starts_with nat_eq bytes (codes "-")) ||
     (starts_with nat_eq bytes (codes "<") || starts_with nat_eq bytes (226 ∷ 134 ∷ []))
+
+-- the bytes begin with an en dash or an em dash, which editors put in place of `-`
+abbrev pub begins_dash : List ℕ → Bool
+begins_dash bytes =
+    starts_with nat_eq bytes (226 ∷ 128 ∷ 147 ∷ []) ||
+    starts_with nat_eq bytes (226 ∷ 128 ∷ 148 ∷ [])
+
+-- the bytes begin with one that is not of ASCII
+abbrev pub begins_beyond_ascii : List ℕ → Bool
+begins_beyond_ascii [] = false
+begins_beyond_ascii (byte ∷ bytes) = nat_le 128 byte
+
+-- the advice for a sign that the language lacks, or for what begins no name
+abbrev pub sign_advice : List ℕ → List ℕ
+sign_advice bytes =
+    if starts_with nat_eq bytes (codes ";")
+    then codes "take it away: a message ends with its `]`, and a line of names with no sign"
+    else if starts_with nat_eq bytes (codes "=")
+    then codes "take it away: a protocol has names, and gives them no values"
+    else if begins_beyond_ascii bytes
+    then codes "write ASCII, in names too, but for comments; save the text as plain text in UTF-8"
+    else codes "a name has ASCII letters, digits, `_` and `-`, and begins with a letter or `_`"
 
 -- the advice for the bytes from there on
 abbrev pub byte_advice : List ℕ → List ℕ
 byte_advice bytes =
-    if starts_with nat_eq bytes (codes "#") then codes "begin a comment with //"
+    if begins_comment bytes then codes "begin a comment with //"
     else if starts_with nat_eq bytes (codes "%")
     then codes "a part line is alone: `%% agents`, `%% log`, `%% run`, `%% histories` or `%% wire`"
     else if starts_with nat_eq bytes (239 ∷ 187 ∷ 191 ∷ [])
     then codes "save the text as UTF-8 without a byte order mark"
-    else if begins_arrow bytes
-    then codes "write the arrow `->`"
-    else codes "a name has ASCII letters, digits, `_` and `-`, and begins with a letter or `_`"
+    else if begins_arrow bytes then codes "write the arrow `->`"
+    else if begins_dash bytes then codes "write `-`, as in the arrow `->`"
+    else sign_advice bytes

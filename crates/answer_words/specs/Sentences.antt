@@ -34,13 +34,14 @@ opening fault.NoRole = codes "the part does not begin with the line of a role of
 abbrev pub middle : Fault → List ℕ
 middle fault.NoPart = codes "`, and it is not there, or another part comes first"
 middle fault.Cycle = codes " back to it"
-middle fault.KeyMissing = codes " does not bind the key "
+middle fault.KeyMissing = codes " lacks the key "
 middle fault.ToItself = codes " goes to the role that sends it"
 middle fault.ParameterTwice = codes " has the parameter "
 middle fault = []
 
 -- after the second
 abbrev pub ending : Fault → List ℕ
+ending fault.KeyMissing = codes " as `in` or `out`"
 ending fault.ParameterTwice = codes " twice"
 ending fault = []
 
@@ -50,14 +51,19 @@ wrong fault one other = opening fault ++ one ++ middle fault ++ other ++ ending 
 
 -- what to do, unless the place says it
 abbrev pub advice : Fault → List ℕ
-advice fault.NoPart = codes "write exactly that, alone in its line, and end the line above it"
+advice fault.NoPart =
+    codes "write exactly that, alone in its line, end the line above it, and take any other " ++
+    codes "part above it away"
 advice fault.TooLong = codes "give a shorter input"
-advice fault.BadToken = codes "write one of these, or mend what is before the mark"
+advice fault.BadToken =
+    codes "write one of these, or mend what is before the mark: a comma may be missing there"
 advice fault.NoProtocol =
     codes "ask for a name that the text declares; that of the file does not count"
 advice fault.NoMessage = codes "ask for a message that `bspl expand` prints"
 advice fault.NameTwice = codes "give one of the two another name"
-advice fault.UnknownName = codes "correct the name, or declare it"
+advice fault.UnknownName =
+    codes "correct the name, or declare it: a role in the line `roles`, a parameter in " ++
+    codes "`parameters` or `private`, a protocol in the same text"
 advice fault.OtherArity = codes "give each of its roles and adorned public parameters, in its order"
 advice fault.BadAdornment = codes "write `in`, `out` or `nil`, and in a reference the declared one"
 advice fault.Cycle = codes "take one of these references away"
@@ -66,15 +72,19 @@ advice fault.NoKey = codes "mark one, as in `parameters out ID key, out item`"
 advice fault.KeyMissing = codes "add it: `out` where an enactment begins, `in` elsewhere"
 advice fault.KeyElsewhere = codes "take `key` away there, or mark the public parameter"
 advice fault.ToItself = codes "let another role receive it; what one role does alone is no message"
-advice fault.ParameterTwice = codes "keep one; `out` includes the test of `nil`"
+advice fault.ParameterTwice =
+    codes "keep one, since `out` includes the test of `nil`; if the text has only one, " ++
+    codes "a reference gives its protocol the parameter twice"
 advice fault.LogForm =
     codes "write `step CLAUSE PIVOT CLAUSE ..`, in `log 2` also `drop CLAUSE ..`, at last `end`"
 advice fault.LogNumber = codes "count clauses and variables from 1"
 advice fault.RunForm =
-    codes "write `send MESSAGE PARAM=VALUE ..` or `receive ..`, values in the message's order " ++
-    codes "and texts in quotes, at last `end`"
+    codes "write `send MESSAGE PARAM=VALUE ..` or `receive ..`, values in the order of the " ++
+    codes "message as `bspl expand` prints it, those of `nil` left out, a text in quotes and a " ++
+    codes "blank in it as `\\20`; at last `end`"
 advice fault.HistoryForm =
-    codes "write `role ROLE`, then what it sends and receives as in a run, at last `end`"
+    codes "write `role ROLE`, then what this role sends and receives as in a run, values in the " ++
+    codes "order of the message as `bspl expand` prints it; at last `end`"
 advice fault.NoRole = codes "begin it with `role ROLE`, and end that line with LF alone"
 advice fault = []
 

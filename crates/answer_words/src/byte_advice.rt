@@ -1,11 +1,12 @@
 ghost use Rattle.std.specs.Prelude.{◌≡◌};
-ghost use Rattle.answer_words.specs.ByteAdvice.{begins_arrow, byte_advice};
+ghost use Rattle.answer_words.specs.ByteAdvice.{begins_arrow, begins_beyond_ascii, begins_comment};
+ghost use Rattle.answer_words.specs.ByteAdvice.{begins_dash, byte_advice, sign_advice};
 
 /// What to do about a byte at which no token begins, by the bytes from there on.
 pub(crate) fn byte_advice(bytes: &[u8]) -> &'static [u8]
     ensures { result.now ≡ byte_advice bytes.now }
 {
-    if bytes.starts_with(b"#") {
+    if begins_comment(bytes) {
         b"begin a comment with //"
     } else if bytes.starts_with(b"%") {
         b"a part line is alone: `%% agents`, `%% log`, `%% run`, `%% histories` or `%% wire`"
@@ -13,17 +14,58 @@ pub(crate) fn byte_advice(bytes: &[u8]) -> &'static [u8]
         b"save the text as UTF-8 without a byte order mark"
     } else if begins_arrow(bytes) {
         b"write the arrow `->`"
+    } else if begins_dash(bytes) {
+        b"write `-`, as in the arrow `->`"
+    } else {
+        sign_advice(bytes)
+    }
+}
+
+/// What to do about a sign that the language lacks, or what begins no name.
+fn sign_advice(bytes: &[u8]) -> &'static [u8]
+    ensures { result.now ≡ sign_advice bytes.now }
+{
+    if bytes.starts_with(b";") {
+        b"take it away: a message ends with its `]`, and a line of names with no sign"
+    } else if bytes.starts_with(b"=") {
+        b"take it away: a protocol has names, and gives them no values"
+    } else if begins_beyond_ascii(bytes) {
+        b"write ASCII, in names too, but for comments; save the text as plain text in UTF-8"
     } else {
         b"a name has ASCII letters, digits, `_` and `-`, and begins with a letter or `_`"
     }
+}
+
+/// Whether the bytes begin with what others write for a comment.
+fn begins_comment(bytes: &[u8]) -> bool
+    ensures { result ≡ begins_comment bytes.now }
+{
+    bytes.starts_with(b"#") || bytes.starts_with(b"/")
 }
 
 /// Whether the bytes begin with what others write for an arrow.
 fn begins_arrow(bytes: &[u8]) -> bool
     ensures { result ≡ begins_arrow bytes.now }
 {
-    bytes.starts_with(b"=")
+    bytes.starts_with(b"=>")
         || bytes.starts_with(b"-")
         || bytes.starts_with(b"<")
         || bytes.starts_with(b"\xe2\x86")
+}
+
+/// Whether the bytes begin with an en dash or an em dash.
+fn begins_dash(bytes: &[u8]) -> bool
+    ensures { result ≡ begins_dash bytes.now }
+{
+    bytes.starts_with(b"\xe2\x80\x93") || bytes.starts_with(b"\xe2\x80\x94")
+}
+
+/// Whether the first byte is not of ASCII.
+fn begins_beyond_ascii(bytes: &[u8]) -> bool
+    ensures { result ≡ begins_beyond_ascii bytes.now }
+{
+    match bytes {
+        [] => false,
+        [first, ..] => *first >= 128,
+    }
 }

@@ -82,7 +82,7 @@ fn middle(fault: Fault) -> &'static [u8]
     match fault {
         Fault::NoPart => b"`, and it is not there, or another part comes first",
         Fault::Cycle => b" back to it",
-        Fault::KeyMissing => b" does not bind the key ",
+        Fault::KeyMissing => b" lacks the key ",
         Fault::ToItself => b" goes to the role that sends it",
         Fault::ParameterTwice => b" has the parameter ",
         _ => b"",
@@ -94,6 +94,7 @@ fn ending(fault: Fault) -> &'static [u8]
     ensures { result.now ≡ ending fault }
 {
     match fault {
+        Fault::KeyMissing => b" as `in` or `out`",
         Fault::ParameterTwice => b" twice",
         _ => b"",
     }
@@ -104,15 +105,23 @@ fn advice(fault: Fault) -> &'static [u8]
     ensures { result.now ≡ advice fault }
 {
     match fault {
-        Fault::NoPart => b"write exactly that, alone in its line, and end the line above it",
+        Fault::NoPart => {
+            b"write exactly that, alone in its line, end the line above it, and take any other \
+part above it away"
+        }
         Fault::TooLong => b"give a shorter input",
-        Fault::BadToken => b"write one of these, or mend what is before the mark",
+        Fault::BadToken => {
+            b"write one of these, or mend what is before the mark: a comma may be missing there"
+        }
         Fault::NoProtocol => {
             b"ask for a name that the text declares; that of the file does not count"
         }
         Fault::NoMessage => b"ask for a message that `bspl expand` prints",
         Fault::NameTwice => b"give one of the two another name",
-        Fault::UnknownName => b"correct the name, or declare it",
+        Fault::UnknownName => {
+            b"correct the name, or declare it: a role in the line `roles`, a parameter in \
+`parameters` or `private`, a protocol in the same text"
+        }
         Fault::OtherArity => b"give each of its roles and adorned public parameters, in its order",
         Fault::BadAdornment => b"write `in`, `out` or `nil`, and in a reference the declared one",
         Fault::Cycle => b"take one of these references away",
@@ -121,17 +130,22 @@ fn advice(fault: Fault) -> &'static [u8]
         Fault::KeyMissing => b"add it: `out` where an enactment begins, `in` elsewhere",
         Fault::KeyElsewhere => b"take `key` away there, or mark the public parameter",
         Fault::ToItself => b"let another role receive it; what one role does alone is no message",
-        Fault::ParameterTwice => b"keep one; `out` includes the test of `nil`",
+        Fault::ParameterTwice => {
+            b"keep one, since `out` includes the test of `nil`; if the text has only one, \
+a reference gives its protocol the parameter twice"
+        }
         Fault::LogForm => {
             b"write `step CLAUSE PIVOT CLAUSE ..`, in `log 2` also `drop CLAUSE ..`, at last `end`"
         }
         Fault::LogNumber => b"count clauses and variables from 1",
         Fault::RunForm => {
-            b"write `send MESSAGE PARAM=VALUE ..` or `receive ..`, values in the message's order \
-and texts in quotes, at last `end`"
+            b"write `send MESSAGE PARAM=VALUE ..` or `receive ..`, values in the order of the \
+message as `bspl expand` prints it, those of `nil` left out, a text in quotes and a \
+blank in it as `\\20`; at last `end`"
         }
         Fault::HistoryForm => {
-            b"write `role ROLE`, then what it sends and receives as in a run, at last `end`"
+            b"write `role ROLE`, then what this role sends and receives as in a run, values in the \
+order of the message as `bspl expand` prints it; at last `end`"
         }
         Fault::NoRole => b"begin it with `role ROLE`, and end that line with LF alone",
         _ => b"",

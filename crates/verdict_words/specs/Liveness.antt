@@ -14,7 +14,10 @@ live_words =
     codes "Nothing is wrong with liveness: when an enactment is at rest, some role knows each " ++
     codes "public parameter that is to have a value.\n" ++
     codes "Whether a certain role knows it is another question: let that role answer with a " ++
-    codes "public `out` parameter.\n"
+    codes "public `out` parameter.\n" ++
+    codes "A message that nobody has to send, as a reminder or a cancellation, keeps its " ++
+    codes "enactment from rest while it can still be sent: take it away and verify again, to " ++
+    codes "see whether the verdict hangs on it.\n"
 
 -- the parameter that stays unknown
 abbrev pub unknown_words : List ℕ → List ℕ

@@ -14,7 +14,8 @@ safe_words =
     codes "Nothing is wrong with safety: in one enactment no parameter is produced twice, and " ++
     codes "roles never know different values of it.\n" ++
     codes "Whether a rule of your own holds is another question: ask bspl_can if two messages " ++
-    codes "can be sent together.\n"
+    codes "can be sent together.\n" ++
+    codes "Whether each message can be sent at all is another question: ask `bspl dead`.\n"
 
 -- the n-th event of the run, and what it sends
 abbrev pub event_words : Expanded → List Event → ℕ → List ℕ

@@ -46,7 +46,12 @@ fn push_live(text: &mut Bytes) -> Result<(), NoMemory>
     text.append(
         b"Whether a certain role knows it is another question: let that role answer with a ",
     )?;
-    text.append(b"public `out` parameter.\n")
+    text.append(b"public `out` parameter.\n")?;
+    text.append(b"A message that nobody has to send, as a reminder or a cancellation, keeps its ")?;
+    text.append(
+        b"enactment from rest while it can still be sent: take it away and verify again, to see ",
+    )?;
+    text.append(b"whether the verdict hangs on it.\n")
 }
 
 /// Appends the parameter that stays unknown, what could produce it, and what to do.

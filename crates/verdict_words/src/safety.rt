@@ -38,7 +38,8 @@ fn push_safe(text: &mut Bytes) -> Result<(), NoMemory>
     text.append(
         b"Whether a rule of your own holds is another question: ask bspl_can if two messages ",
     )?;
-    text.append(b"can be sent together.\n")
+    text.append(b"can be sent together.\n")?;
+    text.append(b"Whether each message can be sent at all is another question: ask `bspl dead`.\n")
 }
 
 /// Appends the two messages that clash over the parameter.

@@ -36,7 +36,7 @@ What to do: begin with `log 1 safety`, `log 1 liveness` or `log 1 dead MESSAGE`.
         words: b"refused E2 2\nline 1, column 3\n  P P { roles A parameters out x }\n    ^\n\
 What is wrong: no protocol has this there, or the text ends too early.\n\
 Here may stand: {\n\
-What to do: write one of these, or mend what is before the mark.\n",
+What to do: write one of these, or mend what is before the mark: a comma may be missing there.\n",
     },
 ];
 
@@ -45,7 +45,8 @@ const PART_WORDS: &[u8] = b"refused P1 agents\n\
 What is wrong: the command needs the part line `%% agents`, and it is not there, or another part \
 comes first.\n\
 The nearest line: line 2, column 1\n  %% agent\n  ^\n\
-What to do: write exactly that, alone in its line, and end the line above it.\n";
+What to do: write exactly that, alone in its line, end the line above it, and take any other part \
+above it away.\n";
 
 /// The words for an input that is too long.
 const LONG_WORDS: &[u8] = b"refused P2 536870912\n\
