@@ -1,7 +1,7 @@
 """Writes the page of a protocol, from what docs/LANGUAGE.md says of a page and from the definitions of page_parts,
 page_sections, page_text and run_chart: of a protocol text without references, as `bspl expand` prints it, of verdicts
 and dead messages, as `bspl verify --brief` and `bspl dead --brief` print them, and of a run text and what `bspl replay`
-prints of it. It shares nothing with the program."""
+prints of it, or of what `bspl run --threads 0 --brief` prints. It shares nothing with the program."""
 import re
 from pathlib import Path
 from typing import NamedTuple
@@ -283,6 +283,41 @@ def run_section(protocol, run, report):
     return said + Chart(protocol, events, finding).text() + lines
 
 
+def row(head, cells):
+    return f'<tr><th scope="row">{words(head)}</th>{"".join(f"<td>{words(cell)}</td>" for cell in cells)}</tr>\n'
+
+
+def table(caption, heads, rows):
+    columns = "".join(f'<th scope="col">{words(head)}</th>' for head in heads)
+    return (
+        f"<table>\n<caption>{caption}</caption>\n<thead><tr>{columns}</tr></thead>\n<tbody>\n{''.join(rows)}</tbody>\n</table>\n"
+    )
+
+
+def world_section(protocol, played, events):
+    """The section of agents, from the lines of `bspl run`, and the lines of the events of their run, unless it is long."""
+    lines = [line.split(" ") for line in played.splitlines()]
+    keys = [fields[1] for fields in lines if fields[0] == "world"]
+    if not keys:
+        return "<h2>World: not played</h2>\n<p>Agents play a protocol only if it is found safe.</p>\n"
+    counts = [row(fields[1], [fields[3], fields[5]]) for fields in lines if fields[0] == "message"]
+    values = [row(fields[1], [field.split("=", 1)[1] for field in fields[2:]]) for fields in lines if fields[0] == "row"]
+    known = "What some role knows of each parameter under each workload key; a dash if none knows it."
+    shown = ""
+    if events is not None:
+        text = "".join(f"{line}\n" for line in ["run 1", *events, "end"])
+        shown = "<h2>World: events</h2>\n<p>All that the agents sent and received, as one legal run.</p>\n"
+        shown += Chart(protocol, run_of(events), ("plain",)).text() + f"<pre>{words(text)}</pre>\n"
+    return (
+        "<h2>World</h2>\n<p>The agents have acted in turn until nothing was left to do, as by <code>bspl run --threads 0</code>. "
+        f"Workload keys: {keys[0]}.</p>\n"
+        + table("How often each message was sent and received.", ["Message", "Sent", "Received"], counts)
+        + "<h2>World: values</h2>\n"
+        + table(known, ["Key", *[name for name, _ in protocol.params]], values)
+        + shown
+    )
+
+
 def fates(dead):
     """Which messages are dead, from the lines of `bspl dead --brief`."""
     found = [line.split(" ")[1:3] for line in dead.splitlines()[1:]]
@@ -325,15 +360,17 @@ def tables(protocol):
     return "".join(out) + "</tbody>\n</table>\n"
 
 
-def page(text, verdicts, dead, run=None, report=""):
+def page(text, verdicts, dead, run=None, report="", played=None, events=None):
     """The page of the protocol of the text with these verdicts and dead messages, and the lines of a run's events with what
-    `bspl replay` prints of it."""
+    `bspl replay` prints of it, or what `bspl run` prints of agents, with the lines of the events of a short run."""
     protocol, found = protocol_of(text), list(verdicts_of(verdicts))
     said = {property_: verdict.replace("-", " ") for property_, verdict, _, _ in found}
     title = f"{words(protocol.name)}: safety {said['safety']}, liveness {said['liveness']}"
+    given = "" if run is None else run_section(protocol, run, report)
+    given += "" if played is None else world_section(protocol, played, events)
     return (
         '<!DOCTYPE html>\n<html lang="en">\n<head>\n<meta charset="utf-8">\n<meta name="viewport" content="width=device-width">\n'
         f"<title>{title}</title>\n{STYLE}</head>\n<body>\n<h1>{title}</h1>\n"
         f"{''.join(section(protocol, *one) for one in found)}"
-        f"{'' if run is None else run_section(protocol, run, report)}{fates(dead)}{tables(protocol)}</body>\n</html>\n"
+        f"{given}{fates(dead)}{tables(protocol)}</body>\n</html>\n"
     )

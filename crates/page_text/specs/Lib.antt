@@ -1,4 +1,3 @@
--- The page, its sections for the two verdicts, and the run that was given.
+-- The sections for the two verdicts, and the page.
 pub mod Sections
 pub mod Page
-pub mod Given

@@ -1,4 +1,4 @@
--- The page of a protocol, of the verdicts on it, and of a run that was given.
+-- The page of a protocol, of the verdicts on it, and of a section that is given.
 use Rattle.std.specs.Prelude.{ℕ, List, [], ◌∷◌, ◌++◌, codes}
 use Rattle.bspl_types.specs.declared.expanded.Expanded.{Expanded}
 use Rattle.verdict.specs.declared.outcome.Liveness.{Liveness}
@@ -62,6 +62,6 @@ page_tables x fates =
     fates_section x fates ++ message_table x ++ source_table x ++
     Tag (codes "</body>\n</html>\n") ∷ []
 
--- the page: these, and between them the section of a run that was given
+-- the page: these, and between them what is shown of a run or a world
 abbrev pub page : Expanded → Verdicts → List Fate → List Fragment → List Fragment
 page x v fates shown = page_verdicts x v ++ shown ++ page_tables x fates

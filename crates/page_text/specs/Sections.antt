@@ -1,5 +1,5 @@
--- The parts of a page for the two verdicts.
-use Rattle.std.specs.Prelude.{ℕ, List, [], ◌∷◌, ◌++◌, codes, length}
+-- The parts of a page for the two verdicts, and for the run of a world.
+use Rattle.std.specs.Prelude.{ℕ, nat_le, if◌then◌else◌, List, [], ◌∷◌, ◌++◌, codes, length}
 use Rattle.bspl_types.specs.declared.event.Event.{Event}
 use Rattle.bspl_types.specs.declared.expanded.Expanded.{Expanded}
 use Rattle.run_text.specs.RunText.{run_text}
@@ -10,12 +10,23 @@ use Rattle.verdict.specs.declared.outcome.Safety.TheVariants as safety
 use Rattle.page_parts.specs.Fragment.{Fragment, Number, Tag, Words}
 use Rattle.page_parts.specs.Tables.{param_of}
 use Rattle.run_chart.specs.Chart.{chart}
-use Rattle.run_chart.specs.declared.finding.Finding.TheVariants.{Clash, Open}
+use Rattle.run_chart.specs.declared.finding.Finding.TheVariants.{Clash, Open, Plain}
 
 -- the text of a run, from which it can be replayed
 abbrev pub run_part : Expanded → List Event → List Fragment
 run_part x run =
     Tag (codes "<pre>") ∷ Words (run_text x run) ∷ Tag (codes "</pre>\n") ∷ []
+
+-- the heading of the run of a world
+abbrev pub played_heading : List Fragment
+played_heading =
+    Tag (codes "<h2>World: events</h2>\n<p>All that the agents sent and received, as one ") ∷
+    Tag (codes "legal run.</p>\n") ∷ []
+
+-- a run of 200 events at most, as a chart and as a text
+abbrev pub played_part : Expanded → List Event → List Fragment
+played_part x run =
+    if nat_le (length run) 200 then played_heading ++ chart x run Plain ++ run_part x run else []
 
 -- the parameter of an unsafe protocol, and the positions of both producers
 abbrev pub unsafe_words : Expanded → ℕ → ℕ → ℕ → List Fragment

@@ -1,9 +1,9 @@
-//! A page to look at: a protocol, the verdicts on it, and a run that was given.
+//! A page to look at: a protocol, the verdicts on it, and a section that is given.
 #![tactic(auto)]
 
-mod given;
 mod page;
+mod played;
 mod verdicts;
 
-pub use given::GivenRun;
 pub use page::page_text;
+pub use played::push_played;

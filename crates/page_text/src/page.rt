@@ -1,11 +1,10 @@
-ghost use Rattle.std.specs.Prelude.{◌≡◌, ◌++◌, map, IfOk, OnOk};
-ghost use Rattle.page_parts.specs.Fragment.{written};
-ghost use Rattle.page_text.specs.Given.{HasFittingEvents, IsPageWith};
-ghost use Rattle.page_text.specs.Page.{page_head, page_start, page_tables, page_verdicts, title};
+ghost use Rattle.std.specs.Prelude.{◌≡◌, ◌++◌, map, IfOk, List, OnOk};
+ghost use Rattle.page_parts.specs.Fragment.{Fragment, written};
+ghost use Rattle.page_text.specs.Page.{page, page_head, page_start, page_tables, page_verdicts};
+ghost use Rattle.page_text.specs.Page.{title};
 ghost use Rattle.page_parts.specs.Piece.{fragment_of};
 ghost use Rattle.report.specs.VerdictText.{HaveFittingRuns};
 
-use super::given::{GivenRun, push_given};
 use super::verdicts::{liveness_word, push_liveness, push_safety, safety_word};
 use bspl_types::{Admitted, Expanded};
 use list_base::{Bytes, NoMemory};
@@ -14,22 +13,22 @@ use page_sections::{Fate, push_fates};
 use std::alloc::Global;
 use verdict::Verdicts;
 
-/// The page of the verdicts, of what becomes of each message, and of a run that was given: one file
-/// that needs no other.
+/// The page of the verdicts, of a section that is written already, and of what becomes of each
+/// message: one file that needs no other.
 pub fn page_text(
     alloc: Global,
     a: &Admitted,
     v: &Verdicts,
     fates: &[Fate],
-    given: Option<GivenRun<'_>>,
+    section: &[u8],
 ) -> Result<Bytes, NoMemory>
-    requires verdicts { HaveFittingRuns a.now v.now }
-    requires given { HasFittingEvents a.now given }
-    ensures { IfOk result (IsPageWith a.now v.now fates.now given.entry) }
+    requires { HaveFittingRuns a.now v.now }
+    ensures { IfOk result (λ text. (shown : List Fragment) → section.now ≡ written shown →
+        text ≡ written (page a.now v.now fates.now shown)) }
 {
     let mut text = Bytes::new(alloc);
     push_verdicts(alloc, &mut text, a, v)?;
-    push_given(alloc, &mut text, a, given)?;
+    text.append(section)?;
     push_tables(&mut text, a.expanded(), fates)?;
     Ok(text)
 }

@@ -158,7 +158,12 @@ fn push_not_live(text: &mut Bytes, x: &Expanded, param: u32) -> Result<(), NoMem
 }
 
 /// Appends the text of the run.
-fn push_run(alloc: Global, text: &mut Bytes, a: &Admitted, run: &[Event]) -> Result<(), NoMemory>
+pub(crate) fn push_run(
+    alloc: Global,
+    text: &mut Bytes,
+    a: &Admitted,
+    run: &[Event],
+) -> Result<(), NoMemory>
     requires { IsRun a.now run.now }
     ensures { OnOk result (text.new ≡ text.old ++ written (run_part a.now run.now)) }
 {

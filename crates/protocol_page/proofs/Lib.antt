@@ -1,4 +1,5 @@
 pub mod AnswerLemmas
 pub mod FateLemmas
 pub mod PageLemmas
+pub mod PlayLemmas
 pub mod ReplyLemmas

@@ -1,6 +1,5 @@
 -- What a page says of a protocol is true.
-use Rattle.std.proofs.Common.{◌≡◌, ℕ, List, Option, refl}
-use Rattle.bspl_types.specs.declared.event.Event.{Event}
+use Rattle.std.proofs.Common.{◌≡◌, ℕ, List, refl}
 use Rattle.bspl_types.specs.declared.expanded.Expanded.{Expanded}
 use Rattle.enactment_model.specs.Liveness.{LiveProtocol}
 use Rattle.enactment_model.specs.Safety.{SafeProtocol}
@@ -13,6 +12,7 @@ use Rattle.verdict.specs.declared.outcome.Safety.TheVariants as safety
 use Rattle.verdict.specs.Right.{IsRight}
 use Rattle.verdict.specs.RightLiveness.{IsRightLiveness}
 use Rattle.protocol_page.specs.Answer.{IsPageAnswer}
+use Rattle.protocol_page.specs.Given.{Given}
 use Rattle.report.specs.ExitStatus.{verdict_status}
 
 -- a right verdict that the protocol is safe is true
@@ -34,7 +34,7 @@ right_live : (x : Expanded) (l : Liveness) (log : Log) → l ≡ liveness.Live l
 right_live x l log is right = (rw is at right).holds
 
 -- so is the status 0
-pub done_true : (x : Expanded) (given : Option (List Event)) (out : List ℕ) → IsPageAnswer x given out status.Done → SafeProtocol x × LiveProtocol x
+pub done_true : (x : Expanded) (given : Given) (out : List ℕ) → IsPageAnswer x given out status.Done → SafeProtocol x × LiveProtocol x
 done_true x given out answer =
     let both = both_done answer.verdicts.safety answer.verdicts.liveness answer.ends in
     (right_safe x answer.verdicts.safety both.0.0 both.0.1 answer.right.safety, right_live x answer.verdicts.liveness both.1.0 both.1.1 answer.right.liveness)

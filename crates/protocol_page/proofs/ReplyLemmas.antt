@@ -12,7 +12,7 @@ use Rattle.tool_input.specs.Input.{Declares}
 use Rattle.tool_input.specs.Parts.{protocol_text}
 use Rattle.tool_input.specs.Rejection.{over_limit, rejection_line}
 use Rattle.protocol_page.specs.Call.{AsksForInput}
-use Rattle.protocol_page.specs.Output.{PageOutput, answered, page_usage, refused, run, too_long, usage}
+use Rattle.protocol_page.specs.Output.{PageOutput, agents, answered, page_usage, refused, run, too_long, usage}
 use Rattle.protocol_page.specs.Request.{IsUsage, Requests}
 use Rattle.protocol_page.specs.inner.Reply.{IsPartReply, IsReply}
 use Rattle.protocol_page.specs.inner.Request.{IsRequest}
@@ -31,7 +31,10 @@ pub part_output : (args : List (List ℕ)) (name input : List ℕ) (x : Expanded
 part_output args name input x reply requests short declared (inl page) =
     answered name reply.text reply.status requests (record { short = short; protocol = x; declared = declared; given = page.given; gives = page.gives; answer = page.answer })
 part_output args name input x reply requests short declared (inr bad) =
-    rw (bad.is_line.is_text, bad.is_line.is_status) (refused name bad.rejection requests (run x bad.rejection short declared bad.refuses))
+    rw (bad.is_line.is_text, bad.is_line.is_status) (refused name bad.rejection requests (elim bad.refuses [
+      | inl of_run ↦ run x bad.rejection short declared of_run
+      | inr of_agents ↦ agents x bad.rejection short declared of_agents
+    ]))
 
 -- what is answered to arguments that ask for no input is right for each input
 pub unasked_output : (args : List (List ℕ)) → ¬ AsksForInput args → (bytes other out : List ℕ) (status : Status) → PageOutput args bytes out status → PageOutput args other out status

@@ -1,17 +1,26 @@
--- What is answered on an admitted protocol, and on a run that is given with it.
-use Rattle.std.specs.Prelude.{◌≡◌, ℕ, List, [], Option, None, Some}
+-- What is answered on an admitted protocol, and on what is given with it.
+use Rattle.std.specs.Prelude.{◌≡◌, ℕ, List, [], ◌++◌}
+use Rattle.adapter.specs.Desk.{DeskState}
+use Rattle.agent_scripts.specs.Job.{Job}
 use Rattle.bspl_types.specs.declared.event.Event.{Event}
 use Rattle.bspl_types.specs.declared.expanded.Expanded.{Expanded}
 use Rattle.page_parts.specs.Fragment.{Fragment, written}
 use Rattle.page_sections.specs.declared.fate.Fate.{Fate}
 use Rattle.page_sections.specs.RunSection.{ShowsRun}
 use Rattle.page_text.specs.Page.{page}
+use Rattle.page_text.specs.Sections.{played_part}
 use Rattle.report.specs.ExitStatus.{verdict_status}
 use Rattle.report.specs.ReplayText.{IsReplayText}
 use Rattle.tool_input.specs.declared.status.Status.{Status}
+use Rattle.verdict.specs.declared.outcome.Safety.{Safety}
+use Rattle.verdict.specs.declared.outcome.Safety.TheVariants.{Safe, Undecided, Unsafe}
 use Rattle.verdict.specs.declared.outcome.Verdicts.{Verdicts}
 use Rattle.verdict.specs.Verdicts.{AreRight}
+use Rattle.world_run.specs.Finished.{IsFinished}
+use Rattle.world_run.specs.Settling.{HaveRunWhole}
+use Rattle.world_section.specs.WorldSection.{ShowsWorld, unplayed_section}
 use Rattle.protocol_page.specs.Fates.{AreFates}
+use Rattle.protocol_page.specs.Given.{Agents, Given, Nothing, Run}
 
 -- the section of the run, with what `replay` reports on it
 pub record ShowsReplay (x : Expanded) (run : List Event) (shown : List Fragment) : Type 0 where
@@ -19,20 +28,38 @@ pub record ShowsReplay (x : Expanded) (run : List Event) (shown : List Fragment)
   pub reports : IsReplayText x run report
   pub shows : ShowsRun x run report shown
 
--- without a run there is no section
-abbrev pub ShowsGivenRun : Expanded → Option (List Event) → List Fragment → Type 0
-ShowsGivenRun x None shown = shown ≡ []
-ShowsGivenRun x (Some run) shown = ShowsReplay x run shown
+-- the section of the world that the job's agents play from new desks to its end, in the order that
+-- the plan's seed gives, and its run if it is short
+pub record ShowsPlayed (job : Job) (shown : List Fragment) : Type 0 where
+  pub desks : List DeskState
+  pub finished : IsFinished job desks
+  pub course : HaveRunWhole job desks
+  pub tables : List Fragment
+  pub shows : ShowsWorld job.protocol job.script finished.run tables
+  pub section : shown ≡ tables ++ played_part job.protocol finished.run
+
+-- the agents of a protocol that is found safe play; else the section says that none do
+abbrev pub ShowsAgents : Job → Safety → List Fragment → Type 0
+ShowsAgents job (Safe log) shown = ShowsPlayed job shown
+ShowsAgents job (Unsafe run param first second) shown = shown ≡ unplayed_section
+ShowsAgents job (Undecided log) shown = shown ≡ unplayed_section
+
+-- what is shown of what an input gives
+abbrev pub ShowsGiven : Expanded → Safety → Given → List Fragment → Type 0
+ShowsGiven x s Nothing shown = shown ≡ []
+ShowsGiven x s (Run run) shown = ShowsReplay x run shown
+ShowsGiven x s (Agents script plan) shown =
+    ShowsAgents (record { protocol = x; script = script; plan = plan }) s shown
 
 -- the page of some right verdicts and fates, whose searches may meet 10000 conflicts each, and of
--- the run; the status is that of the verdicts
-pub record IsPageAnswer (x : Expanded) (given : Option (List Event)) (out : List ℕ)
-    (status : Status) : Type 0 where
+-- what is given; the status is that of the verdicts
+pub record IsPageAnswer (x : Expanded) (given : Given) (out : List ℕ) (status : Status)
+    : Type 0 where
   pub verdicts : Verdicts
   pub right : AreRight x 10000 verdicts
   pub fates : List Fate
   pub fated : AreFates x 10000 fates
   pub shown : List Fragment
-  pub shows : ShowsGivenRun x given shown
+  pub shows : ShowsGiven x verdicts.safety given shown
   pub text : out ≡ written (page x verdicts fates shown)
   pub ends : status ≡ verdict_status verdicts.safety verdicts.liveness

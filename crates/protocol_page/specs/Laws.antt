@@ -1,6 +1,5 @@
 -- What a page says is true. Each statement is the contract of a function.
-use Rattle.std.specs.Prelude.{◌≡◌, ℕ, List, Option, Some, slice_get}
-use Rattle.bspl_types.specs.declared.event.Event.{Event}
+use Rattle.std.specs.Prelude.{◌≡◌, ℕ, List, Some, slice_get}
 use Rattle.bspl_types.specs.declared.expanded.Expanded.{Expanded}
 use Rattle.enactability.specs.Enactable.{Enactable}
 use Rattle.enactment_model.specs.Liveness.{LiveProtocol}
@@ -10,11 +9,12 @@ use Rattle.page_sections.specs.declared.fate.Fate.TheVariants.{Dead, Sent}
 use Rattle.tool_input.specs.declared.status.Status.TheVariants.{Done}
 use Rattle.protocol_page.specs.Answer.{IsPageAnswer}
 use Rattle.protocol_page.specs.Fates.{AreFates}
+use Rattle.protocol_page.specs.Given.{Given}
 
 -- the status 0 is given of a safe and live protocol alone
 abbrev pub DonePagesAreTrue : Type 0
 DonePagesAreTrue =
-    (x : Expanded) (given : Option (List Event)) (out : List ℕ) → IsPageAnswer x given out Done →
+    (x : Expanded) (given : Given) (out : List ℕ) → IsPageAnswer x given out Done →
     SafeProtocol x × LiveProtocol x
 
 -- no legal run sends a message whose fate is to be dead

@@ -1,10 +1,10 @@
--- What one call promises, then what the arguments request, the output, the run that an input gives,
--- the answer on a protocol, the fates of its messages, and the laws; what private functions cite is
--- last.
+-- What one call promises, then what the arguments request, the output, what an input gives beside
+-- its protocol, the answer on both, the fates of the messages, and the laws; what private functions
+-- cite is last.
 pub mod Call
 pub mod Request
 pub mod Output
-pub mod GivenRun
+pub mod Given
 pub mod Answer
 pub mod Fates
 pub mod Laws

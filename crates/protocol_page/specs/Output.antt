@@ -1,6 +1,5 @@
 -- What is written for the arguments and the bytes of the input, and with which status.
-use Rattle.std.specs.Prelude.{◌≡◌, ℕ, ◌<◌, ◌≤◌, List, Option, Some, length, codes}
-use Rattle.bspl_types.specs.declared.event.Event.{Event}
+use Rattle.std.specs.Prelude.{◌≡◌, ℕ, ◌<◌, ◌≤◌, List, Some, length, codes}
 use Rattle.bspl_types.specs.declared.expanded.Expanded.{Expanded}
 use Rattle.bspl_types.specs.declared.refusals.Refusal.{Refusal}
 use Rattle.bspl_types.specs.Limits.{input_limit}
@@ -12,7 +11,7 @@ use Rattle.tool_input.specs.Parts.{protocol_text}
 use Rattle.tool_input.specs.Rejection.{over_limit, rejection_line, text_rejection}
 use Rattle.tool_input.specs.TextRefusal.{RefusesText}
 use Rattle.protocol_page.specs.Answer.{IsPageAnswer}
-use Rattle.protocol_page.specs.GivenRun.{GivesRun, RefusesRun}
+use Rattle.protocol_page.specs.Given.{Given, Gives, RefusesAgents, RefusesRun}
 use Rattle.protocol_page.specs.Request.{IsUsage, Requests}
 
 -- the line for invalid arguments
@@ -31,14 +30,17 @@ pub data RefusesInput (name input : List ℕ) : Rejection → Type 0 where
   -- its part is to be a run of the protocol that it declares, and has a bad line
   run : (x : Expanded) (r : Rejection) → length input ≤ input_limit
       → Declares name (protocol_text input) x → RefusesRun x input r → RefusesInput name input r
+  -- its part is to be the text of agents of that protocol, and has a bad line
+  agents : (x : Expanded) (r : Rejection) → length input ≤ input_limit
+      → Declares name (protocol_text input) x → RefusesAgents x input r → RefusesInput name input r
 
--- the output is the page of the protocol that the input declares, and of the run that it gives
+-- the output is the page of the protocol that the input declares, and of what it gives beside it
 pub record ShowsProtocol (name input out : List ℕ) (status : Status) : Type 0 where
   pub short : length input ≤ input_limit
   pub protocol : Expanded
   pub declared : Declares name (protocol_text input) protocol
-  pub given : Option (List Event)
-  pub gives : GivesRun protocol input given
+  pub given : Given
+  pub gives : Gives protocol input given
   pub answer : IsPageAnswer protocol given out status
 
 -- the output and the status for the arguments and the bytes of the input

@@ -1,5 +1,5 @@
 -- What only private functions cite.
-pub mod Answer
 pub mod Fates
 pub mod Reply
 pub mod Request
+pub mod Section

@@ -1,28 +1,31 @@
-ghost use Rattle.std.specs.Prelude.{IfOk, None, Some};
+ghost use Rattle.std.specs.Prelude.{◌≡◌, IfOk, List};
 ghost use Rattle.bspl_types.specs.History.{IsRun};
-ghost use Rattle.page_text.specs.Given.{HasFittingEvents};
-ghost use Rattle.protocol_page.specs.Answer.{IsPageAnswer};
-ghost use Rattle.protocol_page.specs.inner.Answer.{IsFatedPage, IsPageOf};
+ghost use Rattle.page_parts.specs.Fragment.{Fragment, written};
+ghost use Rattle.protocol_page.specs.Answer.{IsPageAnswer, ShowsGiven};
+ghost use Rattle.protocol_page.specs.Given.{Agents, Given, Nothing, Run};
+ghost use Rattle.verdict.specs.Verdicts.{AreRight};
 
 use super::fates::message_fates;
+use super::sections::{agents_section, run_section};
+use agent_scripts::Job;
 use bspl_types::{Admitted, Event};
 use list_base::NoMemory;
-use page_sections::Fate;
-use page_text::{GivenRun, page_text};
+use page_text::page_text;
 use program_frame::Reply;
-use report::{replay_text, right_runs_fit, verdict_status};
+use report::{right_runs_fit, verdict_status};
 use std::alloc::Global;
 use tool_input::Status;
-use verdict::verify;
+use verdict::{Verdicts, verify};
 
 /// How many conflicts the search for each verdict and for each message may meet.
 const CONFLICTS: u32 = 10_000;
 
 /// The page of right verdicts on the protocol.
 pub fn page_answer(alloc: Global, protocol: &Admitted) -> Result<Reply<Status>, NoMemory>
-    ensures { IfOk result (λ reply. IsPageAnswer protocol.now None reply.text reply.status) }
+    ensures { IfOk result (λ reply. IsPageAnswer protocol.now Nothing reply.text reply.status) }
 {
-    answer_with(alloc, protocol, None)
+    let verdicts = right_verdicts(alloc, protocol)?;
+    page_of(alloc, protocol, &verdicts, b"")
 }
 
 /// The page of right verdicts on the protocol, and of the run.
@@ -33,41 +36,49 @@ pub fn page_with_run(
 ) -> Result<Reply<Status>, NoMemory>
     requires { IsRun protocol.now run.now }
     ensures { IfOk result (λ reply.
-        IsPageAnswer protocol.now (Some run.now) reply.text reply.status) }
+        IsPageAnswer protocol.now (Run run.now) reply.text reply.status) }
 {
-    let replay = replay_text(alloc, protocol, run)?;
-    let report = replay.text.as_slice();
-    answer_with(alloc, protocol, Some(GivenRun { run, report }))
+    let verdicts = right_verdicts(alloc, protocol)?;
+    let section = run_section(alloc, protocol, run)?;
+    page_of(alloc, protocol, &verdicts, section.as_slice())
 }
 
-/// The page of right verdicts and fates, and of the run if one is given.
-fn answer_with(
-    alloc: Global,
-    protocol: &Admitted,
-    given: Option<GivenRun<'_>>,
-) -> Result<Reply<Status>, NoMemory>
-    requires { HasFittingEvents protocol.now given }
-    ensures { IfOk result (IsPageOf protocol.now given.entry) }
+/// The page of right verdicts on the job's protocol, and of the world that its agents play if the
+/// protocol is found safe.
+pub fn page_with_agents(alloc: Global, job: &Job) -> Result<Reply<Status>, NoMemory>
+    ensures { IfOk result (λ reply. IsPageAnswer job.now.protocol
+        (Agents job.now.script job.now.plan) reply.text reply.status) }
 {
-    let fates = message_fates(alloc, protocol, CONFLICTS)?;
-    fated_answer(alloc, protocol, fates.as_slice(), given)
+    let protocol = job.admitted();
+    let verdicts = right_verdicts(alloc, protocol)?;
+    let section = agents_section(alloc, job, &verdicts.safety)?;
+    page_of(alloc, protocol, &verdicts, section.as_slice())
 }
 
-/// The page of right verdicts with these fates.
-fn fated_answer(
+/// Right verdicts on the protocol.
+fn right_verdicts(alloc: Global, protocol: &Admitted) -> Result<Verdicts, NoMemory>
+    ensures { IfOk result (AreRight protocol.now 10000) }
+{
+    verify(alloc, protocol, CONFLICTS)
+}
+
+/// The page of the verdicts, of some right fates, and of a section of what is given.
+fn page_of(
     alloc: Global,
     protocol: &Admitted,
-    fates: &[Fate],
-    given: Option<GivenRun<'_>>,
+    verdicts: &Verdicts,
+    section: &[u8],
 ) -> Result<Reply<Status>, NoMemory>
-    requires { HasFittingEvents protocol.now given }
-    ensures { IfOk result (IsFatedPage protocol.now given.entry fates.now) }
+    requires { AreRight protocol.now 10000 verdicts.now }
+    ensures { IfOk result (λ reply. (given : Given) (shown : List Fragment) →
+        ShowsGiven protocol.now verdicts.now.safety given shown → section.now ≡ written shown →
+        IsPageAnswer protocol.now given reply.text reply.status) }
 {
     // law: the runs of right verdicts fit the protocol
     right_runs_fit();
-    let verdicts = verify(alloc, protocol, CONFLICTS)?;
+    let fates = message_fates(alloc, protocol, CONFLICTS)?;
     Ok(Reply {
-        status: verdict_status(&verdicts),
-        text: page_text(alloc, protocol, &verdicts, fates, given)?,
+        status: verdict_status(verdicts),
+        text: page_text(alloc, protocol, verdicts, fates.as_slice(), section)?,
     })
 }

@@ -1,5 +1,5 @@
 -- A reception after an emission of its instance has an arrow.
-use Rattle.std.proofs.Common.{◌≡◌, ℕ, ◌+◌, ◌<◌, ◌≤◌, Bool, true, List, [], ◌∷◌, ◌++◌, Option, None, Some, length, take, get_or, refl, sym, ap, inl, inr, ◌∙◌, subst, arith}
+use Rattle.std.proofs.Common.{◌≡◌, ℕ, ◌+◌, ◌<◌, ◌≤◌, Bool, true, List, [], ◌∷◌, ◌++◌, Option, None, Some, length, take, get_or, sym, ap, inl, inr, ◌∙◌, subst, arith}
 use Rattle.std.specs.Prelude.{cond, slice_get}
 use Rattle.std.specs.List.{Contains, enumerate_from, flat_map, position, position_or_len}
 use Rattle.std.proofs.lemmas.Bool.{cases_lt, false≢true, lt-ltb}
@@ -16,7 +16,7 @@ use Rattle.bspl_types.specs.declared.expanded.Expanded.{Expanded}
 use Rattle.bspl_types.specs.Expansion.{message_of}
 use Rattle.bspl_types.specs.History.{role_of}
 use Rattle.run_chart.specs.Laws.{HasArrow}
-use Rattle.run_chart.specs.Strokes.{Arrow, Mark, Stroke, arrow_from, emits, strokes_at}
+use Rattle.run_chart.specs.Strokes.{Arrow, Mark, arrow_from, emits, strokes_at}
 use Rattle.run_chart.proofs.ShownLemmas.{is_same}
 
 -- a member of one of the lists that are joined

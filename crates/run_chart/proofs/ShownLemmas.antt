@@ -17,7 +17,7 @@ use Rattle.bspl_types.specs.Expansion.{message_of}
 use Rattle.bspl_types.specs.History.{role_of}
 use Rattle.bspl_types.specs.Value.{equal_values}
 use Rattle.run_chart.specs.Laws.{IsMissing, JoinsInstance, marked}
-use Rattle.run_chart.specs.Strokes.{Arrow, Mark, Stroke, Stub, arrow_from, emits, receives, same_instance, strokes, strokes_at, stub_from}
+use Rattle.run_chart.specs.Strokes.{Arrow, Mark, Stub, arrow_from, emits, receives, same_instance, strokes, strokes_at, stub_from}
 
 -- an event has one mark
 marks_at : (x : Expanded) (run : List Event) (event : ℕ × Event) → filter_map marked (strokes_at x run event) ≡ event ∷ []

@@ -1,6 +1,6 @@
 -- How strokes, lifelines and rings are drawn.
-use Rattle.std.specs.Prelude.{ℕ, ◌+◌, ◌*◌, nat_lt, if◌then◌else◌, List, [], ◌∷◌, ◌++◌, codes}
-use Rattle.page_parts.specs.Fragment.{Fragment, Number, Tag, Words}
+use Rattle.std.specs.Prelude.{ℕ, ◌+◌, ◌*◌, nat_lt, if◌then◌else◌, List, [], ◌∷◌, codes}
+use Rattle.page_parts.specs.Fragment.{Fragment, Number, Tag}
 use Rattle.run_chart.specs.Place.{column, row}
 use Rattle.run_chart.specs.Strokes.{Arrow, Mark, Stroke, Stub}
 

@@ -1,4 +1,4 @@
-ghost use Rattle.std.specs.Prelude.{◌≡◌, ◌<◌, ◌≤◌, length};
+ghost use Rattle.std.specs.Prelude.{◌≡◌, ◌<◌, length};
 ghost use Rattle.run_chart.specs.Place.{chart_height, chart_width, column, row, rows_end};
 
 use bspl_types::{Event, Expanded};
