@@ -1,8 +1,6 @@
 -- The fates of messages, one after another, and what they say.
-use Rattle.std.proofs.Common.{◌≡◌, ℕ, ◌+◌, suc, List, [], ◌∷◌, ◌++◌, Some, length, length-append, refl, sym, ap, ◌∙◌, subst, arith}
+use Rattle.std.proofs.Common.{◌≡◌, ℕ, ◌+◌, ◌<◌, List, Some, length, get_or, sym, ap, ◌∙◌, subst, arith}
 use Rattle.std.specs.Prelude.{slice_get, slice_index_or}
-use Rattle.std.specs.List.{All, enumerate_from}
-use Rattle.std.proofs.lemmas.List.Elements.{All-push}
 use Rattle.std.proofs.lemmas.List.FromFn.{get_or-enumerate_from, length-enumerate_from}
 use Rattle.std.proofs.lemmas.Option.{get_or_from_slice_get, slice_get_within}
 use Rattle.bspl_types.specs.declared.expanded.Expanded.{Expanded}
@@ -13,27 +11,18 @@ use Rattle.enactability.specs.Enactable.{Enactable}
 use Rattle.page_sections.specs.declared.fate.Fate.{Fate}
 use Rattle.page_sections.specs.declared.fate.Fate.TheVariants.{Dead, Sent}
 use Rattle.protocol_page.specs.Fates.{AreFates, HasFate, fate_of}
-use Rattle.protocol_page.specs.inner.Fates.{HaveFates}
+use Rattle.protocol_page.specs.inner.Fates.{HaveFatesFrom}
 
--- one item more has the next number
-numbered_more : {X : Type 0} (n : ℕ) (xs : List X) (x : X) → enumerate_from n (xs ++ x ∷ []) ≡ enumerate_from n xs ++ (n + length xs, x) ∷ []
-numbered_more {X} n [] x = let next : n ≡ n + 0 = omega arith in ap {B = List (ℕ × X)} (λ k. (k, x) ∷ []) next
-numbered_more {X} n (y ∷ ys) x =
-    let next : n + 1 + length ys ≡ n + suc (length ys) = omega arith in
-    ap {B = List (ℕ × X)} (λ rest. (n, y) ∷ rest) (numbered_more (n + 1) ys x ∙ ap {B = List (ℕ × X)} (λ k. enumerate_from (n + 1) ys ++ (k, x) ∷ []) next)
-
--- before the first message
-pub no_fates : (x : Expanded) (budget : ℕ) → HaveFates x budget 0 []
-no_fates x budget = record { counted = refl; right = λ k d within. absurd (omega arith) }
-
--- after one message more
-pub one_fate : (x : Expanded) (budget count : ℕ) (fates : List Fate) (fate : Fate) → HaveFates x budget count fates → HasFate x budget (count, fate) → HaveFates x budget (count + 1) (fates ++ fate ∷ [])
-one_fate x budget count fates fate so_far right =
-    let at : count ≡ 0 + length fates = (let counted = so_far.counted in omega (arith, counted)) in
-    let numbered = sym (numbered_more 0 fates fate) in
+-- the fates of all messages
+pub all_found : (x : Expanded) (budget : ℕ) (fates : List Fate) → HaveFatesFrom x budget 0 fates → AreFates x budget fates
+all_found x budget fates found =
     record {
-      counted = (let counted = so_far.counted in omega (arith, counted, length-append fates (fate ∷ [])));
-      right = subst (All (HasFate x budget)) numbered (All-push (HasFate x budget) (enumerate_from 0 fates) (0 + length fates, fate) so_far.right (subst (λ k. HasFate x budget (k, fate)) at right));
+      one_each = found.one_each;
+      right = λ k d within.
+          let inside : k < length fates = omega (arith, within, length-enumerate_from 0 fates) in
+          let number : k ≡ 0 + k = omega arith in
+          let item = ap {B = ℕ × Fate} (λ n. (n, slice_index_or fates k d.1)) number ∙ sym (get_or-enumerate_from 0 fates k d inside) in
+          subst (HasFate x budget) item (found.right k d.1 (omega arith) inside);
     }
 
 -- the fate of one message
