@@ -19,7 +19,7 @@ use Rattle.verdict.specs.Verdicts.{AreRight}
 use Rattle.world_run.specs.Finished.{IsFinished}
 use Rattle.world_run.specs.Settling.{HaveRunWhole}
 use Rattle.world_section.specs.WorldSection.{ShowsWorld, unplayed_section}
-use Rattle.protocol_page.specs.Fates.{AreFates}
+use Rattle.message_fates.specs.Fates.{AreFates}
 use Rattle.protocol_page.specs.Given.{Agents, Given, Nothing, Run}
 
 -- the section of the run, with what `replay` reports on it
@@ -51,7 +51,7 @@ ShowsGiven x s (Run run) shown = ShowsReplay x run shown
 ShowsGiven x s (Agents script plan) shown =
     ShowsAgents (record { protocol = x; script = script; plan = plan }) s shown
 
--- the page of some right verdicts and fates, whose searches may meet 10000 conflicts each, and of
+-- the page of right verdicts, whose searches may meet 10000 conflicts each, of right fates and of
 -- what is given; the status is that of the verdicts
 pub record IsPageAnswer (x : Expanded) (given : Given) (out : List ℕ) (status : Status)
     : Type 0 where

@@ -5,11 +5,11 @@ ghost use Rattle.protocol_page.specs.Answer.{IsPageAnswer, ShowsGiven};
 ghost use Rattle.protocol_page.specs.Given.{Agents, Given, Nothing, Run};
 ghost use Rattle.verdict.specs.Verdicts.{AreRight};
 
-use super::fates::message_fates;
 use super::sections::{agents_section, run_section};
 use agent_scripts::Job;
 use bspl_types::{Admitted, Event};
 use list_base::NoMemory;
+use message_fates::message_fates;
 use page_text::page_text;
 use program_frame::Reply;
 use report::{right_runs_fit, verdict_status};

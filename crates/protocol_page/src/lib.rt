@@ -3,7 +3,6 @@
 
 mod answer;
 mod call;
-mod fates;
 mod laws;
 mod part_reply;
 mod reply;
@@ -12,6 +11,5 @@ mod sections;
 
 pub use answer::{page_answer, page_with_agents, page_with_run};
 pub use call::bspl_page;
-pub use fates::message_fates;
-pub use laws::{done_pages_are_true, fates_are_true};
+pub use laws::done_pages_are_true;
 pub use request::Request;

@@ -3,7 +3,6 @@ use Rattle.std.proofs.Common.{◌≡◌, None, inr, sym, ap, ◌∙◌}
 use Rattle.std.proofs.lemmas.Result.{IfOk-weaker}
 use Rattle.agent_scripts.specs.declared.refusal.ScriptRefusal.TheVariants.{NoMemory}
 use Rattle.bspl_tool.specs.RunAnswer.{script_rejection}
-use Rattle.program_frame.specs.declared.reply.Reply.{Reply}
 use Rattle.protocol_page.specs.inner.Reply.{IsPartReply, RepliesRefused}
 use Rattle.protocol_page.proofs.part_reply.agents_reply.Goals as goal
 

@@ -1,0 +1,4 @@
+pub mod FateLemmas
+pub mod KnownLemmas
+pub mod ReachLemmas
+pub mod RunLemmas

@@ -1,0 +1,13 @@
+//! What becomes of each message of a protocol: whether some legal run sends it.
+#![tactic(auto)]
+
+mod fates;
+mod goals;
+mod known;
+mod laws;
+mod param_sets;
+mod play;
+mod played_run;
+mod reach;
+
+pub use fates::message_fates;
