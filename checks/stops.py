@@ -1,7 +1,7 @@
 #!/usr/bin/env python3
 """Stops durable stores at each call of their disks, tears what they write, and looks at what a start then finds.
 
-    bench/durable/stops.py [PROTOCOL ..]
+    checks/stops.py [PROTOCOL ..]
 
 Of Relay, of Purchase and of a protocol with sixteen messages (Relay Purchase Sixteen), under two keys, each role plays
 its events over a StopDisk that stops at call 1, 2, .. until no call is left, and leaves 0, 1 or 255 where nothing was
@@ -16,8 +16,11 @@ files), and takes minutes for each protocol. SECONDS_EACH (600) is the most that
 """
 import os
 import sys
+from pathlib import Path
 
-from build import add_crate, copy_crates, run
+HERE = Path(__file__).resolve().parent
+sys.path.insert(0, str(HERE.parent / "bench"))
+from rattle_build import add_crate, copy_crates, run  # noqa: E402
 
 SECONDS = os.environ.get("SECONDS_EACH", "600")
 USES = """adornment_check bspl_parser bspl_types durable_store list_base local_store program_args protocol_expand
@@ -26,7 +29,7 @@ role_journal stamped_history""".split()
 
 def main():
     copy_crates()
-    folder = add_crate("journal_stops", "stops.rattle", USES)
+    folder = add_crate("journal_stops", HERE / "stops.rattle", USES)
     wrong = False
     for name in sys.argv[1:] or ["Relay", "Purchase", "Sixteen"]:
         status, out, err = run(folder, "try", "--seconds", SECONDS, "--", name)

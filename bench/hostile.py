@@ -1,7 +1,7 @@
 #!/usr/bin/env python3
 """Times bspl and dimacs_sat on texts that look for slow corners, beside plain texts of the same size.
 
-    bench/hostile [CASE ..]
+    bench/hostile.py [CASE ..]
 
 A line a case: its size in bytes, the seconds of processor time, those of the plain text of that size, and the ratio.
 The least of RUNS (3) runs counts; a run of more than SECONDS (120) is stopped. A plain text is a document whose asked
@@ -13,16 +13,13 @@ bytes. What is missing is said, and left out. BSPL and DIMACS_SAT name the progr
 """
 import itertools
 import os
-import subprocess
 import sys
-import tempfile
-import threading
 from pathlib import Path
 
-TOP = Path(__file__).resolve().parent.parent
-BSPL = os.environ.get("BSPL", str(TOP / "crates/bspl/out/bspl"))
-DIMACS_SAT = os.environ.get("DIMACS_SAT", str(TOP / "crates/dimacs_sat/out/dimacs_sat"))
-RUNS = int(os.environ.get("RUNS", "3"))
+import measure
+from measure import least, missing
+
+BSPL, DIMACS_SAT = measure.program("bspl"), measure.program("dimacs_sat")
 SECONDS = int(os.environ.get("SECONDS_EACH", "120"))
 SIZE = int(os.environ.get("SIZE", "100000000"))
 LETTERS = "abcdefghijklmnopqrstuvwxyzABCDEFGHIJKLMNOPQRSTUVWXYZ"
@@ -137,24 +134,8 @@ def run_of_keys(collide):
 
 def seconds_of(command, text):
     """The least processor time of the command, or None if it was stopped, and what it printed first."""
-    least, out = None, b""
-    with tempfile.TemporaryFile() as given:
-        given.write(text.encode())
-        for _ in range(RUNS):
-            given.seek(0)
-            with tempfile.TemporaryFile() as printed:
-                call = subprocess.Popen(command, stdin=given, stdout=printed)
-                timer = threading.Timer(SECONDS, call.kill)
-                timer.start()
-                _, status, used = os.wait4(call.pid, 0)
-                timer.cancel()
-                printed.seek(0)
-                out = printed.read(60)
-            if os.WIFSIGNALED(status):
-                return None, out
-            spent = used.ru_utime + used.ru_stime
-            least = spent if least is None else min(least, spent)
-    return least, out
+    run = least(command, text.encode(), limit=SECONDS)
+    return None if run.status is None else run.processor, run.out[:60]
 
 
 def row(case, command, text, beside):
@@ -211,15 +192,15 @@ def cases():
 
 
 def main():
-    wanted, missing = sys.argv[1:], set()
+    wanted, told = sys.argv[1:], set()
     print(f"{'case':22}{'bytes':>11}{'seconds':>9}{'plain':>9}{'ratio':>8}  answer")
     for case, program, made in cases():
         if wanted and not any(case.startswith(word) for word in wanted):
             continue
-        if not Path(program).exists():
-            if program not in missing:
+        if missing(program):
+            if program not in told:
                 print(f"{program} is missing, so its cases are left out")
-            missing.add(program)
+            told.add(program)
             continue
         row(case, *made())
 

@@ -1,7 +1,7 @@
 #!/usr/bin/env python3
 """Checks a proof in LRAT form, by reversed unit propagation alone.
 
-    bench/lrat/check.py FORMULA PROOF
+    checks/lrat/lrat_checker.py FORMULA PROOF
 
 FORMULA is in DIMACS form and its clauses have the identifiers from 1 on, in their order. A line of PROOF is
 `ID LITERALS 0 HINTS 0` and adds a clause, or `ID d CLAUSES 0` and deletes clauses. Written from Cruz-Filipe, Heule,

@@ -1,7 +1,7 @@
 #!/usr/bin/env python3
 """Runs the built dimacs_sat beside minisat and cadical, where they are installed.
 
-    bench/solver [FOLDER ..]
+    bench/solver.py [FOLDER ..]
 
 Each .cnf file of the folders is solved, and so are formulas that are made here: pigeonhole, n
 pigeons in n - 1 holes, which have no solution; and parity chains, x1 + .. + xn twice, in two
@@ -17,14 +17,13 @@ import os
 import random
 import re
 import shutil
-import subprocess
 import sys
 import tempfile
-import time
 from pathlib import Path
 
-TOP = Path(__file__).resolve().parent.parent
-PROGRAM = os.environ.get("DIMACS_SAT", str(TOP / "crates/dimacs_sat/out/dimacs_sat"))
+from measure import once, program
+
+PROGRAM = program("dimacs_sat")
 BUDGET = os.environ.get("BUDGET", "10000")
 SECONDS = float(os.environ.get("SECONDS_EACH", "60"))
 PERMUTED = int(os.environ.get("PERMUTED", "0"))
@@ -87,15 +86,10 @@ def made(folder):
     return sorted(folder.glob("*.cnf"))
 
 
-def run(command, source=None):
+def run(command, source=os.devnull):
     """The status, the text and the seconds; no status where the time is over."""
-    start = time.perf_counter()
-    try:
-        with open(source or os.devnull, "rb") as stdin:
-            done = subprocess.run(command, stdin=stdin, capture_output=True, timeout=SECONDS)
-    except subprocess.TimeoutExpired:
-        return None, "", SECONDS
-    return done.returncode, done.stdout.decode(errors="replace"), time.perf_counter() - start
+    done = once(command, source, SECONDS)
+    return done.status, done.out.decode(errors="replace"), done.seconds
 
 
 def number(pattern, text):

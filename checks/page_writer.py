@@ -1,4 +1,4 @@
-"""Writes the page of a protocol, from what docs/LANGUAGE.md says of a page and from the definitions of page_parts,
+"""Writes the page of a protocol, from what docs/LANGUAGE.md says of a page and from the definitions of html,
 page_sections, page_text and run_chart: of a protocol text without references, as `bspl expand` prints it, of verdicts
 and dead messages, as `bspl verify --brief` and `bspl dead --brief` print them, and of a run text and what `bspl replay`
 prints of it, or of what `bspl run --threads 0 --brief` prints. It shares nothing with the program."""

@@ -1,28 +1,25 @@
 #!/usr/bin/env python3
 """Times `bspl dead` beside minisat on the same formulas.
 
-    bench/dead [FOLDER ..]
+    bench/dead.py [FOLDER ..]
 
 Each .bspl file of the folders (examples/) is taken with the protocol of the file's name, and then a protocol of 64
 messages that is made here, of which 16 wait for one another and can never be sent. A line a protocol: its messages and
-how many of them are dead, the clauses of one message's formula, and seconds of processor time: of `bspl_formula NAME
-dead M` for all messages M together, of `minisat` on these formulas from files, and of `bspl dead NAME --brief`, which
+how many of them are dead, the clauses of one message's formula, and seconds of processor time: of `bspl_more formula
+NAME dead M` for all messages M together, of `minisat` on these formulas from files, and of `bspl dead NAME --brief`, which
 answers for all messages in one call; then the ratio of the last two. The least of RUNS (3) runs counts. Answers that
-differ are told, and the status is 1. BSPL and BSPL_FORMULA name the programs (crates/bspl/out/bspl,
-crates/bspl_formula/out/bspl_formula).
+differ are told, and the status is 1. BSPL and BSPL_MORE name the programs (crates/bspl/out/bspl,
+crates/bspl_more/out/bspl_more).
 """
 import os
-import resource
 import shutil
-import subprocess
 import sys
 import tempfile
 from pathlib import Path
 
-TOP = Path(__file__).resolve().parent.parent
-BSPL = os.environ.get("BSPL", str(TOP / "crates/bspl/out/bspl"))
-FORMULA = os.environ.get("BSPL_FORMULA", str(TOP / "crates/bspl_formula/out/bspl_formula"))
-RUNS = int(os.environ.get("RUNS", "3"))
+from measure import TOP, least, missing, program
+
+BSPL, MORE = program("bspl"), program("bspl_more")
 
 
 def long_protocol(live=48, waiting=16):
@@ -38,21 +35,10 @@ def long_protocol(live=48, waiting=16):
     return "\n".join([*text, *links, *circle, "}"]) + "\n"
 
 
-def seconds_of(command, text=b""):
-    """The least processor time of the command, its status and what it printed."""
-    least, done = None, None
-    for _ in range(RUNS):
-        before = resource.getrusage(resource.RUSAGE_CHILDREN)
-        done = subprocess.run(command, input=text, capture_output=True)
-        after = resource.getrusage(resource.RUSAGE_CHILDREN)
-        spent = after.ru_utime + after.ru_stime - before.ru_utime - before.ru_stime
-        least = spent if least is None else min(least, spent)
-    return least, done.returncode, done.stdout
-
-
 def row(name, text, folder):
     """Prints the line of a protocol, and says whether the answers agree."""
-    took, _, out = seconds_of([BSPL, "dead", name, "--brief"], text)
+    run = least([BSPL, "dead", name, "--brief"], text)
+    took, out = run.processor, run.out
     answers = [line.split() for line in out.decode().splitlines() if line.startswith("message ")]
     if not answers:
         print(f"{name:24}{out.decode().strip()}")
@@ -60,14 +46,15 @@ def row(name, text, folder):
     printing = solving = 0
     clauses, agree = "-", True
     for index, (_, message, answer, *_) in enumerate(answers):
-        spent, _, formula = seconds_of([FORMULA, name, "dead", message], text)
+        printed = least([MORE, "formula", name, "dead", message], text)
+        formula = printed.out
         path = Path(folder) / f"{name}-{index}.cnf"
         path.write_bytes(formula)
         clauses = next(line for line in formula.splitlines() if line.startswith(b"p ")).split()[3].decode()
-        solved, status, _ = seconds_of(["minisat", "-verb=0", str(path), os.devnull])
-        printing, solving = printing + spent, solving + solved
-        if {10: "enacted", 20: "dead"}.get(status) != answer:
-            print(f"{name} {message}: {answer} here, status {status} of minisat")
+        solved = least(["minisat", "-verb=0", str(path), os.devnull])
+        printing, solving = printing + printed.processor, solving + solved.processor
+        if {10: "enacted", 20: "dead"}.get(solved.status) != answer:
+            print(f"{name} {message}: {answer} here, status {solved.status} of minisat")
             agree = False
         path.unlink()
     dead = sum(answer[2] == "dead" for answer in answers)
@@ -78,9 +65,9 @@ def row(name, text, folder):
 
 def main():
     folders = [Path(f) for f in sys.argv[1:]] or [TOP / "examples"]
-    missing = [p for p in (FORMULA, BSPL) if not Path(p).exists()] + ([] if shutil.which("minisat") else ["minisat"])
-    if missing:
-        sys.exit(f"missing: {', '.join(missing)}")
+    lacking = missing(MORE, BSPL) + ([] if shutil.which("minisat") else ["minisat"])
+    if lacking:
+        sys.exit(f"missing: {', '.join(lacking)}")
     print(f"{'protocol':24}{'messages':>9}{'dead':>6}{'clauses':>9}{'formula':>9}{'minisat':>9}{'bspl':>9}{'ratio':>7}")
     files = sorted(p for folder in folders for p in folder.glob("*.bspl"))
     protocols = [(path.stem, path.read_bytes()) for path in files] + [("Long", long_protocol().encode())]

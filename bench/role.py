@@ -1,7 +1,7 @@
 #!/usr/bin/env python3
 """Times programs that keep a role behind lines of JSON: one in Python (examples/agents/role.py), one in Rust (role.rs).
 
-    bench/serve/measure.py [LINES ..]
+    bench/role.py [LINES ..]
 
 The seller of Purchase is asked LINES (10000 and 100000) lines over a tenth as many keys: of ten lines under a key two
 are fresh receipts and two emissions; the others are repeats, values that differ, and emissions that are blocked. A line
@@ -22,22 +22,12 @@ import sys
 import tempfile
 import time
 from pathlib import Path
-from typing import NamedTuple
 
-HERE = Path(__file__).resolve().parent
-TOP = HERE.parent.parent
-BUILT = TOP / "crates/bspl_role/out/bspl_role"
-BSPL_ROLE = os.environ.get("BSPL_ROLE", str(BUILT) if BUILT.exists() else None)
-RUNS = int(os.environ.get("RUNS", "3"))
+from measure import RUNS, TOP, missing, once, program
+
+BSPL_ROLE = program("bspl_role")
 ALONE = int(os.environ.get("ALONE", "5000"))
 HEAD = (TOP / "examples/Purchase.bspl").read_bytes() + b"%% wire\n"
-
-
-class Run(NamedTuple):
-    out: bytes
-    seconds: float
-    processor: float
-    megabytes: float
 
 
 def receive(message, number, **values):
@@ -71,21 +61,9 @@ def lines(count):
     return made
 
 
-def once(command, given):
-    """What one run printed and took."""
-    with open(given, "rb") as source, tempfile.TemporaryFile() as sink:
-        begun = time.monotonic()
-        child = subprocess.Popen([*command, "Purchase", "S"], stdin=source, stdout=sink)
-        _, status, used = os.wait4(child.pid, 0)
-        seconds = time.monotonic() - begun
-        child.returncode = os.waitstatus_to_exitcode(status)
-        sink.seek(0)
-        return Run(sink.read(), seconds, used.ru_utime + used.ru_stime, used.ru_maxrss / 1024)
-
-
 def measured(command, folder, count):
     """The run that takes least, without the seconds of a run without lines."""
-    least = lambda given: min((once(command, folder / given) for _ in range(RUNS)), key=lambda run: run.seconds)
+    least = lambda given: min((once([*command, "Purchase", "S"], folder / given) for _ in range(RUNS)), key=lambda run: run.seconds)
     start, run = least("0"), least(str(count))
     return run._replace(seconds=max(run.seconds - start.seconds, 1e-6), processor=max(run.processor - start.processor, 1e-6))
 
@@ -112,11 +90,11 @@ def programs(folder):
     """The command of each program that there is."""
     found = {"Python": [sys.executable, str(TOP / "examples/agents/role.py")]}
     if shutil.which("rustc"):
-        subprocess.run(["rustc", "-O", "-o", str(folder / "role"), str(HERE / "role.rs")], check=True)
+        subprocess.run(["rustc", "-O", "-o", str(folder / "role"), str(TOP / "bench/role.rs")], check=True)
         found["Rust"] = [str(folder / "role")]
     else:
         print("rustc is missing, so the program in Rust is left out")
-    if BSPL_ROLE:
+    if not missing(BSPL_ROLE):
         found = {Path(BSPL_ROLE).name: [BSPL_ROLE], **found}
     return found
 

@@ -1,7 +1,7 @@
 #!/usr/bin/env python3
 """Times bspl verify beside minisat on the same formulas, and beside another build of the program.
 
-    bench/verify [FOLDER ..]
+    bench/verify.py [FOLDER ..]
 
 Each .bspl file of the folders (examples/) is taken with the protocol of the file's name, and then four protocols of 63
 or 64 messages that are made here: a chain of two-way choices, eight purchases in a row, a random one, and one whose
@@ -10,8 +10,8 @@ processor time of `minisat -no-pre` on both printed formulas from files, seconds
 --brief`, which decides both, and the ratio of the seconds. If OLD names another build of the program, its seconds and
 the ratio to them follow; then each log that one of the two builds prints has to be accepted by the other one, and each
 run that refutes has to be found legal and in conflict, or at rest, by the other one. What differs is said, and the
-status is 1. The least of RUNS (5) runs counts. BSPL and BSPL_FORMULA name the programs (crates/bspl/out/bspl,
-crates/bspl_formula/out/bspl_formula).
+status is 1. The least of RUNS (5) runs counts. BSPL and BSPL_MORE name the programs (crates/bspl/out/bspl,
+crates/bspl_more/out/bspl_more).
 """
 import os
 import random
@@ -21,10 +21,10 @@ import sys
 import tempfile
 from pathlib import Path
 
-TOP = Path(__file__).resolve().parent.parent
-BSPL = os.environ.get("BSPL", str(TOP / "crates/bspl/out/bspl"))
+from measure import TOP, least, missing, program
+
+BSPL, MORE = program("bspl"), program("bspl_more")
 OLD = os.environ.get("OLD")
-FORMULA = os.environ.get("BSPL_FORMULA", str(TOP / "crates/bspl_formula/out/bspl_formula"))
 RUNS = int(os.environ.get("RUNS", "5"))
 
 
@@ -86,30 +86,13 @@ def waiting(messages=63):
     return protocol("Waiting", ["A", "B"], ["ID", *(f"q{i}" for i in range(messages))], lines)
 
 
-def once(command, text):
-    """The processor time and the megabytes of the command, and what it printed."""
-    with tempfile.TemporaryFile() as source, tempfile.TemporaryFile() as sink:
-        source.write(text)
-        source.seek(0)
-        child = subprocess.Popen(command, stdin=source, stdout=sink)
-        _, _, used = os.wait4(child.pid, 0)
-        child.returncode = 0
-        sink.seek(0)
-        return used.ru_utime + used.ru_stime, used.ru_maxrss / 1024, sink.read()
-
-
-def least(command, text):
-    """The run with the least seconds."""
-    return min((once(command, text) for _ in range(RUNS)), key=lambda run: run[0])
-
-
 def solved(name, text, folder):
     """The messages and clauses of the safety formula, and the seconds of minisat on both formulas."""
     seconds, shown = 0, None
     for kind in ("safety", "liveness"):
         path = Path(folder) / "formula.cnf"
         with open(path, "wb") as sink:
-            subprocess.run([FORMULA, name, kind], input=text, stdout=sink)
+            subprocess.run([MORE, "formula", name, kind], input=text, stdout=sink)
         with open(path, "rb") as formula:
             first = formula.readline()
             if first.startswith(b"refused"):
@@ -120,7 +103,7 @@ def solved(name, text, folder):
             while words[:1] == [b"c"]:
                 messages += words[2:3] == [b"received"] and len(words) == 4
                 words = formula.readline().split()
-        seconds += least(["minisat", "-no-pre", "-verb=0", str(path), "/dev/null"], b"")[0]
+        seconds += least(["minisat", "-no-pre", "-verb=0", str(path), "/dev/null"], runs=RUNS).processor
         shown = shown or (messages, int(words[3]))
     return *shown, seconds
 
@@ -157,20 +140,21 @@ def row(name, text, folder):
     if clauses is None:
         print(f"{name:24}{messages}")
         return []
-    took, megabytes, _ = least([BSPL, "verify", name, "--brief"], text)
-    line = f"{name:24}{messages:>9}{clauses:>9}{seconds:9.3f}{took:9.3f}{megabytes:6.0f}{took / max(seconds, 1e-4):8.2f}"
+    run = least([BSPL, "verify", name, "--brief"], text, runs=RUNS)
+    took = run.processor
+    line = f"{name:24}{messages:>9}{clauses:>9}{seconds:9.3f}{took:9.3f}{run.megabytes:6.0f}{took / max(seconds, 1e-4):8.2f}"
     if OLD is None:
         print(line, flush=True)
         return []
-    before, _, _ = least([OLD, "verify", name, "--brief"], text)
+    before = least([OLD, "verify", name, "--brief"], text, runs=RUNS).processor
     print(f"{line}{before:9.3f}{took / max(before, 1e-4):8.2f}", flush=True)
     return accepted(name, text, BSPL, OLD) + accepted(name, text, OLD, BSPL)
 
 
 def main():
-    missing = [p for p in (FORMULA, BSPL) if not Path(p).exists()] + ([] if shutil.which("minisat") else ["minisat"])
-    if missing:
-        print("missing: " + ", ".join(missing))
+    lacking = missing(MORE, BSPL) + ([] if shutil.which("minisat") else ["minisat"])
+    if lacking:
+        print("missing: " + ", ".join(lacking))
         return 1
     print(f"{'protocol':24}{'messages':>9}{'clauses':>9}{'minisat':>9}{'verify':>9}{'MB':>6}{'ratio':>8}"
           + (f"{'old':>9}{'ratio':>8}" if OLD else ""))

@@ -1,9 +1,9 @@
 #!/usr/bin/env python3
 """Turns another solver's proof that a formula has no model into a log that `bspl check` reads.
 
-    bench/lrat/from_trace.py [--drop] FORMULA PROOF KIND ..
+    checks/lrat/from_trace.py [--drop] FORMULA PROOF KIND ..
 
-FORMULA is what `bspl_formula` prints, PROOF a solver's proof of it, and KIND is `safety`, `liveness` or `dead MESSAGE`,
+FORMULA is what `bspl_more formula` prints, PROOF a solver's proof of it, and KIND is `safety`, `liveness` or `dead MESSAGE`,
 as in the first line of the log, which is written to standard output. The proof is in one of these forms:
 
 - a trace, as PicoSAT writes it if it is built with traces (`-T FILE`, or `-t FILE` without the literals of derived

@@ -1,7 +1,7 @@
 #!/usr/bin/env python3
 """Whether agents in threads answer as they have to, over many runs.
 
-    bench/threads [RUNS]
+    checks/threads.py [RUNS]
 
 Each protocol below is run RUNS times (100) with 8 threads a role, by other seeds, with losses and repeats.
 
@@ -28,8 +28,10 @@ import sys
 import tempfile
 from pathlib import Path
 
-TOP = Path(__file__).resolve().parent.parent
-BSPL = os.environ.get("BSPL", str(TOP / "crates/bspl/out/bspl"))
+sys.path.insert(0, str(Path(__file__).resolve().parent.parent / "bench"))
+from measure import TOP, program  # noqa: E402
+
+BSPL = program("bspl")
 KEYS = int(os.environ.get("KEYS", "10000"))
 HELD = int(os.environ.get("HELD", "20"))
 SEEDS = 10

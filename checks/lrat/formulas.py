@@ -1,10 +1,10 @@
 #!/usr/bin/env python3
 """Takes other solvers' proofs on formulas in DIMACS form in, and gives our proofs on them out.
 
-    bench/lrat/formulas [FOLDER ..]
+    checks/lrat/formulas.py [FOLDER ..]
 
 Each .cnf and .cnf.xz file of the folders is taken; of each .bspl file the formulas of `safety` and `liveness` that
-`bspl_formula` prints of the protocol of the file's name; and RANDOM (200) formulas that are made here: clauses of three
+`bspl_more formula` prints of the protocol of the file's name; and RANDOM (200) formulas that are made here: clauses of three
 literals, six for each of 20 to 40 variables, by a fixed seed. Of these the formulas count on which minisat finds no
 model within SECONDS_EACH (60).
 
@@ -12,15 +12,13 @@ model within SECONDS_EACH (60).
   which PICOSAT_TRACE names, adds its traces. `from_trace.py` makes a log of each proof, with and without removals, and
   `dimacs_check` has to accept it, and to reject or refuse it with one number changed, TRIES (6) times, unless the
   changed log is right as well.
-- Out: the proof that `dimacs_sat --lrat` prints has to be verified by `check.py`, and refused with one number of a hint
-  changed, unless `check.py` finds it right: TRIES proofs of each formula.
+- Out: the proof that `dimacs_sat --lrat` prints has to be verified by `lrat_checker.py`, and refused with one number of a hint
+  changed, unless `lrat_checker.py` finds it right: TRIES proofs of each formula.
 
 A line a formula: clauses, steps and links of the first log, and the seconds of processor time of from_trace.py and of
-`dimacs_check` on it; a line for all random ones together. DIMACS_SAT, DIMACS_CHECK and BSPL_FORMULA name the programs,
+`dimacs_check` on it; a line for all random ones together. DIMACS_SAT, DIMACS_CHECK and BSPL_MORE name the programs,
 BUDGET (10000) the conflicts of `dimacs_sat`. The status is 1 if anything is not as it should be.
 """
-import importlib.machinery
-import importlib.util
 import lzma
 import os
 import random
@@ -32,14 +30,13 @@ import time
 from pathlib import Path
 
 HERE = Path(__file__).resolve().parent
-loader = importlib.machinery.SourceFileLoader("examples", str(HERE / "examples"))
-examples = importlib.util.module_from_spec(importlib.util.spec_from_loader("examples", loader))
-loader.exec_module(examples)
-check, from_trace = examples.check, examples.from_trace
+sys.path[:0] = [str(HERE), str(HERE.parent.parent / "bench")]
+import examples  # noqa: E402
+import from_trace  # noqa: E402
+import lrat_checker  # noqa: E402
+from measure import program  # noqa: E402
 
-TOP = HERE.parent.parent
-PROGRAMS = {name: os.environ.get(name.upper(), str(TOP / f"crates/{name}/out/{name}"))
-            for name in ("dimacs_sat", "dimacs_check", "bspl_formula")}
+PROGRAMS = {name: program(name) for name in ("dimacs_sat", "dimacs_check", "bspl_more")}
 BUDGET = os.environ.get("BUDGET", "10000")
 SECONDS = float(os.environ.get("SECONDS_EACH", "60"))
 RANDOM = int(os.environ.get("RANDOM", "200"))
@@ -86,16 +83,16 @@ def changed_hint(proof, rng):
 
 
 def proof_goes_out(name, path, text, rng):
-    """Whether `check.py` verifies our proof, and refuses it with a changed hint (what it finds right is counted)."""
+    """Whether `lrat_checker.py` verifies our proof, and refuses it with a changed hint (what it finds right is counted)."""
     status, proof, _ = run("dimacs_sat", "--lrat", "--budget", BUDGET, text=text)
     if status == 0:
         COUNTS["undecided"] += 1
         return True
-    clauses = check.clauses_of(path)
-    bad = check.check(dict(clauses), proof.splitlines()) if status == 20 else proof
+    clauses = lrat_checker.clauses_of(path)
+    bad = lrat_checker.check(dict(clauses), proof.splitlines()) if status == 20 else proof
     COUNTS["proofs"] += 1
     for other in filter(None, (changed_hint(proof, rng) for _ in range(examples.TRIES))):
-        COUNTS["changed_proofs"] += check.check(dict(clauses), other) is not None
+        COUNTS["changed_proofs"] += lrat_checker.check(dict(clauses), other) is not None
     return bad is None or examples.wrong(f"proof {name}", str(bad))
 
 
@@ -134,7 +131,7 @@ def formulas_below(folders):
         yield path.name.split(".")[0], lzma.open(path).read() if path.suffix == ".xz" else path.read_bytes()
     for path in sorted(path for each in folders for path in Path(each).glob("*.bspl")):
         for kind in ("safety", "liveness"):
-            status, text, _ = run("bspl_formula", path.stem, kind, text=path.read_bytes())
+            status, text, _ = run("bspl_more", "formula", path.stem, kind, text=path.read_bytes())
             if status == 0:
                 yield f"{path.stem} {kind}", text.encode()
 

@@ -1,7 +1,7 @@
 #!/usr/bin/env python3
 """Compares the colours of docs/editors with the tokens of the language.
 
-    bench/editors/check.py
+    checks/editors.py
 
 Each text of examples/ and each input of the worked rows is cut into tokens by a scanner that is written here from
 docs/LANGUAGE.md, and by the regular expressions of `bspl.tmLanguage.json`, which are applied here as an editor does;
@@ -17,9 +17,9 @@ import sys
 import tempfile
 from pathlib import Path
 
-TOP = Path(__file__).resolve().parent.parent.parent
+TOP = Path(__file__).resolve().parent.parent
 EDITORS = TOP / "docs" / "editors"
-sys.path.insert(0, str(TOP / ".ci"))
+sys.path.insert(0, str(TOP / "tools"))
 from rows import rows
 
 WORDS = {word: "declaration" for word in ("roles", "role", "parameters", "parameter", "private")}

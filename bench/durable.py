@@ -1,9 +1,9 @@
 #!/usr/bin/env python3
 """Times a durable store on a disk in memory beside a store alone, and beside SQLite.
 
-    bench/durable/measure.py [EVENTS ..]
+    bench/durable.py [EVENTS ..]
 
-A program in Rattle (speed.rattle), which is proved and built in a copy of the repository (BUILT, or a folder among the
+A program in Rattle (durable.rattle), which is proved and built in a copy of the repository (BUILT, or a folder among the
 temporary files), lets the middle role of Relay take EVENTS (20000 and 100000) events, half of them receipts and half emissions, each
 half under keys of their own: in a store alone, and in a durable store over a MemDisk; and it starts a store from the
 disk that then holds them. Before each call the program asks the store whether it may be made, in both. A program in C
@@ -19,9 +19,9 @@ import sys
 import tempfile
 from pathlib import Path
 
-from build import HERE, built
+from measure import RUNS, TOP
+from rattle_build import built
 
-RUNS = int(os.environ.get("RUNS", "3"))
 USES = """adornment_check bspl_parser bspl_types durable_store list_base local_store program_args protocol_expand
 role_journal stamped_history""".split()
 WHAT = ["store", "durable", "start", "SQLite", "no file"]
@@ -36,7 +36,7 @@ def least(command):
 def compiled(folder):
     """The program with SQLite, if it can be compiled."""
     program = folder / "sqlite"
-    tried = subprocess.run(["gcc", "-O2", "-o", str(program), str(HERE / "sqlite.c"), "-lsqlite3"], capture_output=True)
+    tried = subprocess.run(["gcc", "-O2", "-o", str(program), str(TOP / "bench/sqlite.c"), "-lsqlite3"], capture_output=True)
     if tried.returncode:
         print("SQLite cannot be compiled with, and is left out")
         return None
@@ -61,7 +61,7 @@ def measured(speed, sqlite, events, folder):
 
 def main():
     sizes = [int(n) for n in sys.argv[1:]] or [20000, 100000]
-    speed = built("journal_speed", "speed.rattle", USES)
+    speed = built("journal_speed", TOP / "bench/durable.rattle", USES)
     with tempfile.TemporaryDirectory() as scratch:
         folder = Path(scratch)
         sqlite = compiled(folder)

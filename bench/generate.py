@@ -1,7 +1,7 @@
 #!/usr/bin/env python3
 """Times bspl generate by the number of stages and of threads.
 
-    bench/generate [STAGES ..]
+    bench/generate.py [STAGES ..]
 
 A line for each number of stages (1 to 16) and of threads a role (0, 1, 4 and 8): the seconds of the clock and of
 processor time and the megabytes of memory of the run of RUNS (3) that takes least, and the ratio of its seconds to those
@@ -9,25 +9,12 @@ of --threads 0. Nothing is read, and each summary has to be the one that the num
 of a number has what its two verdicts take alone, by the same program on the same text. BSPL names the program
 (crates/bspl/out/bspl).
 """
-import os
-import subprocess
 import sys
-import tempfile
-import time
-from pathlib import Path
-from typing import NamedTuple
 
-TOP = Path(__file__).resolve().parent.parent
-BSPL = os.environ.get("BSPL", str(TOP / "crates/bspl/out/bspl"))
-RUNS = int(os.environ.get("RUNS", "3"))
+from measure import least, program
+
+BSPL = program("bspl")
 THREADS = [0, 1, 4, 8]
-
-
-class Run(NamedTuple):
-    out: bytes
-    seconds: float
-    processor: float
-    megabytes: float
 
 
 def text_of(stages):
@@ -49,23 +36,9 @@ def summary_of(stages):
             f"keys 1000\nsent {sent}\nreceived {sent}\nbound {known}\n").encode()
 
 
-def once(arguments, text):
-    """What one run printed and took."""
-    with tempfile.TemporaryFile() as source, tempfile.TemporaryFile() as sink:
-        source.write(text)
-        source.seek(0)
-        begun = time.monotonic()
-        child = subprocess.Popen([BSPL, *arguments], stdin=source, stdout=sink)
-        _, _, used = os.wait4(child.pid, 0)
-        seconds = time.monotonic() - begun
-        child.returncode = 0
-        sink.seek(0)
-        return Run(sink.read(), seconds, used.ru_utime + used.ru_stime, used.ru_maxrss / 1024)
-
-
-def least(arguments, text=b""):
-    """The run with the least seconds."""
-    return min((once(arguments, text) for _ in range(RUNS)), key=lambda run: run.seconds)
+def taken(arguments, text=b""):
+    """The run that takes least by the clock."""
+    return least([BSPL, *arguments], text, by="seconds")
 
 
 def shown(stages, threads, run, ratio=""):
@@ -75,8 +48,8 @@ def shown(stages, threads, run, ratio=""):
 def measure(stages):
     """The lines of so many stages, and whether each summary is right."""
     right = True
-    print(shown(stages, "verify", least(["verify", "Stage", "--brief"], text_of(stages))), flush=True)
-    runs = {threads: least(["generate", str(stages), "--threads", str(threads)]) for threads in THREADS}
+    print(shown(stages, "verify", taken(["verify", "Stage", "--brief"], text_of(stages))), flush=True)
+    runs = {threads: taken(["generate", str(stages), "--threads", str(threads)]) for threads in THREADS}
     for threads, run in runs.items():
         ratio = f"{run.seconds / runs[0].seconds:.2f}"
         right = right and run.out == summary_of(stages)

@@ -1,19 +1,18 @@
 #!/usr/bin/env python3
 """Compares the formulas of small protocols with a search over all of their runs.
 
-    bench/small_protocols [COUNT]
+    checks/small_protocols.py [COUNT]
 
 COUNT (200) protocols are made by a rule from a seed, and the protocols of examples/ that stand for themselves
-are added. For each one the formulas that `bspl_formula` prints for NAME, of `safety`, of `liveness` and of `dead M`
+are added. For each one the formulas that `bspl_more formula` prints for NAME, of `safety`, of `liveness` and of `dead M`
 for each message M, are compared, clause by clause, with those that are made here from the tables of families in
 docs/LANGUAGE.md; `minisat`, if it is installed, decides them; and the runs are searched here, without any formula. A
 protocol is unsafe exactly if its safety formula has a solution, not live exactly if its liveness formula has one, and
 a message can be sent exactly if its formula has one. The verdicts of `bspl verify` are compared too, and the answers
-of `bspl_can` on each message and on each two, if they are built. BSPL_FORMULA, BSPL and BSPL_CAN name the programs
+of `bspl_more can` on each message and on each two, if they are built. BSPL and BSPL_MORE name the programs
 (crates/bspl_formula/out/bspl_formula and so on). The status is 1 if anything differs.
 """
 import itertools
-import os
 import random
 import re
 import shutil
@@ -21,10 +20,10 @@ import subprocess
 import sys
 from pathlib import Path
 
-TOP = Path(__file__).resolve().parent.parent
-PROGRAM = os.environ.get("BSPL_FORMULA", str(TOP / "crates/bspl_formula/out/bspl_formula"))
-VERIFIER = os.environ.get("BSPL", str(TOP / "crates/bspl/out/bspl"))
-CAN = os.environ.get("BSPL_CAN", str(TOP / "crates/bspl_can/out/bspl_can"))
+sys.path.insert(0, str(Path(__file__).resolve().parent.parent / "bench"))
+from measure import TOP, missing, program  # noqa: E402
+
+MORE, VERIFIER = program("bspl_more"), program("bspl")
 ROLES = ["A", "B", "C"]
 
 
@@ -161,7 +160,7 @@ def formula(protocol, wanted):
 
 
 def printed_formula(name, words, text):
-    run = subprocess.run([PROGRAM, name, *words], input=text.encode(), capture_output=True)
+    run = subprocess.run([MORE, "formula", name, *words], input=text.encode(), capture_output=True)
     if run.returncode != 0:
         return run.stdout.decode().strip(), None
     lines = [line for line in run.stdout.decode().splitlines() if not line.startswith("c")]
@@ -184,7 +183,7 @@ def verdicts(name, text):
 
 def can_send(name, messages, text):
     """Whether `bspl_can` prints a run in which these messages are sent."""
-    run = subprocess.run([CAN, name, *messages, "--brief"], input=text.encode(), capture_output=True)
+    run = subprocess.run([MORE, "can", name, *messages, "--brief"], input=text.encode(), capture_output=True)
     return {0: True, 1: False}.get(run.returncode)
 
 
@@ -206,12 +205,10 @@ def main():
     minisat = shutil.which("minisat")
     if not minisat:
         print("minisat is not installed: formulas are compared, and not decided")
-    verifier = Path(VERIFIER).exists()
-    if not verifier:
-        print(f"{VERIFIER} is not built: verdicts are not compared")
-    answers = Path(CAN).exists()
-    if not answers:
-        print(f"{CAN} is not built: answers on messages are not compared")
+    absent = missing(VERIFIER, MORE)
+    if absent:
+        print(f"missing: {', '.join(absent)}")
+        return 1
     protocols = [(p, text_of(p)) for p in map(random_protocol, range(wanted))]
     for path in sorted((TOP / "examples").glob("*.bspl")):
         plain = read_plain(path)
@@ -223,7 +220,7 @@ def main():
         found, together = search(protocol)
         messages = [message for message, *_ in protocol[4]]
         sent = set().union(*together)
-        said = verdicts(protocol[0], text) if verifier else None
+        said = verdicts(protocol[0], text)
         rows = [(word, (word,), found[word], word) for word in ("safety", "liveness")]
         rows += [("dead", ("dead", name), m in sent, m) for m, name in enumerate(messages)]
         for word, words, holds, asked in rows:
@@ -247,7 +244,7 @@ def main():
                 if has_solution(dimacs) != holds:
                     wrong += 1
                     print(f"{protocol[0]} {shown}: the formula says {not holds}, the runs say {holds}")
-        if answers and dimacs is not None:
+        if dimacs is not None:
             others, asked = wrong_answers(protocol, text, together)
             wrong, answered = wrong + others, answered + asked
     print(f"{compared} formulas of {len(protocols)} protocols compared, {failing['safety']} of them unsafe, "

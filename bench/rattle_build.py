@@ -6,8 +6,8 @@ import sys
 import tempfile
 from pathlib import Path
 
-HERE = Path(__file__).resolve().parent
-TOP = HERE.parent.parent
+from measure import TOP
+
 BUILT = Path(os.environ.get("BUILT", Path(tempfile.gettempdir()) / "bspl-bench"))
 
 
@@ -25,7 +25,7 @@ def add_crate(name, source, uses):
     """The folder of the program, which stands on these crates."""
     folder = BUILT / "crates" / name
     (folder / "src").mkdir(parents=True, exist_ok=True)
-    (folder / "src/main.rt").write_text((HERE / source).read_text())
+    (folder / "src/main.rt").write_text(source.read_text())
     with open(BUILT / "crates.txt", "a") as crates:
         crates.write(f"{name}: {' '.join(uses)}\n")
     return folder

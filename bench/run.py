@@ -1,7 +1,7 @@
 #!/usr/bin/env python3
 """Times bspl run beside the same agents written plainly in Rust.
 
-    bench/run [KEYS ..]
+    bench/run.py [KEYS ..]
 
 Relay, and a protocol of sixteen messages between two roles, are run with each number of workload keys (1000 and 10000),
 without losses and with a tenth lost and one repeat: on one thread, and with 1, 2, 4 and 8 threads a role. A line a run:
@@ -10,28 +10,18 @@ bench/agents.rs with as many threads, each less the seconds of a run with one ke
 start counts; messages a second; and the ratios of the seconds. Both have to print the same world. The run of RUNS (3)
 that takes least counts. Without rustc the peer is left out. BSPL names the program (crates/bspl/out/bspl).
 """
-import os
 import shutil
 import subprocess
 import sys
 import tempfile
-import time
 from pathlib import Path
-from typing import NamedTuple
 
-TOP = Path(__file__).resolve().parent.parent
-BSPL = os.environ.get("BSPL", str(TOP / "crates/bspl/out/bspl"))
-RUNS = int(os.environ.get("RUNS", "3"))
+from measure import TOP, least, program
+
+BSPL = program("bspl")
 RELAY = (TOP / "examples/Relay.bspl").read_text()
 PLANS = {"plain": "", "lossy": "loss 100\nrepeat 1\n"}
 THREADS = [0, 1, 2, 4, 8]
-
-
-class Run(NamedTuple):
-    out: bytes
-    seconds: float
-    processor: float
-    megabytes: float
 
 
 def sixteen():
@@ -42,25 +32,6 @@ def sixteen():
     return "Sixteen {\n  roles A, B\n  parameters " + ", ".join(params) + "\n" + "\n".join(lines) + "\n}\n"
 
 
-def once(command, text):
-    """What one run printed and took."""
-    with tempfile.TemporaryFile() as source, tempfile.TemporaryFile() as sink:
-        source.write(text)
-        source.seek(0)
-        begun = time.monotonic()
-        child = subprocess.Popen(command, stdin=source, stdout=sink)
-        _, _, used = os.wait4(child.pid, 0)
-        seconds = time.monotonic() - begun
-        child.returncode = 0
-        sink.seek(0)
-        return Run(sink.read(), seconds, used.ru_utime + used.ru_stime, used.ru_maxrss / 1024)
-
-
-def least(command, text):
-    """The run with the least seconds."""
-    return min((once(command, text) for _ in range(RUNS)), key=lambda run: run.seconds)
-
-
 def world_of(out):
     """The lines from `world` on."""
     return out[out.index(b"world "):] if b"world " in out else out
@@ -69,9 +40,9 @@ def world_of(out):
 def measure(command, text, keys, plan):
     """The run, with its world and with the seconds beyond those of one key."""
     part = lambda n: (text + f"%% agents\nkeys {n}\n{plan}").encode()
-    start, run = least(command, part(1)), least(command, part(keys))
-    seconds, processor = (max(a - b, 1e-6) for a, b in zip(run[1:3], start[1:3]))
-    return Run(world_of(run.out), seconds, processor, run.megabytes)
+    start, run = (least(command, part(n), by="seconds") for n in (1, keys))
+    beyond = lambda what: max(getattr(run, what) - getattr(start, what), 1e-6)
+    return run._replace(out=world_of(run.out), seconds=beyond("seconds"), processor=beyond("processor"))
 
 
 def sent(world):

@@ -2,15 +2,15 @@
 """Makes the pages of protocols, holds each against page_writer.py, opens it in a browser, and looks for what is fetched,
 for texts that overlap, and for texts that a chart cuts off.
 
-    bench/pages [FILE.bspl ..]
+    checks/pages.py [FILE.bspl ..]
 
 Each file (examples/*.bspl) is taken with the protocol of the file's name. The page is opened in headless Chromium, 1100
 and 500 pixels wide, and on paper. A copy of it, into which a script is put here, lists what the browser fetched, the
 boxes of all texts that overlap by more than a pixel, and the texts of charts that are not inside of their picture. A
-line for each page: its status, bytes, and milliseconds of `bspl_page` and of `bspl verify --brief` (the least of RUNS,
+line for each page: its status, bytes, and milliseconds of `bspl_more page` and of `bspl verify --brief` (the least of RUNS,
 5). What is wrong is said, and the status is 1. If PICTURES names a folder, it gets a picture of each page, light and
-dark, the page on paper, and each chart as a drawing of its own, as in docs/pictures. BSPL and BSPL_PAGE name the
-programs (crates/bspl/out/bspl, crates/bspl_page/out/bspl_page), CHROMIUM the browser (chromium).
+dark, the page on paper, and each chart as a drawing of its own, as in docs/pictures. BSPL and BSPL_MORE name the
+programs (crates/bspl/out/bspl, crates/bspl_more/out/bspl_more), CHROMIUM the browser (chromium).
 """
 import html
 import json
@@ -19,15 +19,15 @@ import re
 import subprocess
 import sys
 import tempfile
-import time
 from html.parser import HTMLParser
 from pathlib import Path
 
 import page_writer
 
-TOP = Path(__file__).resolve().parent.parent
-BSPL = os.environ.get("BSPL", str(TOP / "crates/bspl/out/bspl"))
-PAGE = os.environ.get("BSPL_PAGE", str(TOP / "crates/bspl_page/out/bspl_page"))
+sys.path.insert(0, str(Path(__file__).resolve().parent.parent / "bench"))
+from measure import TOP, least, program  # noqa: E402
+
+BSPL, MORE = program("bspl"), program("bspl_more")
 CHROMIUM = os.environ.get("CHROMIUM", "chromium")
 PICTURES = os.environ.get("PICTURES")
 RUNS = int(os.environ.get("RUNS", "5"))
@@ -79,16 +79,6 @@ class Nesting(HTMLParser):
             self.wrong.append(f"</{tag}>")
 
 
-def least(args, given):
-    """What the program prints and its status, and the least of its milliseconds."""
-    times = []
-    for _ in range(RUNS):
-        begun = time.perf_counter()
-        ran = subprocess.run(args, input=given, capture_output=True)
-        times.append((time.perf_counter() - begun) * 1000)
-    return ran, min(times)
-
-
 def browse(*args):
     return subprocess.run(
         [CHROMIUM, "--headless=new", "--no-sandbox", "--disable-gpu", "--hide-scrollbars", *args], capture_output=True
@@ -138,35 +128,36 @@ def drawings(name, page):
 
 def wrongs_of(name, given, folder):
     """A line for the page is printed; what is wrong with it is returned."""
-    ran, took = least([PAGE, name], given)
-    verdict, verified = least([BSPL, "verify", name, "--brief", "--conflicts", "10000"], given)
-    print(f"{name:24} status {ran.returncode} bytes {len(ran.stdout):7} ms {took:6.1f} verify {verified:6.1f}", flush=True)
-    wrong = [] if ran.returncode == verdict.returncode else [f"verify ends with {verdict.returncode}"]
-    if ran.returncode == 4:
-        return wrong + ([] if ran.stdout == verdict.stdout else [f"refused as {ran.stdout!r}"])
+    ran = least([MORE, "page", name], given, by="seconds", runs=RUNS)
+    verdict = least([BSPL, "verify", name, "--brief", "--conflicts", "10000"], given, by="seconds", runs=RUNS)
+    took, verified = ran.seconds * 1000, verdict.seconds * 1000
+    print(f"{name:24} status {ran.status} bytes {len(ran.out):7} ms {took:6.1f} verify {verified:6.1f}", flush=True)
+    wrong = [] if ran.status == verdict.status else [f"verify ends with {verdict.status}"]
+    if ran.status == 4:
+        return wrong + ([] if ran.out == verdict.out else [f"refused as {ran.out!r}"])
     asked = lambda *args: subprocess.run([BSPL, *args], input=given, capture_output=True).stdout.decode()
     dead = asked("dead", name, "--brief", "--conflicts", "10000")
     part = re.search(rb"^%% (\w+)", given, re.M)
     plays = part and part[1] == b"agents"
     played = asked("run", name, "--threads", "0", "--brief", "--conflicts", "10000") if plays else None
-    world = plays and re.search(rb"^<h2>World: events</h2>\n.*?^<pre>run 1\n(.*?)end\n</pre>", ran.stdout, re.M | re.S)
+    world = plays and re.search(rb"^<h2>World: events</h2>\n.*?^<pre>run 1\n(.*?)end\n</pre>", ran.out, re.M | re.S)
     events = world and html.unescape(world[1].decode()).splitlines()
     shown = run_of(given), asked("replay", name), played, events
     if events is not None and not is_legal(name, given, events):
         wrong.append("the run of the world is not legal")
-    if ran.stdout.decode() != page_writer.page(asked("expand", name), verdict.stdout.decode(), dead, *shown):
+    if ran.out.decode() != page_writer.page(asked("expand", name), verdict.out.decode(), dead, *shown):
         wrong.append("page_writer.py writes another page")
     nesting = Nesting()
-    nesting.feed(ran.stdout.decode("ascii"))
+    nesting.feed(ran.out.decode("ascii"))
     wrong += nesting.wrong + nesting.open
     for width in (1100, 500):
-        found = seen(ran.stdout, folder, width)
+        found = seen(ran.out, folder, width)
         wrong += [f"fetched {one}" for one in found["fetched"]]
         wrong += [f"{width} wide: {one!r} over {other!r}" for one, other in found["overlaps"][:3]]
         wrong += [f"{width} wide: {one!r} leaves its chart" for one in found["outside"][:3]]
     if PICTURES:
-        pictures(name, ran.stdout, folder)
-        drawings(name, ran.stdout)
+        pictures(name, ran.out, folder)
+        drawings(name, ran.out)
     return wrong
 
 

@@ -1,7 +1,7 @@
 #!/usr/bin/env python3
 """Whether bspl audit finds what is wrong with histories, and how long it takes beside a replay.
 
-    bench/audit [RUNS]
+    checks/audit.py [RUNS]
 
 Protocols are played by this script: at each turn some role emits what it may, or some message arrives; a tenth of all
 messages is lost, and a tenth arrives twice. Of RUNS (100) plays of each protocol
@@ -26,8 +26,10 @@ import tempfile
 from pathlib import Path
 from typing import NamedTuple
 
-TOP = Path(__file__).resolve().parent.parent
-BSPL = os.environ.get("BSPL", str(TOP / "crates/bspl/out/bspl"))
+sys.path.insert(0, str(Path(__file__).resolve().parent.parent / "bench"))
+from measure import TOP, least, missing, program  # noqa: E402
+
+BSPL = program("bspl")
 EVENTS = int(os.environ.get("EVENTS", "100000"))
 CORNER = [int(n) for n in os.environ.get("CORNER", "1000 2000 4000").split()]
 
@@ -291,17 +293,8 @@ def plays(protocol, runs):
 
 def measured(command, protocol, given):
     """The processor time in seconds and the memory in megabytes of the call that takes least, and what it printed."""
-    least = None
-    for _ in range(3):
-        with open(given, "rb") as source, tempfile.TemporaryFile() as printed:
-            call = subprocess.Popen([BSPL, command, protocol.name], stdin=source, stdout=printed)
-            _, _, used = os.wait4(call.pid, 0)
-            call.returncode = 0
-            printed.seek(0)
-            out = printed.read()
-        spent = (used.ru_utime + used.ru_stime, used.ru_maxrss / 1024)
-        least = spent if least is None else min(least, spent)
-    return *least, out
+    run = least([BSPL, command, protocol.name], given)
+    return run.processor, run.megabytes, run.out
 
 
 def asked_thrice(key):
@@ -364,7 +357,7 @@ def corner(folder):
 
 
 def main():
-    if not Path(BSPL).exists():
+    if missing(BSPL):
         print(f"{BSPL} is missing: build it in crates/bspl, or name the program in BSPL")
         return 1
     runs = int(sys.argv[1]) if len(sys.argv) > 1 else 100

@@ -1,7 +1,7 @@
 #!/usr/bin/env python3
 """Takes proofs of other solvers in, and gives proofs out to a checker that is not ours.
 
-    bench/lrat/examples [FOLDER ..]
+    checks/lrat/examples.py [FOLDER ..]
 
 Each .bspl file of the folders (examples/) is taken with the protocol of the file's name, and of it the formulas of
 `safety`, of `liveness` and of each message that have no model.
@@ -11,12 +11,12 @@ Each .bspl file of the folders (examples/) is taken with the protocol of the fil
   removals, and `bspl check` or `check-dead` has to accept it. Then each log is tried with one number changed, TRIES (6)
   times by a fixed seed, and has to be rejected or refused, unless the changed log is right as well: `is_right`, which
   resolves it here, says so.
-- Out: if `bspl_lrat` is built, the proof that it makes of each log of `bspl verify` and of each log from another
-  solver has to be verified by `check.py`, for the formula that `bspl_formula` prints.
+- Out: the proof that `bspl_more lrat` makes of each log of `bspl verify` and of each log from another
+  solver has to be verified by `lrat_checker.py`, for the formula that `bspl_more formula` prints.
 
 It needs minisat and picosat. It prints a line a protocol with its formulas that have no model, and at the end how many
-formulas, logs, changed logs and proofs there were. BSPL, BSPL_FORMULA
-and BSPL_LRAT name the programs (crates/bspl/out/bspl and so on). The status is 1 if anything is not as it should be.
+formulas, logs, changed logs and proofs there were. BSPL and BSPL_MORE
+name the programs (crates/bspl/out/bspl and so on). The status is 1 if anything is not as it should be.
 """
 import os
 import random
@@ -27,13 +27,12 @@ import tempfile
 from pathlib import Path
 
 HERE = Path(__file__).resolve().parent
-sys.path.insert(0, str(HERE))
-import check  # noqa: E402
+sys.path[:0] = [str(HERE), str(HERE.parent.parent / "bench")]
 import from_trace  # noqa: E402
+import lrat_checker  # noqa: E402
+from measure import TOP, program  # noqa: E402
 
-TOP = HERE.parent.parent
-PROGRAMS = {name: os.environ.get(name.upper(), str(TOP / f"crates/{name}/out/{name}"))
-            for name in ("bspl", "bspl_formula", "bspl_lrat")}
+PROGRAMS = {name: program(name) for name in ("bspl", "bspl_more")}
 TRIES = int(os.environ.get("TRIES", "6"))
 TRACER = os.environ.get("PICOSAT_TRACE")
 COUNTS = dict.fromkeys(("formulas", "logs", "changed", "right", "proofs"), 0)
@@ -100,13 +99,13 @@ def wrong(text, said):
 
 
 def proof_goes_out(name, protocol, kind, log, formula_text, folder):
-    """Whether `check.py` verifies the proof that `bspl_lrat` makes of the log."""
-    if kind.startswith("dead") or not Path(PROGRAMS["bspl_lrat"]).exists():
+    """Whether `lrat_checker.py` verifies the proof that `bspl_more lrat` makes of the log."""
+    if kind.startswith("dead"):
         return True
-    status, proof = run("bspl_lrat", name, text=protocol + b"\n%% log\n" + log.encode())
+    status, proof = run("bspl_more", "lrat", name, text=protocol + b"\n%% log\n" + log.encode())
     cnf = Path(folder, "again.cnf")
     cnf.write_text(formula_text)
-    bad = check.check(check.clauses_of(cnf), proof.splitlines()) if status == 0 else proof
+    bad = lrat_checker.check(lrat_checker.clauses_of(cnf), proof.splitlines()) if status == 0 else proof
     COUNTS["proofs"] += 1
     return bad is None or wrong(f"proof {name} {kind}", str(bad))
 
@@ -131,7 +130,7 @@ def formulas_of(name, protocol):
     messages = [line.split()[1] for line in run("bspl", "dead", name, "--brief", text=protocol)[1].splitlines()
                 if line.startswith("message ")]
     for kind in ["safety", "liveness", *(f"dead {message}" for message in messages)]:
-        yield kind, run("bspl_formula", name, *kind.split(), text=protocol)[1]
+        yield kind, run("bspl_more", "formula", name, *kind.split(), text=protocol)[1]
 
 
 def protocol_is_right(path, folder):
@@ -156,7 +155,7 @@ def protocol_is_right(path, folder):
         log = "log " + part.split("end\n")[0] + "end\n"
         kind = log.split()[2]
         if kind in found:
-            text = run("bspl_formula", name, kind, text=protocol)[1]
+            text = run("bspl_more", "formula", name, kind, text=protocol)[1]
             good &= proof_goes_out(name, protocol, kind, log, text, folder)
     print(f"{name:24}{' '.join(found) or '-'}")
     return good

@@ -1,22 +1,19 @@
 #!/usr/bin/env python3
 """Times bspl replay on legal runs of Purchase and Relay.
 
-    bench/replay [EVENTS ..]
+    bench/replay.py [EVENTS ..]
 
 For each protocol and each number of events (1000, 10000 and 100000) a run is made: `ten`, with ten events or six under
 each key, a hundred keys at a time; `one`, with all events under one key; `each`, with one event under each key. A line
 a run: the seconds of processor time, the megabytes of memory, and the ratio of the seconds to those of the run before
 it. The least of RUNS (3) runs counts. What is missing is said. BSPL names the program (crates/bspl/out/bspl).
 """
-import os
-import subprocess
 import sys
-import tempfile
 from pathlib import Path
 
-TOP = Path(__file__).resolve().parent.parent
-BSPL = os.environ.get("BSPL", str(TOP / "crates/bspl/out/bspl"))
-RUNS = int(os.environ.get("RUNS", "3"))
+from measure import TOP, least, program
+
+BSPL = program("bspl")
 AT_ONCE = 100
 
 
@@ -58,22 +55,6 @@ def each(events_of, count):
     return [events_of(key)[0] for key in range(count)]
 
 
-def measured(name, text):
-    """The processor time in seconds and the memory in megabytes of the call, and what it printed."""
-    least = None
-    for _ in range(RUNS):
-        with tempfile.TemporaryFile() as given, tempfile.TemporaryFile() as printed:
-            given.write(text)
-            given.seek(0)
-            call = subprocess.Popen([BSPL, "replay", name], stdin=given, stdout=printed)
-            _, _, used = os.wait4(call.pid, 0)
-            printed.seek(0)
-            out = printed.read()
-        spent = (used.ru_utime + used.ru_stime, used.ru_maxrss / 1024)
-        least = spent if least is None else min(least, spent)
-    return least, out
-
-
 def main():
     if not Path(BSPL).exists():
         print(f"{BSPL} is missing: build it in crates/bspl, or name the program in BSPL")
@@ -87,12 +68,13 @@ def main():
             for count in counts:
                 lines = shape(events_of, count)
                 text = protocol.rstrip("\n") + "\n" + "\n".join(["%% run", "run 1"] + lines + ["end"]) + "\n"
-                (seconds, memory), out = measured(name, text.encode())
+                run = least([BSPL, "replay", name], text.encode())
+                seconds, out = run.processor, run.out
                 if not out.startswith(f"legal {len(lines)}\n".encode()):
                     print(f"{name:10}{shape.__name__:6}{len(lines):8}  is not supported: {out[:40].decode().strip()}")
                     break
                 ratio = f"{seconds / before:7.1f}" if before else f"{'-':>7}"
-                print(f"{name:10}{shape.__name__:6}{len(lines):8}{seconds:9.3f}{memory:7.0f}{ratio}")
+                print(f"{name:10}{shape.__name__:6}{len(lines):8}{seconds:9.3f}{run.megabytes:7.0f}{ratio}")
                 before = seconds
 
 

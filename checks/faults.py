@@ -1,7 +1,7 @@
 #!/usr/bin/env python3
 """Whether bspl ends as it has to when one of its requests for memory is refused.
 
-    bench/faults [COMMAND ..]
+    checks/faults.py [COMMAND ..]
 
 For each command below each request of the program's own code is refused in turn, from the first one until a run makes
 fewer. The run has to end with status 7 after a prefix of the output of the ample run. Where a thread cannot be started
@@ -21,8 +21,10 @@ import tempfile
 from pathlib import Path
 from typing import NamedTuple
 
-TOP = Path(__file__).resolve().parent.parent
-BSPL = os.environ.get("BSPL", str(TOP / "crates/bspl/out/bspl"))
+sys.path.insert(0, str(Path(__file__).resolve().parent.parent / "bench"))
+from measure import TOP, program  # noqa: E402
+
+BSPL = program("bspl")
 CC = os.environ.get("CC", "cc")
 NO_MEMORY = 7
 SHOWN = 5
