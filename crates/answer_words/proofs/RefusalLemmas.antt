@@ -1,5 +1,5 @@
 -- How the words of a refusal are put together.
-use Rattle.std.proofs.Common.{◌≡◌, ◌∙◌, ◌++◌, ℕ, List, [], Option, Some, ap, append_assoc, codes, subst, sym}
+use Rattle.std.proofs.Common.{◌≡◌, ◌∙◌, ◌++◌, ℕ, List, [], Option, Some, ap, append_assoc, subst, sym}
 use Rattle.std.proofs.lemmas.List.{append-nil}
 use Rattle.bspl_parser.specs.declared.document.Document.{Document}
 use Rattle.bspl_parser.specs.Judgement.{IsText}
@@ -11,6 +11,9 @@ use Rattle.answer_words.specs.Place.{Spot, spot_text}
 use Rattle.answer_words.specs.Refusal.{IsDetail, IsFaultText, IsOfDocument, advice_at, field_place, name_of, number_of, part_text, place_text, sentence}
 use Rattle.answer_words.specs.Sentences.{wrong}
 use Rattle.answer_words.specs.Uses.{unknown_text}
+use Rattle.answer_words.proofs.TextLemmas.{four_parts}
+use Rattle.answer_words.specs.declared.wording.TheConstants as wording
+use Rattle.answer_words.specs.declared.wording.refusals.TheConstants as refusals
 
 -- what was said of the document that the text spells is added
 pub of_document : (text old new : List ℕ) (said : Document → List ℕ) (d : Document) → IsText text d → new ≡ old ++ said d → Adds (IsOfDocument text said) old new
@@ -26,15 +29,19 @@ unknown_moved spelled text old new n m same_text same_offset adds =
     subst (λ (t : List ℕ). Adds (IsOfDocument t (λ (d : Document). unknown_text d.protocols m d.protocols)) old new) same_text (subst (λ (k : ℕ). Adds (IsOfDocument spelled (λ (d : Document). unknown_text d.protocols k d.protocols)) old new) same_offset adds)
 
 -- the nearest line, after its head
-pub nearest_said : (old mid new : List ℕ) (spot : Spot) (found : Option Spot) → found ≡ Some spot → mid ≡ old ++ codes "The nearest line: " → new ≡ mid ++ spot_text spot → new ≡ old ++ part_text found
+pub nearest_said : (old mid new : List ℕ) (spot : Spot) (found : Option Spot) → found ≡ Some spot → mid ≡ old ++ refusals.NEAREST_LINE.now → new ≡ mid ++ spot_text spot → new ≡ old ++ part_text found
 nearest_said old mid new spot found is headed grown =
-    grown ∙ ap (λ (t : List ℕ). t ++ spot_text spot) headed ∙ append_assoc old (codes "The nearest line: ") (spot_text spot) ∙ ap (λ (o : Option Spot). old ++ part_text o) (sym is)
+    grown ∙ ap (λ (t : List ℕ). t ++ spot_text spot) headed ∙ append_assoc old refusals.NEAREST_LINE.now (spot_text spot) ∙ ap (λ (o : Option Spot). old ++ part_text o) (sym is)
 
 -- the line, the place, what is wrong, the detail and what to do one after the other
-pub fault_words : (input : List ℕ) (r : Rejection) (fault : Fault) (place : Option Spot) (lined placed faulted detailed new : List ℕ) → place ≡ field_place input r.code r.first → lined ≡ rejection_line r → placed ≡ lined ++ place_text place → faulted ≡ placed ++ sentence (codes "What is wrong: ") (wrong fault (name_of r.first) (name_of r.second)) → Adds (IsDetail input fault r.first) faulted detailed → new ≡ detailed ++ sentence (codes "What to do: ") (advice_at input fault (number_of r.first) place) → IsFaultText input r fault new
+pub fault_words : (input : List ℕ) (r : Rejection) (fault : Fault) (place : Option Spot) (lined placed faulted detailed new : List ℕ) → place ≡ field_place input r.code r.first → lined ≡ rejection_line r → placed ≡ lined ++ place_text place → faulted ≡ placed ++ sentence wording.WHAT_IS_WRONG.now (wrong fault (name_of r.first) (name_of r.second)) → Adds (IsDetail input fault r.first) faulted detailed → new ≡ detailed ++ sentence wording.WHAT_TO_DO.now (advice_at input fault (number_of r.first) place) → IsFaultText input r fault new
 fault_words input r fault place lined placed faulted detailed new is line at_place said detail to_do = record {
   detail = detail.added;
   is_detail = detail.holds;
   text =
-      to_do ∙ ap (λ (p : Option Spot). detailed ++ sentence (codes "What to do: ") (advice_at input fault (number_of r.first) p)) is ∙ ap (λ (t : List ℕ). t ++ sentence (codes "What to do: ") (advice_at input fault (number_of r.first) (field_place input r.code r.first))) (detail.grown ∙ ap (λ (t : List ℕ). t ++ detail.added) (said ∙ ap (λ (t : List ℕ). t ++ sentence (codes "What is wrong: ") (wrong fault (name_of r.first) (name_of r.second))) (at_place ∙ ap (λ (p : Option Spot). lined ++ place_text p) is ∙ ap (λ (t : List ℕ). t ++ place_text (field_place input r.code r.first)) line)));
+      let shown = field_place input r.code r.first in
+      let what = sentence wording.WHAT_IS_WRONG.now (wrong fault (name_of r.first) (name_of r.second)) in
+      let todo = sentence wording.WHAT_TO_DO.now (advice_at input fault (number_of r.first) shown) in
+      let parts = four_parts (rejection_line r) (place_text shown) what detail.added todo in
+      rw (detail.grown, said, at_place, is, line, parts) at to_do;
 }

@@ -2,6 +2,7 @@
 use Rattle.std.specs.Prelude.{ℕ, Bool, false, nat_eq, nat_le, ◌||◌, if◌then◌else◌}
 use Rattle.std.specs.Prelude.{List, [], ◌∷◌, codes}
 use Rattle.std.specs.List.{starts_with}
+use Rattle.answer_words.specs.declared.wording.refusals.TheConstants as refusals
 
 -- the bytes begin with what others write for a comment: `#`, `/*`, or a single `/`
 abbrev pub begins_comment : List ℕ → Bool
@@ -28,21 +29,21 @@ begins_beyond_ascii (byte ∷ bytes) = nat_le 128 byte
 abbrev pub sign_advice : List ℕ → List ℕ
 sign_advice bytes =
     if starts_with nat_eq bytes (codes ";")
-    then codes "take it away: a message ends with its `]`, and a line of names with no sign"
+    then refusals.SEMICOLON_ADVICE.now
     else if starts_with nat_eq bytes (codes "=")
-    then codes "take it away: a protocol has names, and gives them no values"
+    then refusals.EQUALS_ADVICE.now
     else if begins_beyond_ascii bytes
-    then codes "write ASCII, in names too, but for comments; save the text as plain text in UTF-8"
-    else codes "a name has ASCII letters, digits, `_` and `-`, and begins with a letter or `_`"
+    then refusals.ASCII_ADVICE.now
+    else refusals.NAME_ADVICE.now
 
 -- the advice for the bytes from there on
 abbrev pub byte_advice : List ℕ → List ℕ
 byte_advice bytes =
-    if begins_comment bytes then codes "begin a comment with //"
+    if begins_comment bytes then refusals.COMMENT_ADVICE.now
     else if starts_with nat_eq bytes (codes "%")
-    then codes "a part line is alone: `%% agents`, `%% log`, `%% run`, `%% histories` or `%% wire`"
+    then refusals.PART_LINE_ADVICE.now
     else if starts_with nat_eq bytes (239 ∷ 187 ∷ 191 ∷ [])
-    then codes "save the text as UTF-8 without a byte order mark"
-    else if begins_arrow bytes then codes "write the arrow `->`"
-    else if begins_dash bytes then codes "write `-`, as in the arrow `->`"
+    then refusals.BYTE_ORDER_ADVICE.now
+    else if begins_arrow bytes then refusals.ARROW_ADVICE.now
+    else if begins_dash bytes then refusals.DASH_ADVICE.now
     else sign_advice bytes

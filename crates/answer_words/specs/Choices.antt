@@ -1,13 +1,13 @@
 -- What may stand at a place of a protocol text.
-use Rattle.std.specs.Prelude.{◌≡◌, ℕ, ◌<◌, ◌⊎◌, List, [], ◌∷◌, ◌++◌, codes, length}
+use Rattle.std.specs.Prelude.{◌≡◌, ℕ, ◌<◌, ◌⊎◌, List, [], ◌∷◌, ◌++◌, length}
 use Rattle.bspl_parser.specs.Judgement.{IsBadSyntax}
 use Rattle.bspl_parser.specs.Tokens.{IsBadByte}
 use Rattle.text_lines.specs.Fields.{fields_of}
+use Rattle.answer_words.specs.declared.wording.refusals.TheConstants as refusals
 
 -- the words and signs of the language, and a name in place of all names
 abbrev pub signs : List (List ℕ)
-signs =
-    fields_of (codes "NAME -> : , [ ] { } ( ) in out nil key roles parameters private")
+signs = fields_of refusals.SIGNS.now
 
 -- a byte or a token before the end of the text is refused
 pub record IsRefusedWithin (text : List ℕ) : Type 0 where
@@ -32,4 +32,4 @@ pub data ListsChoices (before : List ℕ) : List (List ℕ) → List ℕ → Typ
 pub record IsChoiceLine (before line : List ℕ) : Type 0 where
   pub listed : List ℕ
   pub choices : ListsChoices before signs listed
-  pub is_line : line ≡ codes "Here may stand:" ++ listed ++ codes "\n"
+  pub is_line : line ≡ refusals.HERE_MAY_STAND.now ++ listed ++ 10 ∷ []

@@ -1,9 +1,10 @@
 -- Places in a text: a line and a column, both counted from 1.
 use Rattle.std.specs.Prelude.{ℕ, ◌+◌, ◌-◌, ◌==◌, nat_lt, min, if◌then◌else◌, List, [], ◌∷◌, ◌++◌}
-use Rattle.std.specs.Prelude.{codes, length, map, take}
+use Rattle.std.specs.Prelude.{length, map, take}
 use Rattle.list_base.specs.Numeral.{numeral}
 use Rattle.tool_input.specs.Lines.{lines}
 use Rattle.answer_words.specs.declared.place.Place.{Place}
+use Rattle.answer_words.specs.declared.wording.TheConstants as wording
 
 -- a line and a column, and the bytes of the line
 pub record Spot : Type 0 where
@@ -41,6 +42,6 @@ indent bytes = map (λ b. if b == 9 then 9 else 32) bytes
 -- the place in words, the line, and a mark under the place
 abbrev pub spot_text : Spot → List ℕ
 spot_text spot =
-    codes "line " ++ numeral spot.line ++ codes ", column " ++ numeral spot.column ++
-    codes "\n  " ++ spot.shown ++ codes "\n  " ++ indent (take (spot.column - 1) spot.shown) ++
-    codes "^\n"
+    wording.LINE.now ++ numeral spot.line ++ wording.COLUMN.now ++ numeral spot.column ++
+    wording.NEXT_SHOWN.now ++ spot.shown ++
+    wording.NEXT_SHOWN.now ++ indent (take (spot.column - 1) spot.shown) ++ wording.MARK.now

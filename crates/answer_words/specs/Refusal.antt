@@ -1,5 +1,5 @@
 -- The words of a refusal.
-use Rattle.std.specs.Prelude.{◌≡◌, ℕ, ◌-◌, List, [], ◌++◌, codes, drop, length, take}
+use Rattle.std.specs.Prelude.{◌≡◌, ℕ, ◌-◌, List, [], ◌++◌, drop, length, take}
 use Rattle.std.specs.Prelude.{Option, None, Some}
 use Rattle.bspl_parser.specs.declared.document.Document.{Document}
 use Rattle.bspl_parser.specs.Judgement.{IsText}
@@ -24,6 +24,8 @@ use Rattle.answer_words.specs.Place.{Spot, line_in, place_of, spot_text}
 use Rattle.answer_words.specs.ScriptRule.{names_of, rule_of, word_of}
 use Rattle.answer_words.specs.Sentences.{line_advice, wrong}
 use Rattle.answer_words.specs.Uses.{asked_text, unknown_text}
+use Rattle.answer_words.specs.declared.wording.TheConstants as wording
+use Rattle.answer_words.specs.declared.wording.refusals.TheConstants as refusals
 
 -- the n-th line of the part, in the whole input
 abbrev pub part_place : List ℕ → ℕ → Option (Part × List ℕ) → Option Spot
@@ -66,8 +68,8 @@ place_text (Some spot) = spot_text spot
 
 -- the line that is nearest to a part line, if one is near
 abbrev pub part_text : Option Spot → List ℕ
-part_text None = codes "No line of the input is nearly that line.\n"
-part_text (Some spot) = codes "The nearest line: " ++ spot_text spot
+part_text None = refusals.NO_LINE.now
+part_text (Some spot) = refusals.NEAREST_LINE.now ++ spot_text spot
 
 -- what is said of the document that the text spells; nothing if it spells none
 pub data IsOfDocument (text : List ℕ) (said : Document → List ℕ) : List ℕ → Type 0 where
@@ -83,7 +85,7 @@ IsDetail input fault.UnknownName first text =
 IsDetail input fault.NoProtocol first text =
     IsOfDocument (protocol_text input) (asked_text (name_of first)) text
 IsDetail input fault.NoPart first text =
-    text ≡ part_text (nearest_line (codes "%% " ++ name_of first) (lines input))
+    text ≡ part_text (nearest_line (refusals.PART_MARK.now ++ name_of first) (lines input))
 IsDetail input fault first text = text ≡ []
 
 -- the line of the script that is refused
@@ -100,18 +102,23 @@ advice_at input fault n place = line_advice fault n
 
 -- a sentence in its line
 abbrev pub sentence : List ℕ → List ℕ → List ℕ
-sentence head said = head ++ said ++ codes ".\n"
+sentence head said = head ++ said ++ wording.FULL_STOP.now
 
--- the line of the refusal, its place, what is wrong, the detail, and what to do
+-- the place, what is wrong, the detail, and what to do
+abbrev pub fault_text : List ℕ → Rejection → Fault → List ℕ → List ℕ
+fault_text input r fault detail =
+    let place = field_place input r.code r.first in
+    place_text place ++
+    sentence wording.WHAT_IS_WRONG.now (wrong fault (name_of r.first) (name_of r.second)) ++
+    detail ++
+    sentence wording.WHAT_TO_DO.now (advice_at input fault (number_of r.first) place)
+
+-- the line of the refusal, and then the words, with the detail of its fault
 pub record IsFaultText (input : List ℕ) (r : Rejection) (fault : Fault) (out : List ℕ)
     : Type 0 where
   pub detail : List ℕ
   pub is_detail : IsDetail input fault r.first detail
-  pub text : let place = field_place input r.code r.first in
-      out ≡ rejection_line r ++ place_text place ++
-      sentence (codes "What is wrong: ") (wrong fault (name_of r.first) (name_of r.second)) ++
-      detail ++
-      sentence (codes "What to do: ") (advice_at input fault (number_of r.first) place)
+  pub text : out ≡ rejection_line r ++ fault_text input r fault detail
 
 -- a code that stands for no fault has no words
 abbrev pub IsTextFor : List ℕ → Rejection → Option Fault → List ℕ → Type 0

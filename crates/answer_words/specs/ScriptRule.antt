@@ -1,37 +1,37 @@
 -- What to do about a line of a script, by the word that it begins with.
-use Rattle.std.specs.Prelude.{ℕ, if◌then◌else◌, List, [], ◌∷◌, ◌++◌, codes}
+use Rattle.std.specs.Prelude.{ℕ, if◌then◌else◌, List, [], ◌∷◌, codes}
 use Rattle.std.specs.Str.{bytes_eq}
+use Rattle.answer_words.specs.declared.wording.refusals.TheConstants as refusals
 
 -- the form of the lines that begin with the word, and their rules
 abbrev pub rule_of : List ℕ → List ℕ
 rule_of word =
     if bytes_eq word (codes "keys")
-    then codes "write `keys N` with N from 1 to 10000, once, and without `key`"
+    then refusals.KEYS_RULE.now
     else if bytes_eq word (codes "key")
-    then codes "write `key VALUE ..`, a value for each key, no line twice, and without `keys`"
+    then refusals.KEY_RULE.now
     else if bytes_eq word (codes "seed")
-    then codes "write `seed N` with a number of 64 bits, once"
+    then refusals.SEED_RULE.now
     else if bytes_eq word (codes "loss")
-    then codes "write `loss N` with N from 0 to 1000, once"
+    then refusals.LOSS_RULE.now
     else if bytes_eq word (codes "repeat")
-    then codes "write `repeat N` with N from 0 to 3, once"
+    then refusals.REPEAT_RULE.now
     else if bytes_eq word (codes "order")
-    then codes "write `order ROLE MESSAGE ..`, once for the role, with each message once"
+    then refusals.ORDER_RULE.now
     else if bytes_eq word (codes "decline")
-    then codes "write `decline MESSAGE` or `decline MESSAGE every N`, N not 0, once for the message"
+    then refusals.DECLINE_RULE.now
     else if bytes_eq word (codes "value")
-    then codes "write `value MESSAGE PARAM A B`, where A * n + B has 64 bits for each key n, or " ++
-    codes "`value MESSAGE PARAM \"text\"` with each blank as `\\20`; once for the parameter"
-    else codes "begin a line with keys, key, seed, loss, repeat, order, decline or value"
+    then refusals.VALUE_RULE.now
+    else refusals.OTHER_RULE.now
 
 -- what those that name something of the protocol name
 abbrev pub names_of : List ℕ → List ℕ
 names_of word =
     if bytes_eq word (codes "order")
-    then codes "name a role and messages that it sends, as `bspl expand` prints them"
+    then refusals.ORDER_NAMES.now
     else if bytes_eq word (codes "value")
-    then codes "name a message as `bspl expand` prints it, and an `out` of it that is no key"
-    else codes "name a message as `bspl expand` prints it"
+    then refusals.VALUE_NAMES.now
+    else refusals.OTHER_NAMES.now
 
 -- the word that a line with these fields begins with
 abbrev pub word_of : List (List ℕ) → List ℕ

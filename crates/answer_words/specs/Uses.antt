@@ -1,5 +1,5 @@
 -- What a name of a document is used as, and which names are declared as that.
-use Rattle.std.specs.Prelude.{ℕ, cond, ◌==◌, List, [], ◌∷◌, ◌++◌, codes, Option, None, Some}
+use Rattle.std.specs.Prelude.{ℕ, cond, ◌==◌, List, [], ◌∷◌, ◌++◌, Option, None, Some}
 use Rattle.bspl_parser.specs.declared.document.Declaration.{Declaration}
 use Rattle.bspl_parser.specs.declared.document.Document.{Document}
 use Rattle.bspl_parser.specs.declared.document.Formal.{Formal}
@@ -11,6 +11,8 @@ use Rattle.answer_words.specs.declared.uses.Kind.{Kind}
 use Rattle.answer_words.specs.declared.uses.Kind.TheVariants.{Parameter, Protocol, Role}
 use Rattle.answer_words.specs.declared.uses.Use.{Use as CodeUse}
 use Rattle.answer_words.specs.Nearest.{nearest}
+use Rattle.answer_words.specs.declared.wording.TheConstants as wording
+use Rattle.answer_words.specs.declared.wording.refusals.TheConstants as refusals
 
 -- what a name is used as, and the name
 pub record NameUse : Type 0 where
@@ -62,16 +64,17 @@ declared_as protocols p Protocol = texts (protocol_words protocols)
 
 -- the word for a use
 abbrev pub kind_word : Kind → List ℕ
-kind_word Role = codes "role"
-kind_word Parameter = codes "parameter"
-kind_word Protocol = codes "protocol"
+kind_word Role = refusals.ROLE.now
+kind_word Parameter = refusals.PARAMETER.now
+kind_word Protocol = refusals.PROTOCOL.now
 
 -- the line on what a name should be, with the nearest declared one
 abbrev pub near_text : Kind → Option (List ℕ) → List ℕ
 near_text kind None =
-    codes "No " ++ kind_word kind ++ codes " with a name that is nearly this one is declared.\n"
+    refusals.NO_NAME.now ++ kind_word kind ++ refusals.NEARLY_THIS_ONE.now
 near_text kind (Some near) =
-    codes "The nearest " ++ kind_word kind ++ codes " that is declared is " ++ near ++ codes ".\n"
+    refusals.NEAREST.now ++ kind_word kind ++ refusals.THAT_IS_DECLARED.now ++ near ++
+    wording.FULL_STOP.now
 
 -- the line on a name that is used in a protocol
 abbrev pub use_text : List Declaration → Declaration → NameUse → List ℕ

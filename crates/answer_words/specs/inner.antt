@@ -2,3 +2,4 @@
 pub mod Common
 pub mod Added
 pub mod Choice
+pub mod Producer

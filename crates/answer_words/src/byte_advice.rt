@@ -2,20 +2,22 @@ ghost use Rattle.std.specs.Prelude.{◌≡◌};
 ghost use Rattle.answer_words.specs.ByteAdvice.{begins_arrow, begins_beyond_ascii, begins_comment};
 ghost use Rattle.answer_words.specs.ByteAdvice.{begins_dash, byte_advice, sign_advice};
 
+use super::wording::refusals;
+
 /// What to do about a byte at which no token begins, by the bytes from there on.
 pub(crate) fn byte_advice(bytes: &[u8]) -> &'static [u8]
     ensures { result.now ≡ byte_advice bytes.now }
 {
     if begins_comment(bytes) {
-        b"begin a comment with //"
+        refusals::COMMENT_ADVICE
     } else if bytes.starts_with(b"%") {
-        b"a part line is alone: `%% agents`, `%% log`, `%% run`, `%% histories` or `%% wire`"
+        refusals::PART_LINE_ADVICE
     } else if bytes.starts_with(b"\xef\xbb\xbf") {
-        b"save the text as UTF-8 without a byte order mark"
+        refusals::BYTE_ORDER_ADVICE
     } else if begins_arrow(bytes) {
-        b"write the arrow `->`"
+        refusals::ARROW_ADVICE
     } else if begins_dash(bytes) {
-        b"write `-`, as in the arrow `->`"
+        refusals::DASH_ADVICE
     } else {
         sign_advice(bytes)
     }
@@ -26,13 +28,13 @@ fn sign_advice(bytes: &[u8]) -> &'static [u8]
     ensures { result.now ≡ sign_advice bytes.now }
 {
     if bytes.starts_with(b";") {
-        b"take it away: a message ends with its `]`, and a line of names with no sign"
+        refusals::SEMICOLON_ADVICE
     } else if bytes.starts_with(b"=") {
-        b"take it away: a protocol has names, and gives them no values"
+        refusals::EQUALS_ADVICE
     } else if begins_beyond_ascii(bytes) {
-        b"write ASCII, in names too, but for comments; save the text as plain text in UTF-8"
+        refusals::ASCII_ADVICE
     } else {
-        b"a name has ASCII letters, digits, `_` and `-`, and begins with a letter or `_`"
+        refusals::NAME_ADVICE
     }
 }
 

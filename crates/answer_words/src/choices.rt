@@ -3,20 +3,18 @@ ghost use Rattle.answer_words.specs.Choices.{IsChoiceLine, IsRefusedWithin, List
 ghost use Rattle.answer_words.specs.inner.Added.{Adds};
 ghost use Rattle.answer_words.specs.inner.Choice.{IsChoice};
 
+use super::wording::refusals;
 use bspl_parser::{answers_once, parse};
 use bspl_types::Refusal;
 use list_base::{Bytes, NoMemory};
 use std::alloc::Global;
 use text_lines::first_field;
 
-/// The words and signs of the language, and a name.
-const SIGNS: &[u8] = b"NAME -> : , [ ] { } ( ) in out nil key roles parameters private";
-
 /// Appends the line that lists what may stand after the text.
 pub(crate) fn push_choices(alloc: Global, text: &mut Bytes, before: &[u8]) -> Result<(), NoMemory>
     ensures { OnOk result (Adds (IsChoiceLine before.now) text.old text.new) }
 {
-    text.append(b"Here may stand:")?;
+    text.append(refusals::HERE_MAY_STAND)?;
     push_signs(alloc, text, before)?;
     text.push(b'\n')
 }
@@ -25,7 +23,7 @@ pub(crate) fn push_choices(alloc: Global, text: &mut Bytes, before: &[u8]) -> Re
 fn push_signs(alloc: Global, text: &mut Bytes, before: &[u8]) -> Result<(), NoMemory>
     ensures { OnOk result (Adds (ListsChoices before.now signs) text.old text.new) }
 {
-    let mut rest = SIGNS;
+    let mut rest = refusals::SIGNS;
     'signs: while let Some((sign, more)) = first_field(rest) {
         push_choice(alloc, text, before, sign)?;
         rest = more;

@@ -2,6 +2,7 @@ ghost use Rattle.std.specs.Prelude.{◌≡◌, ◌+◌, ◌<◌, ◌≤◌, ◌-
 ghost use Rattle.tool_input.specs.Lines.{lines};
 ghost use Rattle.answer_words.specs.Place.{indent, line_in, place_of, spot_of, spot_text};
 
+use super::wording;
 use list_base::{Bytes, NoMemory};
 use text_lines::{push_decimal, split_once};
 
@@ -77,15 +78,15 @@ fn at_line(line: u64, shown: &[u8]) -> Place<'_>
 pub(crate) fn push_place(text: &mut Bytes, place: &Place<'_>) -> Result<(), NoMemory>
     ensures { OnOk result (text.new ≡ text.old ++ spot_text (spot_of place.now)) }
 {
-    text.append(b"line ")?;
+    text.append(wording::LINE)?;
     push_decimal(text, place.line)?;
-    text.append(b", column ")?;
+    text.append(wording::COLUMN)?;
     push_decimal(text, place.column)?;
-    text.append(b"\n  ")?;
+    text.append(wording::NEXT_SHOWN)?;
     text.append(place.shown)?;
-    text.append(b"\n  ")?;
+    text.append(wording::NEXT_SHOWN)?;
     push_indent(text, before_mark(place))?;
-    text.append(b"^\n")
+    text.append(wording::MARK)
 }
 
 /// The bytes of the line before the place.

@@ -1,4 +1,4 @@
-ghost use Rattle.std.specs.Prelude.{◌≡◌, ◌++◌, IfOk, MatchOption, OnOk, codes, drop, take};
+ghost use Rattle.std.specs.Prelude.{◌≡◌, ◌++◌, IfOk, MatchOption, OnOk, drop, take};
 ghost use Rattle.std.specs.Option.{option_map};
 ghost use Rattle.bspl_parser.specs.declared.document.Document.{Document as SpecDocument};
 ghost use Rattle.bspl_parser.specs.Judgement.{IsText};
@@ -21,6 +21,8 @@ use super::refused_place::{field_place, name_of, number_of, shown_line};
 use super::script_rule::{names_of, rule_of, word_of};
 use super::sentences::{line_advice, push_wrong};
 use super::uses::{push_asked, push_unknown};
+use super::wording::refusals::{self, PART_MARK};
+use super::wording::{self, WHAT_IS_WRONG, WHAT_TO_DO};
 use bspl_parser::{Document, answers_once, parse};
 use bspl_types::Refusal;
 use list_base::{Bytes, NoMemory};
@@ -59,16 +61,16 @@ fn push_what_is_wrong(text: &mut Bytes, fault: Fault, rejection: &Rejection) -> 
     ensures { let first = name_of rejection.now.first in
         let second = name_of rejection.now.second in
         OnOk result (text.new ≡
-        text.old ++ sentence (codes "What is wrong: ") (wrong fault first second)) }
+        text.old ++ sentence WHAT_IS_WRONG.now (wrong fault first second)) }
 {
-    text.append(b"What is wrong: ")?;
+    text.append(WHAT_IS_WRONG)?;
     push_wrong(
         text,
         fault,
         name_of(&rejection.first),
         name_of(&rejection.second),
     )?;
-    text.append(b".\n")?;
+    text.append(wording::FULL_STOP)?;
     Ok(())
 }
 
@@ -151,16 +153,16 @@ fn document_of(alloc: Global, text: &[u8]) -> Result<Option<Document<'_>>, NoMem
 /// Appends the line that is nearest to the part line.
 fn push_part(alloc: Global, text: &mut Bytes, input: &[u8], part: &[u8]) -> Result<(), NoMemory>
     ensures { OnOk result (text.new ≡
-        text.old ++ part_text (nearest_line (codes "%% " ++ part.now) (lines input.now))) }
+        text.old ++ part_text (nearest_line (PART_MARK.now ++ part.now) (lines input.now))) }
 {
-    let mut wanted = Bytes::from_slice(alloc, b"%% ")?;
+    let mut wanted = Bytes::from_slice(alloc, PART_MARK)?;
     wanted.append(part)?;
     match nearest_line(wanted.as_slice(), input) {
         Some(place) => {
-            text.append(b"The nearest line: ")?;
+            text.append(refusals::NEAREST_LINE)?;
             push_place(text, &place)
         }
-        None => text.append(b"No line of the input is nearly that line.\n"),
+        None => text.append(refusals::NO_LINE),
     }
 }
 
@@ -174,11 +176,11 @@ fn push_what_to_do(
 ) -> Result<(), NoMemory>
     ensures { let said = advice_at input.now fault (number_of first.now)
         (option_map spot_of place.now) in
-        OnOk result (text.new ≡ text.old ++ sentence (codes "What to do: ") said) }
+        OnOk result (text.new ≡ text.old ++ sentence WHAT_TO_DO.now said) }
 {
-    text.append(b"What to do: ")?;
+    text.append(WHAT_TO_DO)?;
     text.append(advice_at(input, fault, first, place))?;
-    text.append(b".\n")?;
+    text.append(wording::FULL_STOP)?;
     Ok(())
 }
 

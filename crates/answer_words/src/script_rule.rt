@@ -2,6 +2,7 @@ ghost use Rattle.std.specs.Prelude.{◌≡◌};
 ghost use Rattle.text_lines.specs.Fields.{fields_of};
 ghost use Rattle.answer_words.specs.ScriptRule.{names_of, rule_of, word_of};
 
+use super::wording::refusals;
 use text_lines::first_field;
 
 /// The word that the line begins with.
@@ -19,24 +20,23 @@ pub(crate) fn rule_of(word: &[u8]) -> &'static [u8]
     ensures { result.now ≡ rule_of word.now }
 {
     if word == b"keys".as_slice() {
-        b"write `keys N` with N from 1 to 10000, once, and without `key`"
+        refusals::KEYS_RULE
     } else if word == b"key".as_slice() {
-        b"write `key VALUE ..`, a value for each key, no line twice, and without `keys`"
+        refusals::KEY_RULE
     } else if word == b"seed".as_slice() {
-        b"write `seed N` with a number of 64 bits, once"
+        refusals::SEED_RULE
     } else if word == b"loss".as_slice() {
-        b"write `loss N` with N from 0 to 1000, once"
+        refusals::LOSS_RULE
     } else if word == b"repeat".as_slice() {
-        b"write `repeat N` with N from 0 to 3, once"
+        refusals::REPEAT_RULE
     } else if word == b"order".as_slice() {
-        b"write `order ROLE MESSAGE ..`, once for the role, with each message once"
+        refusals::ORDER_RULE
     } else if word == b"decline".as_slice() {
-        b"write `decline MESSAGE` or `decline MESSAGE every N`, N not 0, once for the message"
+        refusals::DECLINE_RULE
     } else if word == b"value".as_slice() {
-        b"write `value MESSAGE PARAM A B`, where A * n + B has 64 bits for each key n, or \
-`value MESSAGE PARAM \"text\"` with each blank as `\\20`; once for the parameter"
+        refusals::VALUE_RULE
     } else {
-        b"begin a line with keys, key, seed, loss, repeat, order, decline or value"
+        refusals::OTHER_RULE
     }
 }
 
@@ -45,10 +45,10 @@ pub(crate) fn names_of(word: &[u8]) -> &'static [u8]
     ensures { result.now ≡ names_of word.now }
 {
     if word == b"order".as_slice() {
-        b"name a role and messages that it sends, as `bspl expand` prints them"
+        refusals::ORDER_NAMES
     } else if word == b"value".as_slice() {
-        b"name a message as `bspl expand` prints it, and an `out` of it that is no key"
+        refusals::VALUE_NAMES
     } else {
-        b"name a message as `bspl expand` prints it"
+        refusals::OTHER_NAMES
     }
 }

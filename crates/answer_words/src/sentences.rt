@@ -1,8 +1,9 @@
 ghost use Rattle.std.specs.Prelude.{◌≡◌, ◌++◌, OnOk};
-ghost use Rattle.answer_words.specs.Sentences.{advice, ending, heading, line_advice, middle};
-ghost use Rattle.answer_words.specs.Sentences.{opening, wrong};
+ghost use Rattle.answer_words.specs.Sentences.{ending, heading, line_advice, middle};
+ghost use Rattle.answer_words.specs.Sentences.{sentences, wrong};
 
 use super::fault::Fault;
+use super::wording::refusals::{self, Sentences};
 use list_base::{Bytes, NoMemory};
 
 /// Appends what is wrong, with the names of the refusal.
@@ -16,7 +17,7 @@ pub(crate) fn push_wrong(
 {
     push_around(
         text,
-        opening(fault),
+        sentences(fault).0,
         one,
         middle(fault),
         other,
@@ -43,35 +44,36 @@ pub(crate) fn push_around(
     text.append(after)
 }
 
-/// What is wrong, up to the first name.
-fn opening(fault: Fault) -> &'static [u8]
-    ensures { result.now ≡ opening fault }
+/// What is wrong, all of it or up to the first name, and what to do, unless the place says it.
+fn sentences(fault: Fault) -> Sentences
+    ensures wrong { result.0.now ≡ (sentences fault).0 }
+    ensures advice { result.1.now ≡ (sentences fault).1 }
 {
     match fault {
-        Fault::NoPart => b"the command needs the part line `%% ",
-        Fault::NoProtocol => b"the text declares no protocol ",
-        Fault::NoMessage => b"the protocol has no message ",
-        Fault::Cycle => b"references lead from the protocol ",
-        Fault::OverLimit => b"there are more than ",
-        Fault::KeyMissing => b"the message ",
-        Fault::ToItself => b"the message ",
-        Fault::ParameterTwice => b"the message ",
-        Fault::TooLong => b"the input has more bytes than may be read",
-        Fault::BadByte => b"no word and no sign of the language begins with this byte",
-        Fault::BadToken => b"no protocol has this there, or the text ends too early",
-        Fault::NameTwice => b"this name is declared a second time",
-        Fault::UnknownName => b"this name is not declared",
-        Fault::OtherArity => b"this protocol has another number of roles or of parameters",
-        Fault::BadAdornment => b"this adornment is not supported, or not the declared one",
-        Fault::NoKey => b"no public parameter is a key, to tell enactments apart",
-        Fault::KeyElsewhere => b"`key` is on a name that the protocol does not declare as a key",
-        Fault::LogForm => b"a log has no such line there, or it ends too early",
-        Fault::LogNumber => b"a number in this line is 0 or over 2147483647",
-        Fault::RunForm => b"a run has no such line there, or it ends too early",
-        Fault::ScriptForm => b"this line has no form of a script, or breaks one of its rules",
-        Fault::ScriptName => b"the line names what the protocol does not have for it",
-        Fault::HistoryForm => b"histories have no such line there, or they end too early",
-        Fault::NoRole => b"the part does not begin with the line of a role of the protocol",
+        Fault::NoPart => refusals::NO_PART,
+        Fault::TooLong => refusals::TOO_LONG,
+        Fault::BadByte => refusals::BAD_BYTE,
+        Fault::BadToken => refusals::BAD_TOKEN,
+        Fault::NoProtocol => refusals::NO_PROTOCOL,
+        Fault::NameTwice => refusals::NAME_TWICE,
+        Fault::UnknownName => refusals::UNKNOWN_NAME,
+        Fault::OtherArity => refusals::OTHER_ARITY,
+        Fault::BadAdornment => refusals::BAD_ADORNMENT,
+        Fault::Cycle => refusals::CYCLE,
+        Fault::OverLimit => refusals::OVER_LIMIT,
+        Fault::NoKey => refusals::NO_KEY,
+        Fault::KeyMissing => refusals::KEY_MISSING,
+        Fault::KeyElsewhere => refusals::KEY_ELSEWHERE,
+        Fault::ToItself => refusals::TO_ITSELF,
+        Fault::ParameterTwice => refusals::PARAMETER_TWICE,
+        Fault::NoMessage => refusals::NO_MESSAGE,
+        Fault::LogForm => refusals::LOG_FORM,
+        Fault::LogNumber => refusals::LOG_NUMBER,
+        Fault::RunForm => refusals::RUN_FORM,
+        Fault::ScriptForm => refusals::SCRIPT_FORM,
+        Fault::ScriptName => refusals::SCRIPT_NAME,
+        Fault::HistoryForm => refusals::HISTORY_FORM,
+        Fault::NoRole => refusals::NO_ROLE,
     }
 }
 
@@ -80,11 +82,11 @@ fn middle(fault: Fault) -> &'static [u8]
     ensures { result.now ≡ middle fault }
 {
     match fault {
-        Fault::NoPart => b"`, and it is not there, or another part comes first",
-        Fault::Cycle => b" back to it",
-        Fault::KeyMissing => b" lacks the key ",
-        Fault::ToItself => b" goes to the role that sends it",
-        Fault::ParameterTwice => b" has the parameter ",
+        Fault::NoPart => refusals::NO_PART_THERE,
+        Fault::Cycle => refusals::BACK_TO_IT,
+        Fault::KeyMissing => refusals::LACKS_KEY,
+        Fault::ToItself => refusals::GOES_TO_ITSELF,
+        Fault::ParameterTwice => refusals::HAS_PARAMETER,
         _ => b"",
     }
 }
@@ -94,60 +96,8 @@ fn ending(fault: Fault) -> &'static [u8]
     ensures { result.now ≡ ending fault }
 {
     match fault {
-        Fault::KeyMissing => b" as `in` or `out`",
-        Fault::ParameterTwice => b" twice",
-        _ => b"",
-    }
-}
-
-/// What to do, unless the place says it.
-fn advice(fault: Fault) -> &'static [u8]
-    ensures { result.now ≡ advice fault }
-{
-    match fault {
-        Fault::NoPart => {
-            b"write exactly that, alone in its line, end the line above it, and take any other \
-part above it away"
-        }
-        Fault::TooLong => b"give a shorter input",
-        Fault::BadToken => {
-            b"write one of these, or mend what is before the mark: a comma may be missing there"
-        }
-        Fault::NoProtocol => {
-            b"ask for a name that the text declares; that of the file does not count"
-        }
-        Fault::NoMessage => b"ask for a message that `bspl expand` prints",
-        Fault::NameTwice => b"give one of the two another name",
-        Fault::UnknownName => {
-            b"correct the name, or declare it: a role in the line `roles`, a parameter in \
-`parameters` or `private`, a protocol in the same text"
-        }
-        Fault::OtherArity => b"give each of its roles and adorned public parameters, in its order",
-        Fault::BadAdornment => b"write `in`, `out` or `nil`, and in a reference the declared one",
-        Fault::Cycle => b"take one of these references away",
-        Fault::OverLimit => b"divide the protocol, and judge its parts one by one",
-        Fault::NoKey => b"mark one, as in `parameters out ID key, out item`",
-        Fault::KeyMissing => b"add it: `out` where an enactment begins, `in` elsewhere",
-        Fault::KeyElsewhere => b"take `key` away there, or mark the public parameter",
-        Fault::ToItself => b"let another role receive it; what one role does alone is no message",
-        Fault::ParameterTwice => {
-            b"keep one, since `out` includes the test of `nil`; if the text has only one, \
-a reference gives its protocol the parameter twice"
-        }
-        Fault::LogForm => {
-            b"write `step CLAUSE PIVOT CLAUSE ..`, in `log 2` also `drop CLAUSE ..`, at last `end`"
-        }
-        Fault::LogNumber => b"count clauses and variables from 1",
-        Fault::RunForm => {
-            b"write `send MESSAGE PARAM=VALUE ..` or `receive ..`, values in the order of the \
-message as `bspl expand` prints it, those of `nil` left out, a text in quotes and a \
-blank in it as `\\20`; at last `end`"
-        }
-        Fault::HistoryForm => {
-            b"write `role ROLE`, then what this role sends and receives as in a run, values in the \
-order of the message as `bspl expand` prints it; at last `end`"
-        }
-        Fault::NoRole => b"begin it with `role ROLE`, and end that line with LF alone",
+        Fault::KeyMissing => refusals::AS_IN_OR_OUT,
+        Fault::ParameterTwice => refusals::TWICE,
         _ => b"",
     }
 }
@@ -159,7 +109,7 @@ pub(crate) fn line_advice(fault: Fault, line: u64) -> &'static [u8]
     if line == 1 {
         heading(fault)
     } else {
-        advice(fault)
+        sentences(fault).1
     }
 }
 
@@ -168,9 +118,9 @@ fn heading(fault: Fault) -> &'static [u8]
     ensures { result.now ≡ heading fault }
 {
     match fault {
-        Fault::LogForm => b"begin with `log 1 safety`, `log 1 liveness` or `log 1 dead MESSAGE`",
-        Fault::RunForm => b"begin with `run 1`, and end each line with LF alone",
-        Fault::HistoryForm => b"begin with `histories 1`, and end each line with LF alone",
-        _ => advice(fault),
+        Fault::LogForm => refusals::LOG_HEADING,
+        Fault::RunForm => refusals::RUN_HEADING,
+        Fault::HistoryForm => refusals::HISTORY_HEADING,
+        _ => sentences(fault).1,
     }
 }

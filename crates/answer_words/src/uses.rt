@@ -7,6 +7,7 @@ ghost use Rattle.answer_words.specs.Uses.{use_text, word_at};
 use super::names::{declared_as, protocol_names};
 use super::near_names::nearest;
 use super::sentences::push_around;
+use super::wording::{self, refusals};
 use bspl_parser::{Declaration, Document, Formal, Item, Word};
 use list_base::{Bytes, NoMemory};
 use std::alloc::Global;
@@ -164,16 +165,16 @@ fn push_near(text: &mut Bytes, kind: Kind, near: Option<&[u8]>) -> Result<(), No
         Some(near) => {
             push_around(
                 text,
-                b"The nearest ",
+                refusals::NEAREST,
                 word,
-                b" that is declared is ",
+                refusals::THAT_IS_DECLARED,
                 near,
-                b".\n",
+                wording::FULL_STOP,
             )
         }
         None => {
-            let end = b" with a name that is nearly this one is declared.\n";
-            push_around(text, b"No ", word, end, b"", b"")
+            let end = refusals::NEARLY_THIS_ONE;
+            push_around(text, refusals::NO_NAME, word, end, b"", b"")
         }
     }
 }
@@ -183,8 +184,8 @@ fn kind_word(kind: Kind) -> &'static [u8]
     ensures { result.now ≡ kind_word kind }
 {
     match kind {
-        Kind::Role => b"role",
-        Kind::Parameter => b"parameter",
-        Kind::Protocol => b"protocol",
+        Kind::Role => refusals::ROLE,
+        Kind::Parameter => refusals::PARAMETER,
+        Kind::Protocol => refusals::PROTOCOL,
     }
 }

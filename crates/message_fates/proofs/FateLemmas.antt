@@ -9,8 +9,8 @@ use Rattle.bspl_types.specs.declared.expanded.Expanded.{Expanded}
 use Rattle.enactability.specs.declared.outcome.Enact.{Enact}
 use Rattle.enactability.specs.declared.outcome.Enact.TheVariants.{Undecided}
 use Rattle.enactability.specs.Answer.{IsAnswered}
-use Rattle.page_sections.specs.declared.fate.Fate.{Fate}
-use Rattle.page_sections.specs.declared.fate.Fate.TheVariants as fates
+use Rattle.message_fates.specs.declared.fate.Fate.{Fate}
+use Rattle.message_fates.specs.declared.fate.Fate.TheVariants as fates
 use Rattle.refutation_log.specs.declared.refutation.Log.{Log}
 use Rattle.message_fates.specs.Fates.{AreFates, HasFate, IsUndecidedMessage}
 use Rattle.message_fates.specs.inner.Known.{AreKnown, IsKnownFate}

@@ -5,7 +5,7 @@ use Rattle.std.proofs.lemmas.Bool.{cases_eq}
 use Rattle.std.proofs.lemmas.List.{get_or-set_other, get_or-set_same, length-set}
 use Rattle.std.proofs.lemmas.Option.{get_or_from_slice_get, same_Some, slice_get-get_or, slice_get_within}
 use Rattle.bspl_types.specs.declared.expanded.Expanded.{Expanded}
-use Rattle.page_sections.specs.declared.fate.Fate.{Fate}
+use Rattle.message_fates.specs.declared.fate.Fate.{Fate}
 use Rattle.message_fates.specs.inner.Known.{AreKnown, IsKnownFate}
 
 -- the fate that was put there

@@ -4,8 +4,8 @@ use Rattle.std.specs.List.{All, enumerate_from}
 use Rattle.bspl_types.specs.declared.expanded.Expanded.{Expanded}
 use Rattle.enactability.specs.Enactable.{Enactable}
 use Rattle.enactability.specs.EnactFormula.{IsEnactFormula}
-use Rattle.page_sections.specs.declared.fate.Fate.{Fate}
-use Rattle.page_sections.specs.declared.fate.Fate.TheVariants.{Dead, Sent, Undecided}
+use Rattle.message_fates.specs.declared.fate.Fate.{Fate}
+use Rattle.message_fates.specs.declared.fate.Fate.TheVariants.{Dead, Sent, Undecided}
 use Rattle.refutation_log.specs.declared.refutation.Log.{Log}
 use Rattle.verdict.specs.Decision.{IsUndecidedVerdict}
 

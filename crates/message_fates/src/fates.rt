@@ -2,11 +2,11 @@ ghost use Rattle.std.specs.Prelude.{◌≡◌, ◌<◌, ◌≤◌, length, map, 
 ghost use Rattle.message_fates.specs.Fates.{AreFates, HasFate};
 ghost use Rattle.message_fates.specs.inner.Known.{AreKnown, IsKnownFate};
 
+use super::fate::Fate;
 use super::known::find_known;
 use bspl_types::{Admitted, MESSAGE_LIMIT};
 use enactability::{Enact, EnactSearch};
 use list_base::{NoMemory, Seq};
-use page_sections::Fate;
 use std::alloc::Global;
 
 /// What becomes of each message. A message is searched for, with at most `budget` conflicts, only if

@@ -3,6 +3,7 @@ ghost use Rattle.bspl_types.specs.declared.expanded.Expanded.{Expanded as SpecEx
 ghost use Rattle.enactment_model.specs.Legal.{IsLegalRun};
 ghost use Rattle.message_fates.specs.inner.Known.{AreKnown};
 
+use super::fate::Fate;
 use super::goals::Goals;
 use super::laws::enactable_is_reached;
 use super::param_sets::bit;
@@ -10,7 +11,6 @@ use super::played_run::played_run;
 use super::reach::{is_closed, is_reached, reach};
 use bspl_types::{Admitted, Event, Expanded};
 use list_base::NoMemory;
-use page_sections::Fate;
 use std::alloc::Global;
 
 /// Finds the fates of messages that are not reached, and of those that a play sends. What was in

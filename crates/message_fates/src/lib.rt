@@ -1,6 +1,7 @@
 //! What becomes of each message of a protocol: whether some legal run sends it.
 #![tactic(auto)]
 
+mod fate;
 mod fates;
 mod goals;
 mod known;
@@ -10,4 +11,5 @@ mod play;
 mod played_run;
 mod reach;
 
+pub use fate::Fate;
 pub use fates::message_fates;

@@ -1,4 +1,5 @@
--- Written fragments, with and without indices, and what is appended of a run.
+-- Groups of fragments, and the rows of the table of values.
+pub mod GroupLemmas
 pub mod IndexLemmas
-pub mod RunLemmas
+pub mod ValueLemmas
 pub mod WritingLemmas

@@ -3,7 +3,7 @@ use Rattle.std.specs.Prelude.{ℕ, List}
 use Rattle.std.specs.List.{Contains}
 use Rattle.bspl_types.specs.declared.event.Event.{Event}
 use Rattle.bspl_types.specs.declared.expanded.Expanded.{Expanded}
-use Rattle.page_parts.specs.Fragment.{Fragment, Words}
+use Rattle.html.specs.Fragment.{Fragment, Words}
 use Rattle.page_sections.specs.RunSection.{ShowsRun}
 
 -- the section of a run has the whole report on it, as words

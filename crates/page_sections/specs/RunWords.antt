@@ -1,61 +1,41 @@
 -- What a page says of a run that was given.
-use Rattle.std.specs.Prelude.{ℕ, List, [], ◌∷◌, ◌++◌, codes, Option, None, Some}
+use Rattle.std.specs.Prelude.{ℕ, List, [], ◌∷◌, ◌++◌, Option, None, Some}
 use Rattle.bspl_types.specs.declared.expanded.Expanded.{Expanded}
 use Rattle.bspl_types.specs.declared.value.Value.{Value}
+use Rattle.bspl_types.specs.Expansion.{param_name}
 use Rattle.bspl_types.specs.ValueSpelling.{value_spelling}
 use Rattle.enactment_model.specs.declared.bad_event.BadEvent.{BadEvent}
 use Rattle.enactment_model.specs.declared.bad_event.Why.{Why}
 use Rattle.enactment_model.specs.declared.bad_event.Why.TheVariants.{Bound, Missing, Other, Unsent}
 use Rattle.enactment_model.specs.declared.conflicts.Conflict.{Conflict}
-use Rattle.page_parts.specs.Fragment.{Fragment, Number, Tag, Words}
-use Rattle.page_parts.specs.Tables.{param_of}
+use Rattle.html.specs.Fragment.{Fragment, Number, Tag, Words, fitted}
+use Rattle.page_sections.specs.declared.wording.TheConstants.{BOUND, CONFLICT, ILLEGAL, LEGAL}
+use Rattle.page_sections.specs.declared.wording.TheConstants.{MISSING, OTHER, REPORT, SENTENCE_END}
+use Rattle.page_sections.specs.declared.wording.TheConstants.{UNSENT}
 
--- the sender knows a value of the parameter, which is said in these words
+-- the parameter of this name, and the value that the sender knows of it
 abbrev pub kept_words : List ℕ → List ℕ → Value → List Fragment
-kept_words name between kept =
-    Tag (codes "its sender knows <b>") ∷ Words name ∷ Tag between ∷
-    Words (value_spelling kept) ∷ []
-
--- the sender does not know the parameter of this name
-abbrev pub missing_words : List ℕ → List Fragment
-missing_words name =
-    Tag (codes "its sender does not know <b>") ∷ Words name ∷ Tag (codes "</b>") ∷ []
+kept_words template name kept = fitted template (Words name ∷ Words (value_spelling kept) ∷ [])
 
 -- why an event may not follow those before it
 abbrev pub why_words : Expanded → Why → List Fragment
-why_words x (Missing p) = missing_words (param_of x p).name
-why_words x (Bound p kept) = kept_words (param_of x p).name (codes "</b> already, as ") kept
-why_words x (Other p kept) = kept_words (param_of x p).name (codes "</b> with the value ") kept
-why_words x Unsent = Tag (codes "what is received was not sent before") ∷ []
+why_words x (Missing p) = fitted MISSING.now (Words (param_name x p) ∷ [])
+why_words x (Bound p kept) = kept_words BOUND.now (param_name x p) kept
+why_words x (Other p kept) = kept_words OTHER.now (param_name x p) kept
+why_words x Unsent = Tag UNSENT.now ∷ []
 
--- the number of the event
-abbrev pub illegal_start : ℕ → List Fragment
-illegal_start place =
-    Tag (codes "<h2>Run: illegal</h2>\n<p>Event ") ∷ Number place ∷
-    Tag (codes " of the run, with which the chart ends, may not follow those before it: ") ∷ []
-
--- the first bad event of an illegal run, and why it is bad
+-- the position of the first bad event of an illegal run, and why it is bad
 abbrev pub illegal_words : Expanded → BadEvent → List Fragment
-illegal_words x bad = illegal_start bad.place ++ why_words x bad.why ++ Tag (codes ".</p>\n") ∷ []
+illegal_words x bad =
+    fitted ILLEGAL.now (Number bad.place ∷ []) ++ why_words x bad.why ++
+    Tag SENTENCE_END.now ∷ []
 
--- a legal run, of which two events both produce the parameter of this name
-abbrev pub conflict_words : List ℕ → ℕ → ℕ → List Fragment
-conflict_words name first second =
-    Tag (codes "<h2>Run: legal</h2>\n<p>Each event of the run may follow those before it. ") ∷
-    Tag (codes "Events ") ∷ Number first ∷ Tag (codes " and ") ∷ Number second ∷
-    Tag (codes " both produce <b>") ∷ Words name ∷
-    Tag (codes "</b> in one enactment.</p>\n") ∷ []
-
--- a legal run, and whether a parameter is produced twice in it
+-- a legal run: both producers of its conflict, and what they produce, or that there is none
 abbrev pub legal_words : Expanded → Option Conflict → List Fragment
-legal_words x None =
-    Tag (codes "<h2>Run: legal</h2>\n<p>Each event of the run may follow those before it, and ") ∷
-    Tag (codes "none produces what another has produced in the same enactment.</p>\n") ∷ []
-legal_words x (Some found) =
-    conflict_words (param_of x found.param).name found.first found.second
+legal_words x None = Tag LEGAL.now ∷ []
+legal_words x (Some found) = fitted CONFLICT.now
+    (Number found.first ∷ Number found.second ∷ Words (param_name x found.param) ∷ [])
 
 -- the lines of a report
 abbrev pub report_part : List ℕ → List Fragment
-report_part report =
-    Tag (codes "<p>The lines of <code>bspl replay</code>:</p>\n<pre>") ∷ Words report ∷
-    Tag (codes "</pre>\n") ∷ []
+report_part report = fitted REPORT.now (Words report ∷ [])

@@ -1,14 +1,22 @@
-//! Sections of a page: a run that was given, and which messages are dead.
+//! The page of a protocol: the verdicts on it, its dead messages, and a run or a world that is given.
 #![tactic(auto)]
 
-mod fate;
 mod fates;
-mod found;
 mod laws;
+mod page;
+mod played;
 mod run;
-mod words;
+mod run_verdict;
+mod run_words;
+mod verdicts;
+mod wording;
+mod world;
+mod world_counts;
+mod world_values;
 
-pub use fate::Fate;
-pub use fates::push_fates;
 pub use laws::reports_are_shown;
+pub use page::page_text;
+pub use played::push_played;
 pub use run::push_run;
+pub use run_verdict::RunVerdict;
+pub use world::{push_unplayed, push_world};

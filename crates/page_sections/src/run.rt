@@ -1,16 +1,14 @@
 ghost use Rattle.std.specs.Prelude.{◌≡◌, ◌≤◌, ◌++◌, length, OnOk};
 ghost use Rattle.bspl_types.specs.History.{IsRun};
-ghost use Rattle.enactment_model.specs.Legal.{IsLegal};
-ghost use Rattle.page_parts.specs.Fragment.{written};
+ghost use Rattle.html.specs.Fragment.{as_html};
 ghost use Rattle.page_sections.specs.RunSection.{AppendsRun, illegal_section, legal_section};
 
-use super::found::finding_of;
-use super::words::{push_illegal_words, push_legal_words, push_report};
+use super::run_verdict::{RunVerdict, finding_of, verdict_of};
+use super::run_words::{push_illegal_words, push_legal_words, push_report};
 use bspl_types::{Admitted, Event};
 use enactment_model::{Conflict, Why};
 use list_base::{Bytes, NoMemory};
 use run_chart::{Finding, push_chart};
-use run_index::{RunIndex, legal, producers};
 use std::alloc::Global;
 
 /// Appends the section of the run, and in it the lines of a report on it: a legal run as a whole,
@@ -25,30 +23,13 @@ pub fn push_run(
     requires { IsRun a.now run.now }
     ensures { OnOk result (AppendsRun a.now run.now report.now text.old text.new) }
 {
-    let index = RunIndex::of(alloc, run)?;
-    push_along(alloc, text, a, &index, report)
-}
-
-/// Appends the section of the run along its index.
-fn push_along(
-    alloc: Global,
-    text: &mut Bytes,
-    a: &Admitted,
-    index: &RunIndex<'_>,
-    report: &[u8],
-) -> Result<(), NoMemory>
-    requires { IsRun a.now index.now }
-    ensures { OnOk result (AppendsRun a.now index.now report.now text.old text.new) }
-{
-    let answer = legal(alloc, a.expanded(), index)?;
-    let run = index.events();
-    match answer {
-        Ok(()) => push_legal(alloc, text, a, index, report),
-        Err(bad) => push_illegal(alloc, text, a, run, bad.place, bad.why, report),
+    match verdict_of(alloc, a, run)? {
+        RunVerdict::Illegal(bad) => push_illegal(alloc, text, a, run, bad.place, bad.why, report),
+        RunVerdict::Legal(found) => push_legal(alloc, text, a, run, found, report),
     }
 }
 
-/// Appends the section of an illegal run.
+/// Appends the section of an illegal run, which is drawn up to its first bad event.
 fn push_illegal(
     alloc: Global,
     text: &mut Bytes,
@@ -60,7 +41,7 @@ fn push_illegal(
 ) -> Result<(), NoMemory>
     requires fits { IsRun a.now run.now }
     requires within { place ≤ length run.now }
-    ensures { OnOk result (text.new ≡ text.old ++ written
+    ensures { OnOk result (text.new ≡ text.old ++ as_html
         (illegal_section a.now run.now (record { place = place; why = why }) report.now)) }
 {
     let finding = Finding::Bad { event: place };
@@ -69,24 +50,8 @@ fn push_illegal(
     push_report(text, report)
 }
 
-/// Appends the section of a legal run.
-fn push_legal(
-    alloc: Global,
-    text: &mut Bytes,
-    a: &Admitted,
-    index: &RunIndex<'_>,
-    report: &[u8],
-) -> Result<(), NoMemory>
-    requires fits { IsRun a.now index.now }
-    requires legal { IsLegal a.now index.now }
-    ensures { OnOk result (AppendsRun a.now index.now report.now text.old text.new) }
-{
-    let found = producers(alloc, a.expanded(), index)?;
-    push_found(alloc, text, a, index.events(), found, report)
-}
-
 /// Appends the section of a legal run with this conflict, or without one.
-fn push_found(
+fn push_legal(
     alloc: Global,
     text: &mut Bytes,
     a: &Admitted,
@@ -96,7 +61,7 @@ fn push_found(
 ) -> Result<(), NoMemory>
     requires { IsRun a.now run.now }
     ensures { OnOk result (text.new ≡
-        text.old ++ written (legal_section a.now run.now found report.now)) }
+        text.old ++ as_html (legal_section a.now run.now found report.now)) }
 {
     push_legal_words(text, a.expanded(), found)?;
     push_chart(alloc, text, a, run, finding_of(found))?;

@@ -1,5 +1,5 @@
 -- Counts that grow by events.
-use Rattle.std.proofs.Common.{◌≡◌, ◌≢◌, ℕ, ◌+◌, ◌*◌, ◌<◌, ◌≤◌, ◌⊎◌, inl, inr, zero, suc, Option, None, Bool, cond, Some, List, [], ◌∷◌, ◌++◌, length, take, set, refl, sym, ap, ◌∙◌, subst, arith, get_or-set_same, get_or-set_other, map}
+use Rattle.std.proofs.Common.{◌≡◌, ◌≢◌, ℕ, ◌+◌, ◌*◌, ◌<◌, ◌≤◌, ◌⊎◌, inl, inr, zero, suc, Bool, cond, Some, List, [], ◌∷◌, ◌++◌, length, take, set, refl, sym, ap, ◌∙◌, subst, arith, get_or-set_same, get_or-set_other, map}
 use Rattle.std.specs.Prelude.{◌==◌, slice_get}
 use Rattle.std.specs.List.{count_by}
 use Rattle.std.proofs.lemmas.Bool.{cases_eq, cases_lt}
@@ -17,7 +17,8 @@ use Rattle.local_store.specs.State.{StoreState, acts_of}
 use Rattle.stamped_history.specs.declared.entry.Entry.{Entry}
 use Rattle.report.specs.declared.count.Count.{Count}
 use Rattle.report.specs.WorldText.{receives, sends}
-use Rattle.report.specs.inner.Counts.{GrowBy, HaveRoom, count_at, no_count, no_counts}
+use Rattle.report.specs.WorldCounts.{count_of_message, no_count}
+use Rattle.report.specs.inner.Counts.{GrowBy, HaveRoom, no_counts}
 
 -- of one item, one passes or none
 count_one : {X : Type 0} (p : X → Bool) (x : X) → count_by p (x ∷ []) ≡ cond (p x) 1 0
@@ -57,7 +58,7 @@ record Raises (events : List Event) (m : ℕ) (old c : Count) : Type 0 where
   received : c.received ≡ old.received + count_by (receives m) events
 
 -- counts that are raised one by one grow
-raised_grow : (events : List Event) (old new : List Count) → length new ≡ length old → ((m : ℕ) → m < length old → Raises events m (count_at old m) (count_at new m)) → GrowBy events old new
+raised_grow : (events : List Event) (old new : List Count) → length new ≡ length old → ((m : ℕ) → m < length old → Raises events m (count_of_message old m) (count_of_message new m)) → GrowBy events old new
 raised_grow events old new as_many each =
     record {
       as_many = as_many;
@@ -66,12 +67,12 @@ raised_grow events old new as_many each =
     }
 
 -- the count of one message is replaced by a raised one, and the others count no event
-replaced_grow : (events : List Event) (old : List Count) (at : ℕ) (c : Count) → at < length old → Raises events at (count_at old at) c → ((m : ℕ) → m ≢ at → Raises events m (count_at old m) (count_at old m)) → GrowBy events old (set old at c)
+replaced_grow : (events : List Event) (old : List Count) (at : ℕ) (c : Count) → at < length old → Raises events at (count_of_message old at) c → ((m : ℕ) → m ≢ at → Raises events m (count_of_message old m) (count_of_message old m)) → GrowBy events old (set old at c)
 replaced_grow events old at c inside raises others = raised_grow events old (set old at c) (length-set old at c) (λ m within. elim (cases_eq m at) [
   | inl same ↦
-      subst (λ (k : ℕ). Raises events k (count_at old k) (count_at (set old at c) k)) (sym same)
-      (subst (Raises events at (count_at old at)) (sym (get_or-set_same old at c no_count inside)) raises)
-  | inr differs ↦ subst (Raises events m (count_at old m)) (sym (get_or-set_other old at m c no_count differs)) (others m differs)
+      subst (λ (k : ℕ). Raises events k (count_of_message old k) (count_of_message (set old at c) k)) (sym same)
+      (subst (Raises events at (count_of_message old at)) (sym (get_or-set_same old at c no_count inside)) raises)
+  | inr differs ↦ subst (Raises events m (count_of_message old m)) (sym (get_or-set_other old at m c no_count differs)) (others m differs)
 ])
 
 -- an emission raises no count of another message
@@ -83,26 +84,26 @@ receive_elsewhere : (i : Instance) (m : ℕ) (old : Count) → m ≢ i.message �
 receive_elsewhere i m old differs = record { sent = omega (arith, count_one (sends m) (Receive i)); received = omega (arith, received_none i m differs) }
 
 -- one emission more is counted
-pub emission_grows : (i : Instance) (old : List Count) (c : Count) → i.message < length old → c.sent ≡ (count_at old i.message).sent + 1 → c.received ≡ (count_at old i.message).received → GrowBy (Emit i ∷ []) old (set old i.message c)
+pub emission_grows : (i : Instance) (old : List Count) (c : Count) → i.message < length old → c.sent ≡ (count_of_message old i.message).sent + 1 → c.received ≡ (count_of_message old i.message).received → GrowBy (Emit i ∷ []) old (set old i.message c)
 emission_grows i old c inside sent received =
     replaced_grow (Emit i ∷ []) old i.message c inside
     (record { sent = omega (arith, sent, sent_one i i.message refl); received = omega (arith, received, count_one (receives i.message) (Emit i)) })
-    (λ m differs. emit_elsewhere i m (count_at old m) differs)
+    (λ m differs. emit_elsewhere i m (count_of_message old m) differs)
 
 -- one receipt more is counted
-pub receipt_grows : (i : Instance) (old : List Count) (c : Count) → i.message < length old → c.sent ≡ (count_at old i.message).sent → c.received ≡ (count_at old i.message).received + 1 → GrowBy (Receive i ∷ []) old (set old i.message c)
+pub receipt_grows : (i : Instance) (old : List Count) (c : Count) → i.message < length old → c.sent ≡ (count_of_message old i.message).sent → c.received ≡ (count_of_message old i.message).received + 1 → GrowBy (Receive i ∷ []) old (set old i.message c)
 receipt_grows i old c inside sent received =
     replaced_grow (Receive i ∷ []) old i.message c inside
     (record { sent = omega (arith, sent, count_one (sends i.message) (Receive i)); received = omega (arith, received, received_one i i.message refl) })
-    (λ m differs. receive_elsewhere i m (count_at old m) differs)
+    (λ m differs. receive_elsewhere i m (count_of_message old m) differs)
 
 -- an emission of a message past the last count is none of theirs
 pub emission_past : (i : Instance) (old : List Count) → length old ≤ i.message → GrowBy (Emit i ∷ []) old old
-emission_past i old past = raised_grow (Emit i ∷ []) old old refl (λ m within. emit_elsewhere i m (count_at old m) (λ same. omega (arith, same, within, past)))
+emission_past i old past = raised_grow (Emit i ∷ []) old old refl (λ m within. emit_elsewhere i m (count_of_message old m) (λ same. omega (arith, same, within, past)))
 
 -- nor is such a receipt
 pub receipt_past : (i : Instance) (old : List Count) → length old ≤ i.message → GrowBy (Receive i ∷ []) old old
-receipt_past i old past = raised_grow (Receive i ∷ []) old old refl (λ m within. receive_elsewhere i m (count_at old m) (λ same. omega (arith, same, within, past)))
+receipt_past i old past = raised_grow (Receive i ∷ []) old old refl (λ m within. receive_elsewhere i m (count_of_message old m) (λ same. omega (arith, same, within, past)))
 
 -- no event leaves the counts as they are
 pub none_grow : (old : List Count) → GrowBy [] old old
@@ -133,7 +134,7 @@ room_for_one events old new room grown few =
     }
 
 -- nothing is counted at first
-pub nothing_counted : (m : ℕ) → count_at no_counts m ≡ no_count
+pub nothing_counted : (m : ℕ) → count_of_message no_counts m ≡ no_count
 nothing_counted m = elim (cases_lt m message_limit) [
   | inl within ↦ get_or-replicate message_limit m no_count no_count within
   | inr past ↦ get_or_past no_counts m no_count (omega (arith, past, length-replicate message_limit no_count))

@@ -1,5 +1,5 @@
 -- The lines of the messages of a world.
-use Rattle.std.proofs.Common.{◌≡◌, ℕ, ◌+◌, ◌<◌, ◌≤◌, List, [], ◌∷◌, ◌++◌, codes, length, map, take, get_or, refl, sym, ap, ◌∙◌, arith}
+use Rattle.std.proofs.Common.{◌≡◌, ℕ, ◌+◌, ◌<◌, ◌≤◌, List, [], ◌∷◌, ◌++◌, codes, length, map, take, get_or, refl, sym, ap, ◌∙◌, arith, zero-add}
 use Rattle.std.specs.List.{concat, count_by, enumerate_from}
 use Rattle.std.proofs.lemmas.List.{append_assoc, append-nil, get_or-replicate, length-replicate, length-take, map-append, take_all, take_more}
 use Rattle.bspl_types.specs.declared.event.Event.{Event}
@@ -13,7 +13,8 @@ use Rattle.run_text.specs.inner.LineFields.{spaced_fields}
 use Rattle.world_run.specs.World.{HasHistories}
 use Rattle.report.specs.declared.count.Count.{Count}
 use Rattle.report.specs.WorldText.{message_line, message_lines, receives, sends}
-use Rattle.report.specs.inner.Counts.{GrowBy, acts_of_all, count_at, counted_line, counted_lines, no_count, no_counts}
+use Rattle.report.specs.WorldCounts.{AreMessageCounts, count_of_message, no_count}
+use Rattle.report.specs.inner.Counts.{GrowBy, acts_of_all, counted_line, counted_lines, no_counts}
 use Rattle.report.proofs.LineLemmas.{line_spaced, lines_push}
 use Rattle.report.proofs.RoleCounts.{run_counts}
 use Rattle.report.proofs.RowLemmas.{enumerate_push}
@@ -33,9 +34,9 @@ message_written before name sent received =
     ∙ line_spaced before (codes "message") (name ∷ codes "sent" ∷ sent ∷ codes "received" ∷ received ∷ [])
 
 -- the line of one message more
-pub message_more : (x : Expanded) (counts : List Count) (m : ℕ) (before : List ℕ) → m < length x.messages → (before ++ counted_lines x counts m) ++ counted_line x m (count_at counts m) ≡ before ++ counted_lines x counts (m + 1)
+pub message_more : (x : Expanded) (counts : List Count) (m : ℕ) (before : List ℕ) → m < length x.messages → (before ++ counted_lines x counts m) ++ counted_line x m (count_of_message counts m) ≡ before ++ counted_lines x counts (m + 1)
 message_more x counts m before within =
-    let line : ℕ → List ℕ = λ k. counted_line x k (count_at counts k) in
+    let line : ℕ → List ℕ = λ k. counted_line x k (count_of_message counts k) in
     let front = enumerate_from 0 (take m x.messages) in
     let last : Message = get_or x.messages m no_message in
     let count : 0 + length (take m x.messages) ≡ m = omega (arith, length-take m x.messages, within) in
@@ -55,25 +56,25 @@ same_lines f g n (_ ∷ ms) same =
     ap (λ (line : List ℕ). line ∷ map (λ (m, _). f m) (enumerate_from (n + 1) ms)) first
     ∙ ap (λ (ls : List (List ℕ)). g n ∷ ls) rest
 
--- a line with the counts of the run
-line_same : (x : Expanded) (run : List Event) (m : ℕ) (c : Count) → c.sent ≡ count_by (sends m) run → c.received ≡ count_by (receives m) run → counted_line x m c ≡ message_line x run m
-line_same x run m c sent received =
-    ap (λ (n : ℕ). counted_line x m (record { sent = n; received = c.received })) sent
-    ∙ ap (λ (n : ℕ). counted_line x m (record { sent = count_by (sends m) run; received = n })) received
+-- what was counted from nothing over all desks is what the run has
+pub counts_of_run : (x : Expanded) (desks : List DeskState) (run : List Event) (counts : List Count) → GrowBy (acts_of_all desks) no_counts counts → HasHistories x desks run → AreMessageCounts run counts
+counts_of_run x desks run counts grown has =
+    let all : length no_counts ≡ message_limit = length-replicate message_limit no_count in
+    record {
+      as_many = grown.as_many ∙ all;
+      each = λ m inside.
+          let inside_none : m < length no_counts = omega (arith, inside, all) in
+          let none : count_of_message no_counts m ≡ no_count = get_or-replicate message_limit m no_count no_count inside in
+          let sent : (count_of_message counts m).sent ≡ count_by (sends m) run = grown.sent m inside_none ∙ ap (λ (c : Count). c.sent + count_by (sends m) (acts_of_all desks)) none ∙ zero-add _ ∙ run_counts (sends m) x desks run has in
+          let received : (count_of_message counts m).received ≡ count_by (receives m) run = grown.received m inside_none ∙ ap (λ (c : Count). c.received + count_by (receives m) (acts_of_all desks)) none ∙ zero-add _ ∙ run_counts (receives m) x desks run has in
+          λ i. record { sent = sent i; received = received i };
+    }
 
--- what was counted from nothing over all desks gives the lines of the run
-pub lines_of_run : (x : Expanded) (desks : List DeskState) (run : List Event) (counts : List Count) → length x.messages ≤ message_limit → GrowBy (acts_of_all desks) no_counts counts → HasHistories x desks run → counted_lines x counts (length x.messages) ≡ message_lines x run
-lines_of_run x desks run counts few grown has =
-    let line : ℕ → List ℕ = λ m. counted_line x m (count_at counts m) in
+-- counts of the run give its lines
+pub lines_of_run : (x : Expanded) (run : List Event) (counts : List Count) → length x.messages ≤ message_limit → AreMessageCounts run counts → counted_lines x counts (length x.messages) ≡ message_lines x run
+lines_of_run x run counts few are =
+    let line : ℕ → List ℕ = λ m. counted_line x m (count_of_message counts m) in
     let all = take_all (length x.messages) x.messages (omega arith) in
-    let each = same_lines line (message_line x run) 0 x.messages (λ m within.
-    let inside : m < message_limit = omega (arith, within, few) in
-    let inside_none : m < length no_counts = omega (arith, inside, length-replicate message_limit no_count) in
-    let none : count_at no_counts m ≡ no_count = get_or-replicate message_limit m no_count no_count inside in
-    let sent = grown.sent m inside_none ∙ ap (λ (c : Count). c.sent + count_by (sends m) (acts_of_all desks)) none in
-    let received = grown.received m inside_none ∙ ap (λ (c : Count). c.received + count_by (receives m) (acts_of_all desks)) none in
-    line_same x run m (count_at counts m)
-    (omega (arith, sent, run_counts (sends m) x desks run has))
-    (omega (arith, received, run_counts (receives m) x desks run has))) in
+    let each = same_lines line (message_line x run) 0 x.messages (λ m within. ap (counted_line x m) (are.each m (omega (arith, within, few)))) in
     ap (λ (ms : List Message). concat (map (λ (m, _). line m) (enumerate_from 0 ms))) all
     ∙ ap concat each

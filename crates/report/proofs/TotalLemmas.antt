@@ -1,8 +1,7 @@
 -- Counts of all events, and of known parameters, that grow one at a time.
-use Rattle.std.proofs.Common.{◌≡◌, ℕ, ◌+◌, ◌*◌, ◌-◌, ◌<◌, ◌≤◌, inl, inr, Bool, true, false, cond, Option, Some, List, [], ◌∷◌, ◌++◌, length, take, refl, sym, ◌∙◌, subst, arith}
+use Rattle.std.proofs.Common.{◌≡◌, ℕ, ◌+◌, ◌*◌, ◌-◌, ◌<◌, ◌≤◌, Bool, true, false, cond, Option, Some, List, [], ◌∷◌, ◌++◌, length, take, refl, sym, subst, arith}
 use Rattle.std.specs.Prelude.{is_some, slice_get}
 use Rattle.std.specs.Int.{from_bool}
-use Rattle.std.proofs.lemmas.List.{length-append}
 use Rattle.std.proofs.lemmas.List.Sums.{count_by-le-length, sum_by_push}
 use Rattle.std.proofs.lemmas.Option.{get_or_from_slice_get, slice_get_within}
 use Rattle.list_base.proofs.Zipped.{paired_push}
@@ -12,10 +11,10 @@ use Rattle.bspl_types.specs.declared.value.Value.{Value}
 use Rattle.stamped_history.specs.TableValue.{IsTableValue}
 use Rattle.report.specs.declared.count.Count.{Count}
 use Rattle.report.specs.Summary.{KnowsAsMany, is_emission, is_reception}
-use Rattle.report.specs.inner.Counts.{no_count}
+use Rattle.report.specs.WorldCounts.{no_count}
 use Rattle.report.specs.inner.Totals.{GrowsBy, HasRoom, KnowsFirst, KnowsUnder}
 use Rattle.report.proofs.CountLemmas.{count_append}
-use Rattle.report.proofs.RowLemmas.{push_cases}
+use Rattle.report.proofs.RowLemmas.{cells_none, cells_push}
 
 -- no event leaves the count as it is
 pub grows_none : (c : Count) → GrowsBy [] c c
@@ -47,7 +46,7 @@ room_for_desk events total roles grown few low =
 
 -- no parameter is counted yet
 pub knows_none : (x : Expanded) (run : List Event) (key : List Value) → KnowsFirst x run key 0 0
-knows_none x run key = record { cells = []; count = refl; each = λ p cell at. absurd (cc); many = omega arith }
+knows_none x run key = record { cells = []; are = cells_none x run key; many = omega arith }
 
 -- a number for a test is 1 or 0
 pub test_counts : (b : Bool) → from_bool b ≡ cond b 1 0
@@ -64,17 +63,13 @@ pub knows_push : (x : Expanded) (run : List Event) (key : List Value) (params n 
 knows_push x run key params n cell old is =
     record {
       cells = old.cells ++ cell ∷ [];
-      count = omega (arith, length-append old.cells (cell ∷ []), old.count);
-      each = λ p other at. elim (push_cases old.cells cell p other at) [
-        | inl early ↦ old.each p other early
-        | inr last ↦ subst (λ (c : Option Value). IsTableValue x run key p c) (sym last.1) (subst (λ (q : ℕ). IsTableValue x run key q cell) (sym (last.0 ∙ old.count)) is)
-      ];
+      are = cells_push x run key params old.cells (old.cells ++ cell ∷ []) cell old.are is refl;
       many = omega (arith, old.many, count_append is_some old.cells (cell ∷ []));
     }
 
 -- all parameters
 pub knows_all : (x : Expanded) (run : List Event) (key : List Value) (n : ℕ) → KnowsFirst x run key (length x.params) n → KnowsAsMany x run key n
-knows_all x run key n first = (first.cells, record { count = first.count; each = first.each }, first.many)
+knows_all x run key n first = (first.cells, first.are, first.many)
 
 -- no key is counted yet
 pub under_none : (x : Expanded) (run : List Event) → KnowsUnder x run [] 0

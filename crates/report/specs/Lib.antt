@@ -6,6 +6,8 @@ pub mod ReplayText
 pub mod VerdictText
 pub mod ExitStatus
 pub mod WorldText
+pub mod WorldCounts
+pub mod WorldRows
 pub mod Summary
 pub mod AuditText
 pub mod Laws

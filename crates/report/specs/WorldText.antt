@@ -39,12 +39,16 @@ abbrev pub message_lines : Expanded → List Event → List ℕ
 message_lines x run =
     concat (map (λ (m, _). message_line x run m) (enumerate_from 0 x.messages))
 
--- what the roles know of each parameter under the key, in the order of the parameters
-pub record AreCells (x : Expanded) (run : List Event) (key : List Value)
+-- what the roles know of the first parameters under the key, in the order of the parameters
+pub record AreFirstCells (x : Expanded) (run : List Event) (key : List Value) (params : ℕ)
     (cells : List (Option Value)) : Type 0 where
-  pub count : length cells ≡ length x.params
+  pub count : length cells ≡ params
   pub each : (p : ℕ) (cell : Option Value) → slice_get cells p ≡ Some cell →
       IsTableValue x run key p cell
+
+-- what they know of all parameters
+abbrev pub AreCells : Expanded → List Event → List Value → List (Option Value) → Type 0
+AreCells x run key cells = AreFirstCells x run key (length x.params) cells
 
 -- the field of a parameter and its value, or of one that no role knows
 abbrev pub cell_field : Expanded → ℕ × Option Value → List ℕ
@@ -55,6 +59,10 @@ cell_field x (p, Some v) = param_name x p ++ codes "=" ++ value_spelling v
 abbrev pub row_line : Expanded → ℕ → List (Option Value) → List ℕ
 row_line x n cells = line_of
     (codes "row" ∷ decimal n ∷ map (cell_field x) (enumerate_from 0 cells))
+
+-- that of a row
+abbrev pub row_form : Expanded → ℕ × List (Option Value) → List ℕ
+row_form x (n, cells) = row_line x n cells
 
 -- the line says what the roles know under the key of that number
 abbrev pub IsRowLine : Expanded → List Event → ℕ × List Value → List ℕ → Type 0

@@ -2,4 +2,3 @@
 pub mod KeyLines
 pub mod Counts
 pub mod Totals
-pub mod WorldRows

@@ -1,8 +1,8 @@
 /// How often a message was sent and received.
 #[derive(Clone, Copy)]
-pub(crate) struct Count {
+pub struct Count {
     /// Its emissions.
-    pub(crate) sent: usize,
-    /// Its receipts.
-    pub(crate) received: usize,
+    pub sent: usize,
+    /// Its receptions.
+    pub received: usize,
 }

@@ -33,7 +33,14 @@ pub(crate) fn push_count(text: &mut Bytes, count: usize) -> Result<(), NoMemory>
 pub(crate) fn param_name(x: &Expanded, param: u32) -> &[u8]
     ensures { result.now ≡ param_name x.now param }
 {
-    match x.params.as_slice().get(param as usize) {
+    param_name_at(x, param as usize)
+}
+
+/// The name of the parameter at this index. Past the last one there is no name.
+pub(crate) fn param_name_at(x: &Expanded, index: usize) -> &[u8]
+    ensures { result.now ≡ param_name x.now index }
+{
+    match x.params.as_slice().get(index) {
         Some(info) => info.name.as_slice(),
         None => b"",
     }

@@ -6,7 +6,8 @@ ghost use Rattle.world_run.specs.World.{AreDesksOf, HasHistories, histories_of};
 ghost use Rattle.report.specs.WorldText.{IsWorldText, world_line};
 
 use super::fields::push_count;
-use super::world_counts::count_events;
+use super::row_lines::RowLines;
+use super::world_counts::message_counts;
 use super::world_messages::push_messages;
 use super::world_rows::push_rows;
 use agent_scripts::Script;
@@ -30,11 +31,11 @@ pub fn world_text(
         HasHistories a.now world.now.desks run → IsWorldText a.now script.now run text) }
 {
     let x = a.expanded();
-    let counts = count_events(x, world);
+    let counts = message_counts(x, world);
     let mut text = Bytes::new(alloc);
     push_world(&mut text, script)?;
     push_messages(&mut text, x, &counts)?;
-    push_rows(&mut text, x, script, world)?;
+    push_rows(alloc, &mut text, x, script, world, &RowLines { x })?;
     text.append(b"end\n")?;
     Ok(text)
 }

@@ -1,9 +1,10 @@
-ghost use Rattle.std.specs.Prelude.{◌≡◌, ◌∷◌, [], ◌≤◌, length};
+ghost use Rattle.std.specs.Prelude.{◌≡◌, ◌∷◌, [], ◌≤◌, List, length};
 ghost use Rattle.bspl_types.specs.declared.event.Event.{Event};
 ghost use Rattle.local_store.specs.Outline.{outline_of};
 ghost use Rattle.local_store.specs.State.{acts_of};
-ghost use Rattle.world_run.specs.World.{AreDesksOf};
-ghost use Rattle.report.specs.inner.Counts.{GrowBy, HaveRoom, acts_of_all, no_counts};
+ghost use Rattle.world_run.specs.World.{AreDesksOf, HasHistories};
+ghost use Rattle.report.specs.WorldCounts.{AreMessageCounts};
+ghost use Rattle.report.specs.inner.Counts.{GrowBy, HaveRoom};
 
 use super::count::Count;
 use bspl_types::{Expanded, MESSAGE_LIMIT};
@@ -11,9 +12,10 @@ use local_store::{Kind, Store};
 use world_run::World;
 
 /// How often each message was sent and received over all stores, by the messages' indices.
-pub(crate) fn count_events(x: &Expanded, world: &World) -> [Count; MESSAGE_LIMIT]
+pub fn message_counts(x: &Expanded, world: &World) -> [Count; MESSAGE_LIMIT]
     requires { AreDesksOf x.now world.now.desks }
-    ensures { GrowBy (acts_of_all world.now.desks) no_counts result }
+    ensures { (run : List Event) → HasHistories x.now world.now.desks run →
+        AreMessageCounts run result }
 {
     let none = Count {
         sent: 0,

@@ -3,7 +3,8 @@ ghost use Rattle.bspl_types.specs.declared.event.Event.{Event};
 ghost use Rattle.local_store.specs.Outline.{outline_of};
 ghost use Rattle.local_store.specs.State.{acts_of};
 ghost use Rattle.world_run.specs.World.{AreDesksOf};
-ghost use Rattle.report.specs.inner.Counts.{acts_of_all, no_count};
+ghost use Rattle.report.specs.WorldCounts.{no_count};
+ghost use Rattle.report.specs.inner.Counts.{acts_of_all};
 ghost use Rattle.report.specs.inner.Totals.{GrowsBy, HasRoom};
 
 use super::count::Count;

@@ -16,7 +16,7 @@ use Rattle.bspl_types.specs.declared.expanded.Expanded.{Expanded}
 use Rattle.bspl_types.specs.Expansion.{message_of}
 use Rattle.bspl_types.specs.History.{role_of}
 use Rattle.run_chart.specs.Laws.{HasArrow}
-use Rattle.run_chart.specs.Strokes.{Arrow, Mark, arrow_from, emits, strokes_at}
+use Rattle.run_chart.specs.Strokes.{Arrow, Mark, arrow_from, is_emission_of, strokes_at}
 use Rattle.run_chart.proofs.ShownLemmas.{is_same}
 
 -- a member of one of the lists that are joined
@@ -54,7 +54,7 @@ found_before p xs n x passes (k, within, is) =
 pub reception_arrow : (x : Expanded) (run : List Event) (received : ℕ) (i : Instance) → Contains (take received run) (Emit i) → slice_get run received ≡ Some (Receive i) → HasArrow x run received i
 reception_arrow x run received i emitted at =
     let m = message_of x i.message in
-    let found = found_before (emits i) run received (Emit i) (is_same i) emitted in
+    let found = found_before (is_emission_of i) run received (Emit i) (is_same i) emitted in
     let arrow = Arrow found.0 m.sender received m.receiver in
     let first = here arrow (Mark received (role_of x (Receive i)) (Receive i) ∷ []) in
     let drawn = subst (λ (o : Option ℕ). Contains (arrow_from m received o ++ Mark received (role_of x (Receive i)) (Receive i) ∷ []) arrow) (sym found.1) first in

@@ -1,5 +1,5 @@
 -- The values of pairs, and what one event makes known.
-use Rattle.std.proofs.Common.{◌≡◌, ◌==◌, ℕ, Bool, true, false, List, [], ◌∷◌, ◌++◌, Option, None, Some, refl, sym, ap, inl, inr, ◌⊎◌, subst}
+use Rattle.std.proofs.Common.{◌≡◌, ◌==◌, ℕ, true, false, List, [], ◌∷◌, ◌++◌, Option, None, Some, refl, sym, ap, inl, inr, ◌⊎◌, subst}
 use Rattle.std.specs.Prelude.{cond, MatchOption}
 use Rattle.std.specs.List.{Contains}
 use Rattle.std.proofs.lemmas.Bool.{both_ways, cond_both, eq-eqb}
@@ -18,39 +18,39 @@ use Rattle.bspl_types.specs.Instance.{pairs}
 use Rattle.bspl_types.specs.Knowledge.{IsKnown, Knows}
 use Rattle.bspl_types.specs.Value.{equal_values}
 use Rattle.role_knowledge.specs.FirstKnown.{IsFirstKnown}
-use Rattle.run_chart.specs.Knowledge.{value_in}
+use Rattle.role_knowledge.specs.inner.FirstValue.{first_value}
 
 -- without a value in the first pairs, the others have it
-pub value_after : (a b : List (Carried × Value)) (p : ℕ) → value_in a p ≡ None → value_in (a ++ b) p ≡ value_in b p
+pub value_after : (a b : List (Carried × Value)) (p : ℕ) → first_value a p ≡ None → first_value (a ++ b) p ≡ first_value b p
 value_after [] b p none = refl
 value_after (pair ∷ a) b p none =
-    (elim (pair.0.param == p) as (λ t. cond t (Some pair.1) (value_in a p) ≡ None → cond t (Some pair.1) (value_in (a ++ b) p) ≡ value_in b p) [
+    (elim (pair.0.param == p) as (λ t. cond t (Some pair.1) (first_value a p) ≡ None → cond t (Some pair.1) (first_value (a ++ b) p) ≡ first_value b p) [
       | true ↦ λ is. absurd (none-some pair.1 (sym is))
       | false ↦ λ is. value_after a b p is
     ]) none
 
 -- the value of the first pairs is that of all
-pub value_before_others : (a b : List (Carried × Value)) (p : ℕ) (v : Value) → value_in a p ≡ Some v → value_in (a ++ b) p ≡ Some v
+pub value_before_others : (a b : List (Carried × Value)) (p : ℕ) (v : Value) → first_value a p ≡ Some v → first_value (a ++ b) p ≡ Some v
 value_before_others [] b p v some = absurd (none-some v some)
 value_before_others (pair ∷ a) b p v some =
-    (elim (pair.0.param == p) as (λ t. cond t (Some pair.1) (value_in a p) ≡ Some v → cond t (Some pair.1) (value_in (a ++ b) p) ≡ Some v) [
+    (elim (pair.0.param == p) as (λ t. cond t (Some pair.1) (first_value a p) ≡ Some v → cond t (Some pair.1) (first_value (a ++ b) p) ≡ Some v) [
       | true ↦ λ is. is
       | false ↦ λ is. value_before_others a b p v is
     ]) some
 
 -- a value is that of a pair for the parameter
-value_found : (ps : List (Carried × Value)) (p : ℕ) (v : Value) → value_in ps p ≡ Some v → (a : Adornment) × Contains ps (record { param = p; adornment = a }, v)
+value_found : (ps : List (Carried × Value)) (p : ℕ) (v : Value) → first_value ps p ≡ Some v → (a : Adornment) × Contains ps (record { param = p; adornment = a }, v)
 value_found [] p v = λ found. absurd (none-some v found)
 value_found (pair ∷ ps) p v =
-    cond_both (pair.0.param == p) (Some pair.1) (value_in ps p) (λ o. o ≡ Some v → (a : Adornment) × Contains (pair ∷ ps) (record { param = p; adornment = a }, v))
+    cond_both (pair.0.param == p) (Some pair.1) (first_value ps p) (λ o. o ≡ Some v → (a : Adornment) × Contains (pair ∷ ps) (record { param = p; adornment = a }, v))
     (λ same found. (pair.0.adornment, here_same pair ps (record { param = p; adornment = pair.0.adornment }, v) (λ i. (record { param = (Decides-eqb pair.0.param p).0 same i; adornment = pair.0.adornment }, same_Some pair.1 v found i))))
     (λ _ found. let rest = value_found ps p v found in (rest.0, there pair ps _ rest.1))
 
 -- without a value no pair is for the parameter
-value_missing : (ps : List (Carried × Value)) (p : ℕ) → value_in ps p ≡ None → (a : Adornment) (v : Value) → ¬ Contains ps (record { param = p; adornment = a }, v)
+value_missing : (ps : List (Carried × Value)) (p : ℕ) → first_value ps p ≡ None → (a : Adornment) (v : Value) → ¬ Contains ps (record { param = p; adornment = a }, v)
 value_missing [] p = λ none a v among. nowhere _ among
 value_missing (pair ∷ ps) p =
-    cond_both (pair.0.param == p) (Some pair.1) (value_in ps p) (λ o. o ≡ None → (a : Adornment) (v : Value) → ¬ Contains (pair ∷ ps) (record { param = p; adornment = a }, v))
+    cond_both (pair.0.param == p) (Some pair.1) (first_value ps p) (λ o. o ≡ None → (a : Adornment) (v : Value) → ¬ Contains (pair ∷ ps) (record { param = p; adornment = a }, v))
     (λ _ none. absurd (none-some pair.1 (sym none)))
     (λ other none a v among. elim (cons_cases pair ps (record { param = p; adornment = a }, v) among) [
       | inl is ↦ both_ways (pair.0.param == p) other (eq-eqb pair.0.param p (ap (λ q. q.0.param) is))
@@ -76,13 +76,13 @@ unknown_by_key x e key p other (v, knows) =
     both_ways (equal_values (instance_of e).key key) other ((equal_values_decides (instance_of e).key key).1 under)
 
 -- nor does one without a value of the parameter
-pub unknown_by_pairs : (x : Expanded) (e : Event) (key : List Value) (p : ℕ) → value_in (pairs x (instance_of e)) p ≡ None → ¬ IsKnown x (e ∷ []) key p
+pub unknown_by_pairs : (x : Expanded) (e : Event) (key : List Value) (p : ℕ) → first_value (pairs x (instance_of e)) p ≡ None → ¬ IsKnown x (e ∷ []) key p
 unknown_by_pairs x e key p none (v, knows) =
     let carried = λ (f : Event). Contains (pairs x (instance_of f)) (record { param = p; adornment = knows.adornment }, v) in
     value_missing (pairs x (instance_of e)) p none knows.adornment v (subst carried (sym (only e knows.event knows.among)) knows.carries)
 
 -- an act under the key makes its value known
-pub known_by_act : (x : Expanded) (e : Event) (key : List Value) (p : ℕ) (v : Value) → equal_values (instance_of e).key key ≡ true → value_in (pairs x (instance_of e)) p ≡ Some v → Knows x (e ∷ []) key p v
+pub known_by_act : (x : Expanded) (e : Event) (key : List Value) (p : ℕ) (v : Value) → equal_values (instance_of e).key key ≡ true → first_value (pairs x (instance_of e)) p ≡ Some v → Knows x (e ∷ []) key p v
 known_by_act x e key p v under found =
     let pair = value_found (pairs x (instance_of e)) p v found in
     record { event = e; among = here e []; under = (equal_values_decides (instance_of e).key key).0 under; adornment = pair.0; carries = pair.1 }

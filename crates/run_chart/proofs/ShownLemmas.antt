@@ -16,15 +16,15 @@ use Rattle.bspl_types.specs.Equality.{equal_values_decides}
 use Rattle.bspl_types.specs.Expansion.{message_of}
 use Rattle.bspl_types.specs.History.{role_of}
 use Rattle.bspl_types.specs.Value.{equal_values}
-use Rattle.run_chart.specs.Laws.{IsMissing, JoinsInstance, marked}
-use Rattle.run_chart.specs.Strokes.{Arrow, Mark, Stub, arrow_from, emits, receives, same_instance, strokes, strokes_at, stub_from}
+use Rattle.run_chart.specs.Laws.{StubIsMissing, JoinsInstance, marked}
+use Rattle.run_chart.specs.Strokes.{Arrow, Mark, Stub, arrow_from, is_emission_of, is_reception_of, same_instance, strokes, strokes_at, stub_from}
 
 -- an event has one mark
 marks_at : (x : Expanded) (run : List Event) (event : ℕ × Event) → filter_map marked (strokes_at x run event) ≡ event ∷ []
 marks_at x run (k, Emit i) =
-    elim (list_any (receives i) run) as (λ b. filter_map marked (stub_from (message_of x i.message) k b ++ Mark k (role_of x (Emit i)) (Emit i) ∷ []) ≡ (k, Emit i) ∷ []) [ true ↦ refl | false ↦ refl ]
+    elim (list_any (is_reception_of i) run) as (λ b. filter_map marked (stub_from (message_of x i.message) k b ++ Mark k (role_of x (Emit i)) (Emit i) ∷ []) ≡ (k, Emit i) ∷ []) [ true ↦ refl | false ↦ refl ]
 marks_at x run (k, Receive i) =
-    elim (position (emits i) run) as (λ o. filter_map marked (arrow_from (message_of x i.message) k o ++ Mark k (role_of x (Receive i)) (Receive i) ∷ []) ≡ (k, Receive i) ∷ []) [ None ↦ refl | Some sent ↦ refl ]
+    elim (position (is_emission_of i) run) as (λ o. filter_map marked (arrow_from (message_of x i.message) k o ++ Mark k (role_of x (Receive i)) (Receive i) ∷ []) ≡ (k, Receive i) ∷ []) [ None ↦ refl | Some sent ↦ refl ]
 
 -- and so have all
 pub marks_each : (x : Expanded) (run : List Event) (events : List (ℕ × Event)) → filter_map marked (flat_map (strokes_at x run) events) ≡ events
@@ -79,14 +79,14 @@ pub is_same : (i : Instance) → same_instance i i ≡ true
 is_same i = rw ((Decides-eqb i.message i.message).1 refl, (equal_values_decides i.key i.key).1 refl, (equal_values_decides i.values i.values).1 refl) refl
 
 -- what passes as an emission of the instance is that
-emits_is : (i : Instance) (e : Event) → emits i e ≡ true → e ≡ Emit i
+emits_is : (i : Instance) (e : Event) → is_emission_of i e ≡ true → e ≡ Emit i
 emits_is i (Emit j) same = ap Emit (same_is j i same)
 emits_is i (Receive j) same = absurd (false≢true same)
 
 -- the first emission of an instance
-emitted_at : (run : List Event) (i : Instance) (sent : ℕ) → position (emits i) run ≡ Some sent → slice_get run sent ≡ Some (Emit i)
+emitted_at : (run : List Event) (i : Instance) (sent : ℕ) → position (is_emission_of i) run ≡ Some sent → slice_get run sent ≡ Some (Emit i)
 emitted_at run i sent is =
-    let found = position-Some (emits i) run sent (Emit i) is in
+    let found = position-Some (is_emission_of i) run sent (Emit i) is in
     slice_get-get_or run sent (Emit i) found.0 ∙ ap Some (emits_is i _ found.1)
 
 -- a member that passes makes a test of all true
@@ -112,7 +112,7 @@ arrow_of x run k (Emit i) sent sender received receiver at among =
       | true ↦ λ there. nowhere arrow there
       | false ↦ λ there. let is = only (Stub k (message_of x i.message).sender (message_of x i.message).receiver) arrow there in cc
     ] in
-    elim (Contains-append_cases (stub (list_any (receives i) run)) (mark ∷ []) arrow among) [
+    elim (Contains-append_cases (stub (list_any (is_reception_of i) run)) (mark ∷ []) arrow among) [
       | inl there ↦ absurd (none _ there)
       | inr there ↦ let is = only mark arrow there in absurd (cc)
     ]
@@ -120,8 +120,8 @@ arrow_of x run k (Receive i) sent sender received receiver at among =
     let arrow = Arrow sent sender received receiver in
     let m = message_of x i.message in
     let mark = Mark k (role_of x (Receive i)) (Receive i) in
-    elim (Contains-append_cases (arrow_from m k (position (emits i) run)) (mark ∷ []) arrow among) [
-      | inl there ↦ (elim (position (emits i) run) as (λ o. position (emits i) run ≡ o → Contains (arrow_from m k o) arrow → JoinsInstance x run sent sender received receiver) [
+    elim (Contains-append_cases (arrow_from m k (position (is_emission_of i) run)) (mark ∷ []) arrow among) [
+      | inl there ↦ (elim (position (is_emission_of i) run) as (λ o. position (is_emission_of i) run ≡ o → Contains (arrow_from m k o) arrow → JoinsInstance x run sent sender received receiver) [
         | None ↦ λ first none. absurd (nowhere arrow none)
         | Some index ↦ λ first one.
             let is = only (Arrow index m.sender k m.receiver) arrow one in
@@ -143,20 +143,20 @@ arrow_shown x run sent sender received receiver among =
     arrow_of x run found.0.0 found.0.1 sent sender received receiver (numbered run found.0.0 found.0.1 found.1) found.2
 
 -- a stub is that of an emission without a reception
-stub_of : (x : Expanded) (run : List Event) (k : ℕ) (e : Event) (sent sender receiver : ℕ) → slice_get run k ≡ Some e → Contains (strokes_at x run (k, e)) (Stub sent sender receiver) → IsMissing x run sent sender receiver
+stub_of : (x : Expanded) (run : List Event) (k : ℕ) (e : Event) (sent sender receiver : ℕ) → slice_get run k ≡ Some e → Contains (strokes_at x run (k, e)) (Stub sent sender receiver) → StubIsMissing x run sent sender receiver
 stub_of x run k (Emit i) sent sender receiver at among =
     let stub = Stub sent sender receiver in
     let m = message_of x i.message in
     let mark = Mark k (role_of x (Emit i)) (Emit i) in
-    elim (Contains-append_cases (stub_from m k (list_any (receives i) run)) (mark ∷ []) stub among) [
-      | inl there ↦ (elim (list_any (receives i) run) as (λ b. list_any (receives i) run ≡ b → Contains (stub_from m k b) stub → IsMissing x run sent sender receiver) [
+    elim (Contains-append_cases (stub_from m k (list_any (is_reception_of i) run)) (mark ∷ []) stub among) [
+      | inl there ↦ (elim (list_any (is_reception_of i) run) as (λ b. list_any (is_reception_of i) run ≡ b → Contains (stub_from m k b) stub → StubIsMissing x run sent sender receiver) [
         | true ↦ λ received none. absurd (nowhere stub none)
         | false ↦ λ missing one.
             let is = only (Stub k m.sender m.receiver) stub one in
             record {
               instance = i;
               emission = subst (λ n. slice_get run n ≡ Some (Emit i)) (cc) at;
-              not_received = λ received. false≢true (sym missing ∙ member_passes (receives i) run (Receive i) (is_same i) received);
+              not_received = λ received. false≢true (sym missing ∙ member_passes (is_reception_of i) run (Receive i) (is_same i) received);
               sender_is = cc;
               receiver_is = cc;
             }
@@ -171,13 +171,13 @@ stub_of x run k (Receive i) sent sender receiver at among =
       | None ↦ λ there. nowhere stub there
       | Some index ↦ λ there. let is = only (Arrow index m.sender k m.receiver) stub there in cc
     ] in
-    elim (Contains-append_cases (arrow_from m k (position (emits i) run)) (mark ∷ []) stub among) [
+    elim (Contains-append_cases (arrow_from m k (position (is_emission_of i) run)) (mark ∷ []) stub among) [
       | inl there ↦ absurd (none _ there)
       | inr there ↦ let is = only mark stub there in absurd (cc)
     ]
 
 -- each stub of a chart
-pub stub_shown : (x : Expanded) (run : List Event) (sent sender receiver : ℕ) → Contains (strokes x run) (Stub sent sender receiver) → IsMissing x run sent sender receiver
+pub stub_shown : (x : Expanded) (run : List Event) (sent sender receiver : ℕ) → Contains (strokes x run) (Stub sent sender receiver) → StubIsMissing x run sent sender receiver
 stub_shown x run sent sender receiver among =
     let found = joined_member (strokes_at x run) (enumerate_from 0 run) (Stub sent sender receiver) among in
     stub_of x run found.0.0 found.0.1 sent sender receiver (numbered run found.0.0 found.0.1 found.1) found.2

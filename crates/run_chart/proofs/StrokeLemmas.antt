@@ -4,7 +4,7 @@ use Rattle.std.specs.List.{flat_map}
 use Rattle.std.proofs.lemmas.Grind.{flat_map-append}
 use Rattle.bspl_types.specs.declared.event.Event.{Event}
 use Rattle.bspl_types.specs.declared.expanded.Expanded.{Expanded}
-use Rattle.page_parts.specs.Fragment.{Fragment}
+use Rattle.html.specs.Fragment.{Fragment}
 use Rattle.run_chart.specs.Drawing.{drawn}
 use Rattle.run_chart.specs.Strokes.{strokes_at}
 

@@ -1,6 +1,7 @@
--- How strokes, lifelines and rings are drawn.
-use Rattle.std.specs.Prelude.{ℕ, ◌+◌, ◌*◌, nat_lt, if◌then◌else◌, List, [], ◌∷◌, codes}
-use Rattle.page_parts.specs.Fragment.{Fragment, Number, Tag}
+-- How strokes and rings are drawn.
+use Rattle.std.specs.Prelude.{ℕ, ◌+◌, ◌*◌, nat_lt, if◌then◌else◌, List, [], ◌∷◌}
+use Rattle.html.specs.Fragment.{Fragment, Number, Tag, fitted}
+use Rattle.run_chart.specs.declared.wording.TheConstants as wording
 use Rattle.run_chart.specs.Place.{column, row}
 use Rattle.run_chart.specs.Strokes.{Arrow, Mark, Stroke, Stub}
 
@@ -12,28 +13,25 @@ head_start sender receiver =
 -- the head of an arrow
 abbrev pub arrow_head : ℕ → ℕ → List ℕ
 arrow_head sender receiver =
-    if nat_lt sender receiver then codes "m0-5l11 5-11 5z\"/>\n"
-    else codes "m0-5l-11 5 11 5z\"/>\n"
+    if nat_lt sender receiver then wording.RIGHT_HEAD.now else wording.LEFT_HEAD.now
 
 -- a short line with an open circle at its end
 abbrev pub open_end : ℕ → ℕ → List ℕ
 open_end sender receiver =
-    if nat_lt sender receiver then codes "h52a4 4 0 1 0 8 0a4 4 0 1 0-8 0\"/>\n"
-    else codes "h-52a4 4 0 1 0-8 0a4 4 0 1 0 8 0\"/>\n"
+    if nat_lt sender receiver then wording.RIGHT_END.now else wording.LEFT_END.now
 
--- a circle on the lifeline of a role in the row of an index, between the two ends of its tag
-abbrev pub circle : List ℕ → ℕ → ℕ → List ℕ → List Fragment
-circle start role index end =
-    Tag start ∷ Number (column role) ∷ Tag (codes "\" cy=\"") ∷ Number (row index) ∷ Tag end ∷ []
+-- a circle on the lifeline of a role in the row of an index
+abbrev pub circle : List ℕ → ℕ → ℕ → List Fragment
+circle template role index =
+    fitted template (Number (column role) ∷ Number (row index) ∷ [])
 
 -- a stroke as it is drawn
 abbrev pub drawn : Stroke → List Fragment
-drawn (Mark index role event) =
-    circle (codes "<circle class=\"m\" cx=\"") role index (codes "\" r=\"4\"/>\n")
+drawn (Mark index role event) = circle wording.MARK.now role index
 drawn (Arrow sent sender received receiver) =
-    Tag (codes "<path class=\"m\" d=\"M") ∷ Number (column sender) ∷ Tag (codes " ") ∷
-    Number (row sent) ∷ Tag (codes "L") ∷ Number (head_start sender receiver) ∷
-    Tag (codes " ") ∷ Number (row received) ∷ Tag (arrow_head sender receiver) ∷ []
+    fitted wording.ARROW.now (Number (column sender) ∷ Number (row sent) ∷
+    Number (head_start sender receiver) ∷ Number (row received) ∷
+    Tag (arrow_head sender receiver) ∷ [])
 drawn (Stub sent sender receiver) =
-    Tag (codes "<path d=\"M") ∷ Number (column sender) ∷ Tag (codes " ") ∷
-    Number (row sent) ∷ Tag (open_end sender receiver) ∷ []
+    fitted wording.STUB.now
+    (Number (column sender) ∷ Number (row sent) ∷ Tag (open_end sender receiver) ∷ [])

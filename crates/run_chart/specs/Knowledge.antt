@@ -1,6 +1,5 @@
 -- What a role knew before an event of its own, and what the event adds to it.
-use Rattle.std.specs.Prelude.{ℕ, ◌==◌, if◌then◌else◌, List, [], ◌∷◌, ◌++◌, codes}
-use Rattle.std.specs.Prelude.{Option, None, Some, is_none}
+use Rattle.std.specs.Prelude.{ℕ, List, ◌++◌, Option, codes, is_none}
 use Rattle.std.specs.List.{filter, flat_map}
 use Rattle.bspl_types.specs.declared.event.Event.{Event}
 use Rattle.bspl_types.specs.declared.expanded.Expanded.{Expanded}
@@ -11,16 +10,12 @@ use Rattle.bspl_types.specs.History.{history_of, instance_of, role_of}
 use Rattle.bspl_types.specs.Instance.{pairs}
 use Rattle.bspl_types.specs.ValueSpelling.{value_spelling}
 use Rattle.enactment_model.specs.Projection.{run_under}
-
--- the value of the parameter in the first of these pairs that has it
-abbrev pub value_in : List (Carried × Value) → ℕ → Option Value
-value_in [] p = None
-value_in ((c, v) ∷ pairs) p = if c.param == p then Some v else value_in pairs p
+use Rattle.role_knowledge.specs.inner.FirstValue.{first_value}
 
 -- the value that a role's acts under a key make known first
 abbrev pub value_known : Expanded → List Event → ℕ → List Value → ℕ → Option Value
 value_known x events role key p =
-    value_in (flat_map (λ e. pairs x (instance_of e)) (run_under key (history_of x role events))) p
+    first_value (flat_map (λ e. pairs x (instance_of e)) (run_under key (history_of x role events))) p
 
 -- the value of the parameter that the event's role knew from the events before it
 abbrev pub value_before : Expanded → List Event → Event → ℕ → Option Value

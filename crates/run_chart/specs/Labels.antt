@@ -1,19 +1,23 @@
 -- The label of an event in a chart, and its ring.
-use Rattle.std.specs.Prelude.{ℕ, ◌+◌, nat_le, nat_lt, if◌then◌else◌, List, [], ◌∷◌, ◌++◌, codes}
-use Rattle.std.specs.Prelude.{length, take, ◌==◌, Bool, false, ◌||◌}
+use Rattle.std.specs.Prelude.{ℕ, ◌+◌, nat_lt, if◌then◌else◌, List, [], ◌∷◌, ◌++◌, take, ◌==◌}
+use Rattle.std.specs.Prelude.{Bool, false, ◌||◌}
 use Rattle.std.specs.List.{flat_map, list_any}
 use Rattle.bspl_types.specs.declared.event.Event.{Event}
 use Rattle.bspl_types.specs.declared.event.Event.TheVariants.{Emit, Receive}
 use Rattle.bspl_types.specs.declared.expanded.Expanded.{Expanded}
+use Rattle.bspl_types.specs.declared.protocol.Carried.{Carried}
+use Rattle.bspl_types.specs.declared.value.Value.{Value}
 use Rattle.bspl_types.specs.Expansion.{message_name, message_of}
 use Rattle.bspl_types.specs.History.{instance_of, role_of}
-use Rattle.page_parts.specs.Fragment.{Fragment, Number, Tag, Words}
+use Rattle.html.specs.Fragment.{Fragment, Number, Tag, fitted}
 use Rattle.run_chart.specs.declared.finding.Finding.{Finding}
 use Rattle.run_chart.specs.declared.finding.Finding.TheVariants.{Bad, Clash, Open, Plain}
+use Rattle.run_chart.specs.declared.wording.TheConstants as wording
 use Rattle.run_chart.specs.Drawing.{circle}
 use Rattle.run_chart.specs.Knowledge.{field, news}
 use Rattle.run_chart.specs.Place.{column, row}
-use Rattle.run_chart.specs.Strokes.{receives}
+use Rattle.run_chart.specs.Strokes.{is_reception_of}
+use Rattle.run_chart.specs.Words.{cut}
 
 -- the role at the other end of the event's message
 abbrev pub other_role : Expanded → Event → ℕ
@@ -29,54 +33,40 @@ is_ringed Plain index = false
 
 -- its ring
 abbrev pub ring : ℕ → ℕ → Bool → List Fragment
-ring role index ringed =
-    if ringed then circle (codes "<circle cx=\"") role index (codes "\" r=\"9\"/>\n") else []
+ring role index ringed = if ringed then circle wording.RING.now role index else []
 
 -- the name of the event's message, and each parameter that is new to its role
-abbrev pub label_words : Expanded → List Event → Event → List ℕ
-label_words x before event =
-    message_name x (instance_of event).message ++
-    flat_map (λ (c, v). 32 ∷ field x c.param v) (news x before event)
-
--- words, of which no more than so many bytes are shown
-abbrev pub cut : ℕ → List ℕ → List Fragment
-cut most text =
-    if nat_le (length text) most then Words text ∷ []
-    else Words (take most text) ∷ Tag (codes "&#8230;") ∷ []
+abbrev pub label_words : Expanded → List (Carried × Value) → Event → List ℕ
+label_words x new event =
+    message_name x (instance_of event).message ++ flat_map (λ (c, v). 32 ∷ field x c.param v) new
 
 -- beside the lifeline of a role, on the side of another role
 abbrev pub side : ℕ → ℕ → List ℕ
 side role other =
-    if nat_lt role other then codes "\" dx=\"10\" dy=\""
-    else codes "\" dx=\"-10\" text-anchor=\"end\" dy=\""
-
--- where a text begins: there, in the row of the index
-abbrev pub text_start : ℕ → ℕ → ℕ → List Fragment
-text_start role other index =
-    Tag (codes "<text x=\"") ∷ Number (column role) ∷ Tag (codes "\" y=\"") ∷
-    Number (row index) ∷ Tag (side role other) ∷ []
+    if nat_lt role other then wording.RIGHT_SIDE.now else wording.LEFT_SIDE.now
 
 -- above the arrow of an emission, below that of a reception
 abbrev pub text_height : Event → List ℕ
-text_height (Emit i) = codes "-6\">"
-text_height (Receive i) = codes "16\">"
+text_height (Emit i) = wording.ABOVE.now
+text_height (Receive i) = wording.BELOW.now
 
 -- the label: the number of the event from 1, and its words
-abbrev pub label : Expanded → List Event → ℕ → Event → List Fragment
-label x before index event =
-    text_start (role_of x event) (other_role x event) index ++
-    Tag (text_height event) ∷ Number (index + 1) ∷ Tag (codes " ") ∷
-    cut 28 (label_words x before event) ++ Tag (codes "</text>\n") ∷ []
+abbrev pub label : Expanded → List (Carried × Value) → ℕ → Event → List Fragment
+label x new index event =
+    fitted wording.LABEL.now (Number (column (role_of x event)) ∷ Number (row index) ∷
+    Tag (side (role_of x event) (other_role x event)) ∷ Tag (text_height event) ∷
+    Number (index + 1) ∷ cut 28 (label_words x new event))
 
 -- what is said of an emission that is not received
 abbrev pub not_received : ℕ → ℕ → ℕ → List Fragment
 not_received sender receiver index =
-    text_start sender receiver index ++ Tag (codes "16\">not received</text>\n") ∷ []
+    fitted wording.NOT_RECEIVED.now
+    (Number (column sender) ∷ Number (row index) ∷ Tag (side sender receiver) ∷ [])
 
 -- it is said of each emission that the run does not receive
 abbrev pub missing : Expanded → List Event → ℕ → Event → List Fragment
 missing x run index (Emit i) =
-    if list_any (receives i) run then []
+    if list_any (is_reception_of i) run then []
     else not_received (message_of x i.message).sender (message_of x i.message).receiver index
 missing x run index (Receive i) = []
 
@@ -84,4 +74,4 @@ missing x run index (Receive i) = []
 abbrev pub words_at : Expanded → List Event → Finding → ℕ × Event → List Fragment
 words_at x run finding (index, event) =
     ring (role_of x event) index (is_ringed finding index) ++
-    label x (take index run) index event ++ missing x run index event
+    label x (news x (take index run) event) index event ++ missing x run index event

@@ -57,7 +57,7 @@ ReceptionsHaveArrows =
     slice_get run received ≡ Some (Receive i) → HasArrow x run received i
 
 -- a stub begins at an emission that the run does not receive
-pub record IsMissing (x : Expanded) (run : List Event) (sent sender receiver : ℕ) : Type 0 where
+pub record StubIsMissing (x : Expanded) (run : List Event) (sent sender receiver : ℕ) : Type 0 where
   pub instance : Instance
   pub emission : slice_get run sent ≡ Some (Emit instance)
   pub not_received : ¬ Contains run (Receive instance)
@@ -68,7 +68,7 @@ pub record IsMissing (x : Expanded) (run : List Event) (sent sender receiver : �
 abbrev pub StubsAreMissing : Type 0
 StubsAreMissing =
     (x : Expanded) (run : List Event) (sent sender receiver : ℕ) →
-    Contains (strokes x run) (Stub sent sender receiver) → IsMissing x run sent sender receiver
+    Contains (strokes x run) (Stub sent sender receiver) → StubIsMissing x run sent sender receiver
 
 -- the value shown as known is the first that the role's history makes known under the key; if none
 -- is shown, none is known

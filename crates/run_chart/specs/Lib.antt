@@ -4,6 +4,7 @@ pub mod Place
 pub mod Strokes
 pub mod Drawing
 pub mod Knowledge
+pub mod Words
 pub mod Labels
 pub mod EventTable
 pub mod Frame

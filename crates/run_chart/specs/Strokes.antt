@@ -25,14 +25,14 @@ same_instance i j =
     i.message == j.message && (equal_values i.key j.key && equal_values i.values j.values)
 
 -- the event is the emission of the instance
-abbrev pub emits : Instance → Event → Bool
-emits i (Emit j) = same_instance j i
-emits i (Receive j) = false
+abbrev pub is_emission_of : Instance → Event → Bool
+is_emission_of i (Emit j) = same_instance j i
+is_emission_of i (Receive j) = false
 
 -- the event is the reception of the instance
-abbrev pub receives : Instance → Event → Bool
-receives i (Emit j) = false
-receives i (Receive j) = same_instance j i
+abbrev pub is_reception_of : Instance → Event → Bool
+is_reception_of i (Emit j) = false
+is_reception_of i (Receive j) = same_instance j i
 
 -- the arrow of a message to the reception at the index, if there is an emission
 abbrev pub arrow_from : Message → ℕ → Option ℕ → List Stroke
@@ -46,9 +46,9 @@ stub_from m index received = if received then [] else Stub index m.sender m.rece
 -- what leads to a reception, or from an emission
 abbrev pub line_at : Expanded → List Event → ℕ → Event → List Stroke
 line_at x run index (Emit i) =
-    stub_from (message_of x i.message) index (list_any (receives i) run)
+    stub_from (message_of x i.message) index (list_any (is_reception_of i) run)
 line_at x run index (Receive i) =
-    arrow_from (message_of x i.message) index (position (emits i) run)
+    arrow_from (message_of x i.message) index (position (is_emission_of i) run)
 
 -- that, and the mark
 abbrev pub strokes_at : Expanded → List Event → ℕ × Event → List Stroke

@@ -1,25 +1,29 @@
 ghost use Rattle.std.specs.Prelude.{◌≡◌, ◌++◌, OnOk};
-ghost use Rattle.bspl_types.specs.Admission.{IsAdmitted};
+ghost use Rattle.std.specs.List.{enumerate_from, flat_map};
 ghost use Rattle.bspl_types.specs.History.{IsRun};
-ghost use Rattle.page_parts.specs.Fragment.{written};
+ghost use Rattle.html.specs.Fragment.{as_html};
 ghost use Rattle.run_chart.specs.Chart.{chart, chart_body};
-ghost use Rattle.run_chart.specs.Frame.{chart_description, chart_end, chart_head};
-ghost use Rattle.run_chart.specs.Frame.{chart_start, chart_style, chart_title};
+ghost use Rattle.run_chart.specs.EventTable.{event_row};
+ghost use Rattle.run_chart.specs.Frame.{chart_description, chart_head, chart_title};
 
-use super::event_table::push_event_table;
+use super::events::push_events;
 use super::finding::Finding;
 use super::foot::push_foot;
-use super::labels::push_labels;
 use super::lifelines::{push_described, push_lifelines};
 use super::place::{chart_height, chart_width, rows_end};
+use super::shown::Shown;
 use super::strokes::push_strokes;
+use super::wording::{
+    BAD_TITLE, CHART, CHART_END, CLASH_TITLE, DESCRIPTION, DESCRIPTION_END, EVENTS, LEGEND,
+    OPEN_TITLE, PLAIN_TITLE, STYLE,
+};
 use bspl_types::{Admitted, Event, Expanded};
+use html::{Fragment, TABLE_END, fill, param_name};
 use list_base::{Bytes, NoMemory};
-use page_parts::{Piece, param_name, push_pieces};
 use std::alloc::Global;
 
 /// Appends the sequence chart of the run, which marks what the run shows, and beside it the table
-/// of the run's events. It takes memory for the words of one event at a time.
+/// of the run's events, for which it takes memory.
 pub fn push_chart(
     alloc: Global,
     text: &mut Bytes,
@@ -28,177 +32,100 @@ pub fn push_chart(
     finding: Finding,
 ) -> Result<(), NoMemory>
     requires { IsRun a.now run.now }
-    ensures { OnOk result (text.new ≡ text.old ++ written (chart a.now run.now finding)) }
+    ensures { OnOk result (text.new ≡ text.old ++ as_html (chart a.now run.now finding)) }
 {
-    push_parts(alloc, text, a.expanded(), run, finding)
+    let x = a.expanded();
+    push_parts(alloc, text, &Shown { x, run, finding })
 }
 
 /// Appends the parts of the chart, one after another.
-fn push_parts(
-    alloc: Global,
-    text: &mut Bytes,
-    x: &Expanded,
-    run: &[Event],
-    finding: Finding,
-) -> Result<(), NoMemory>
-    requires admitted { IsAdmitted x.now }
-    requires run { IsRun x.now run.now }
-    ensures { OnOk result (text.new ≡ text.old ++ written (chart x.now run.now finding)) }
+fn push_parts(alloc: Global, text: &mut Bytes, s: &Shown<'_>) -> Result<(), NoMemory>
+    ensures { OnOk result (text.new ≡
+        text.old ++ as_html (chart s.now.x.now s.now.run.now s.now.finding)) }
 {
-    push_head(text, x, run, finding)?;
-    push_body(alloc, text, x, run, finding)?;
-    push_end(text)?;
-    push_event_table(alloc, text, x, run, finding)?;
-    push_pieces(text, &[Piece::Tag(b"</div>\n")])
+    let mut table = Bytes::new(alloc);
+    fill(&mut table, EVENTS, &[])?;
+    push_head(text, s)?;
+    push_body(alloc, text, &mut table, s)?;
+    fill(&mut table, TABLE_END, &[])?;
+    fill(text, LEGEND, &[])?;
+    text.append(table.as_slice())?;
+    fill(text, CHART_END, &[])
 }
 
 /// Appends what stands before the lifelines.
-fn push_head(
-    text: &mut Bytes,
-    x: &Expanded,
-    run: &[Event],
-    finding: Finding,
-) -> Result<(), NoMemory>
-    ensures { OnOk result (text.new ≡ text.old ++ written (chart_head x.now run.now finding)) }
+fn push_head(text: &mut Bytes, s: &Shown<'_>) -> Result<(), NoMemory>
+    ensures { OnOk result (text.new ≡
+        text.old ++ as_html (chart_head s.now.x.now s.now.run.now s.now.finding)) }
 {
-    push_start(text, chart_width(x), chart_height(run))?;
-    push_title(text, x, finding)?;
-    push_description(text, x)?;
-    push_style(text)
-}
-
-/// Appends the beginning of the chart, with its size.
-fn push_start(text: &mut Bytes, width: u64, height: u64) -> Result<(), NoMemory>
-    ensures { OnOk result (text.new ≡ text.old ++ written (chart_start width height)) }
-{
-    push_pieces(
+    let width = chart_width(s.x);
+    let height = chart_height(s.run);
+    fill(
         text,
+        CHART,
         &[
-            Piece::Tag(b"<div class=\"chart\">\n<figure>\n<svg role=\"img\" width=\""),
-            Piece::Number(width),
-            Piece::Tag(b"\" height=\""),
-            Piece::Number(height),
-            Piece::Tag(b"\" viewBox=\"0 0 "),
-            Piece::Number(width),
-            Piece::Tag(b" "),
-            Piece::Number(height),
-            Piece::Tag(b"\">\n<title>"),
+            Fragment::Number(width),
+            Fragment::Number(height),
+            Fragment::Number(width),
+            Fragment::Number(height),
         ],
-    )
+    )?;
+    push_title(text, s.x, s.finding)?;
+    push_description(text, s.x)?;
+    fill(text, STYLE, &[])
 }
 
 /// Appends what the run shows, as the title.
 fn push_title(text: &mut Bytes, x: &Expanded, finding: Finding) -> Result<(), NoMemory>
-    ensures { OnOk result (text.new ≡ text.old ++ written (chart_title x.now finding)) }
+    ensures { OnOk result (text.new ≡ text.old ++ as_html (chart_title x.now finding)) }
 {
     match finding {
         Finding::Clash {
             param,
             first,
             second,
-        } => push_pieces(
+        } => fill(
             text,
+            CLASH_TITLE,
             &[
-                Piece::Tag(b"Sequence chart: events "),
-                Piece::Number(first as u64),
-                Piece::Tag(b" and "),
-                Piece::Number(second as u64),
-                Piece::Tag(b" both produce "),
-                Piece::Words(param_name(x, param)),
+                Fragment::Number(first as u64),
+                Fragment::Number(second as u64),
+                Fragment::Words(param_name(x, param)),
             ],
         ),
-        Finding::Open { param } => push_pieces(
-            text,
-            &[
-                Piece::Tag(b"Sequence chart: at its end no role knows "),
-                Piece::Words(param_name(x, param)),
-            ],
-        ),
-        Finding::Bad { event } => push_pieces(
-            text,
-            &[
-                Piece::Tag(b"Sequence chart: event "),
-                Piece::Number(event as u64),
-                Piece::Tag(b" may not follow those before it"),
-            ],
-        ),
-        Finding::Plain => push_pieces(text, &[Piece::Tag(b"Sequence chart of a legal run")]),
+        Finding::Open { param } => {
+            fill(text, OPEN_TITLE, &[Fragment::Words(param_name(x, param))])
+        }
+        Finding::Bad { event } => fill(text, BAD_TITLE, &[Fragment::Number(event as u64)]),
+        Finding::Plain => fill(text, PLAIN_TITLE, &[]),
     }
 }
 
 /// Appends what the chart is.
 fn push_description(text: &mut Bytes, x: &Expanded) -> Result<(), NoMemory>
-    ensures { OnOk result (text.new ≡ text.old ++ written (chart_description x.now)) }
+    ensures { OnOk result (text.new ≡ text.old ++ as_html (chart_description x.now)) }
 {
-    push_pieces(
-        text,
-        &[Piece::Tag(b"</title>\n<desc>Time runs down the lifelines of ")],
-    )?;
+    fill(text, DESCRIPTION, &[])?;
     push_described(text, x.roles.as_slice())?;
-    push_pieces(
-        text,
-        &[Piece::Tag(b"from left to right. The table after the chart says the same.</desc>\n")],
-    )
+    fill(text, DESCRIPTION_END, &[])
 }
 
-/// Appends how the chart looks.
-fn push_style(text: &mut Bytes) -> Result<(), NoMemory>
-    ensures { OnOk result (text.new ≡ text.old ++ written chart_style) }
-{
-    push_pieces(
-        text,
-        &[
-            Piece::Tag(
-                b"<style>\n.chart{display:flex;flex-wrap:wrap;gap:0 2em;align-items:flex-start}\n",
-            ),
-            Piece::Tag(b".chart figure{margin:0;max-width:100%;overflow-x:auto}\n"),
-            Piece::Tag(b".chart table{flex:1 1 20em}\n.chart th{white-space:nowrap}\n"),
-            Piece::Tag(b".chart figcaption{width:0;min-width:100%;color:var(--soft)}\n"),
-            Piece::Tag(
-                b".chart path,.chart circle{fill:none;stroke:currentColor;stroke-width:1.2}\n",
-            ),
-            Piece::Tag(
-                b".chart .m{fill:currentColor}\n.chart text{font:12px ui-monospace,monospace;",
-            ),
-            Piece::Tag(
-                b"fill:currentColor;stroke:var(--paper);stroke-width:4px;paint-order:stroke}\n",
-            ),
-            Piece::Tag(b"@media print{.chart{display:block}.chart figure{overflow:visible}\n"),
-            Piece::Tag(b".chart svg{max-width:100%;height:auto}}\n</style>\n"),
-        ],
-    )
-}
-
-/// Appends the lifelines, the strokes and the words. What comes later is drawn above.
+/// Appends the lifelines, the strokes and the labels, and to the table the rows of the events.
+/// What comes later is drawn above.
 fn push_body(
     alloc: Global,
     text: &mut Bytes,
-    x: &Expanded,
-    run: &[Event],
-    finding: Finding,
+    table: &mut Bytes,
+    s: &Shown<'_>,
 ) -> Result<(), NoMemory>
-    requires admitted { IsAdmitted x.now }
-    requires run { IsRun x.now run.now }
-    ensures { OnOk result (text.new ≡ text.old ++ written (chart_body x.now run.now finding)) }
+    ensures body { OnOk result (text.new ≡
+        text.old ++ as_html (chart_body s.now.x.now s.now.run.now s.now.finding)) }
+    ensures rows { OnOk result (table.new ≡ table.old ++
+        as_html (flat_map (event_row s.now.x.now s.now.run.now s.now.finding)
+        (enumerate_from 0 s.now.run.now))) }
 {
-    push_lifelines(text, x.roles.as_slice(), rows_end(run))?;
-    push_strokes(text, x, run)?;
-    push_labels(alloc, text, x, run, finding)?;
-    push_foot(text, x, rows_end(run), finding)
-}
-
-/// Appends what explains the shapes.
-fn push_end(text: &mut Bytes) -> Result<(), NoMemory>
-    ensures { OnOk result (text.new ≡ text.old ++ written chart_end) }
-{
-    push_pieces(
-        text,
-        &[
-            Piece::Tag(
-                b"</svg>\n<figcaption>A dot is an event. An arrow leads from a sending to its ",
-            ),
-            Piece::Tag(b"reception; a line to an open circle has none in this run.</figcaption>\n"),
-            Piece::Tag(b"</figure>\n"),
-        ],
-    )
+    push_lifelines(text, s.x.roles.as_slice(), rows_end(s.run))?;
+    push_strokes(text, s)?;
+    push_events(alloc, text, table, s)?;
+    push_foot(text, s)
 }

@@ -2,6 +2,8 @@ ghost use Rattle.std.specs.Prelude.{◌≡◌, ◌<◌};
 ghost use Rattle.run_chart.specs.Labels.{is_ringed};
 ghost use Rattle.run_chart.specs.EventTable.{ring_words};
 
+use super::wording::{CLASH, NOT_ALLOWED};
+
 /// What a run shows of a protocol.
 #[derive(Clone, Copy, Debug)]
 pub enum Finding {
@@ -44,8 +46,8 @@ pub(crate) fn ring_words(finding: Finding, index: usize) -> &'static [u8]
         return b"";
     }
     match finding {
-        Finding::Clash { .. } => b" <b>clash</b>",
-        Finding::Bad { .. } => b" <b>not allowed</b>",
+        Finding::Clash { .. } => CLASH,
+        Finding::Bad { .. } => NOT_ALLOWED,
         Finding::Open { .. } | Finding::Plain => b"",
     }
 }

@@ -1,77 +1,63 @@
-ghost use Rattle.std.specs.Prelude.{◌≡◌, ◌++◌, OnOk};
-ghost use Rattle.page_parts.specs.Fragment.{written};
-ghost use Rattle.run_chart.specs.Foot.{bad_foot, chart_foot, clash_foot, open_foot};
+ghost use Rattle.std.specs.Prelude.{◌≡◌, ◌++◌, length, OnOk};
+ghost use Rattle.html.specs.Fragment.{as_html};
+ghost use Rattle.run_chart.specs.Foot.{chart_foot, clash_foot, open_foot};
+ghost use Rattle.run_chart.specs.Place.{rows_end};
 
 use super::finding::Finding;
-use super::place::chart_width;
-use super::words::push_cut;
-use bspl_types::Expanded;
+use super::place::{chart_width, rows_end};
+use super::shown::Shown;
+use super::wording::{BAD_FOOT, CLASH_FOOT, OPEN_FOOT};
+use super::words::{cut, ellipsis};
+use html::{Fragment, fill, param_name};
 use list_base::{Bytes, NoMemory};
-use page_parts::{Piece, param_name, push_pieces};
 
 /// Appends what the run shows, below the lifelines.
-pub(crate) fn push_foot(
-    text: &mut Bytes,
-    x: &Expanded,
-    end: u64,
-    finding: Finding,
-) -> Result<(), NoMemory>
-    ensures { OnOk result (text.new ≡ text.old ++ written (chart_foot x.now end finding)) }
+pub(crate) fn push_foot(text: &mut Bytes, s: &Shown<'_>) -> Result<(), NoMemory>
+    ensures { OnOk result (text.new ≡ text.old ++
+        as_html (chart_foot s.now.x.now (rows_end (length s.now.run.now)) s.now.finding)) }
 {
-    match finding {
-        Finding::Clash { param, .. } => push_clash_foot(text, param_name(x, param), end),
-        Finding::Open { param } => push_open_foot(text, param_name(x, param), end, chart_width(x)),
-        Finding::Bad { .. } => push_bad_foot(text, end),
+    let end = rows_end(s.run);
+    match s.finding {
+        Finding::Clash { param, .. } => push_clash_foot(text, param_name(s.x, param), end),
+        Finding::Open { param } => push_open_foot(
+            text,
+            param_name(s.x, param),
+            end,
+            chart_width(s.x),
+        ),
+        Finding::Bad { .. } => fill(text, BAD_FOOT, &[Fragment::Number(end)]),
         Finding::Plain => Ok(()),
     }
 }
 
 /// Appends what the two ringed events produce.
 fn push_clash_foot(text: &mut Bytes, name: &[u8], end: u64) -> Result<(), NoMemory>
-    ensures { OnOk result (text.new ≡ text.old ++ written (clash_foot name.now end)) }
+    ensures { OnOk result (text.new ≡ text.old ++ as_html (clash_foot name.now end)) }
 {
-    push_pieces(
+    fill(
         text,
+        CLASH_FOOT,
         &[
-            Piece::Tag(b"<text x=\"10\" dy=\"22\" y=\""),
-            Piece::Number(end),
-            Piece::Tag(b"\">ringed: both produce "),
+            Fragment::Number(end),
+            Fragment::Words(cut(18, name)),
+            Fragment::Tag(ellipsis(18, name)),
         ],
-    )?;
-    push_cut(text, 18, name)?;
-    push_pieces(text, &[Piece::Tag(b"</text>\n")])
+    )
 }
 
 /// Appends a line across the chart, and what no role knows.
 fn push_open_foot(text: &mut Bytes, name: &[u8], end: u64, width: u64) -> Result<(), NoMemory>
-    ensures { OnOk result (text.new ≡ text.old ++ written (open_foot name.now end width)) }
+    ensures { OnOk result (text.new ≡ text.old ++ as_html (open_foot name.now end width)) }
 {
-    push_pieces(
+    fill(
         text,
+        OPEN_FOOT,
         &[
-            Piece::Tag(b"<path stroke-dasharray=\"6 4\" d=\"M0 "),
-            Piece::Number(end),
-            Piece::Tag(b"H"),
-            Piece::Number(width),
-            Piece::Tag(b"\"/><text x=\"10\" dy=\"22\" y=\""),
-            Piece::Number(end),
-            Piece::Tag(b"\">no role knows "),
-        ],
-    )?;
-    push_cut(text, 18, name)?;
-    push_pieces(text, &[Piece::Tag(b"</text>\n")])
-}
-
-/// Appends that the ringed event may not follow.
-fn push_bad_foot(text: &mut Bytes, end: u64) -> Result<(), NoMemory>
-    ensures { OnOk result (text.new ≡ text.old ++ written (bad_foot end)) }
-{
-    push_pieces(
-        text,
-        &[
-            Piece::Tag(b"<text x=\"10\" dy=\"22\" y=\""),
-            Piece::Number(end),
-            Piece::Tag(b"\">ringed: may not follow those before it</text>\n"),
+            Fragment::Number(end),
+            Fragment::Number(width),
+            Fragment::Number(end),
+            Fragment::Words(cut(18, name)),
+            Fragment::Tag(ellipsis(18, name)),
         ],
     )
 }

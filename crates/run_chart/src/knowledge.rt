@@ -1,15 +1,14 @@
-ghost use Rattle.std.specs.Prelude.{◌≡◌, ◌++◌, is_none, IfOk, OnOk};
+ghost use Rattle.std.specs.Prelude.{◌≡◌, ◌++◌, is_none, IfOk, OnOk, take};
 ghost use Rattle.std.specs.List.{filter, zip};
-ghost use Rattle.bspl_types.specs.Admission.{IsAdmitted};
 ghost use Rattle.bspl_types.specs.Adornment.{valued};
-ghost use Rattle.bspl_types.specs.History.{instance_of, IsRun};
 ghost use Rattle.bspl_types.specs.Instance.{Fits, pairs};
 ghost use Rattle.run_chart.specs.Knowledge.{field, news, value_before};
 
 use super::laws::shows_knowledge;
-use bspl_types::{Carried, Event, Expanded, Instance, Value};
+use super::shown::ShownEvent;
+use bspl_types::{Carried, Expanded, Instance, Value};
+use html::param_name;
 use list_base::{Bytes, NoMemory, Seq};
-use page_parts::param_name;
 use role_knowledge::{answers_once, knows};
 use std::alloc::Global;
 
@@ -17,38 +16,23 @@ use std::alloc::Global;
 pub(crate) type Pair = (Carried, Value);
 
 /// The parameters of the event that its role did not know before it.
-pub(crate) fn news(
-    alloc: Global,
-    x: &Expanded,
-    before: &[Event],
-    event: &Event,
-) -> Result<Seq<Pair>, NoMemory>
-    requires admitted { IsAdmitted x.now }
-    requires run { IsRun x.now before.now }
-    requires fits { Fits x.now (instance_of event.now) }
-    ensures { IfOk result (λ list. list ≡ news x.now before.now event.now) }
+pub(crate) fn news(alloc: Global, s: &ShownEvent<'_>) -> Result<Seq<Pair>, NoMemory>
+    ensures { IfOk result (λ list. list ≡
+        news s.now.x.now (take s.now.index s.now.run.now) s.now.event.now) }
 {
-    let pairs = pairs_of(alloc, x, event.instance())?;
-    unknown_pairs(alloc, x, before, event, pairs.as_slice())
+    let pairs = pairs_of(alloc, s.x, s.event.instance())?;
+    unknown_pairs(alloc, s, pairs.as_slice())
 }
 
 /// Those of the pairs whose parameter the event's role did not know before it.
-fn unknown_pairs(
-    alloc: Global,
-    x: &Expanded,
-    before: &[Event],
-    event: &Event,
-    pairs: &[Pair],
-) -> Result<Seq<Pair>, NoMemory>
-    requires admitted { IsAdmitted x.now }
-    requires run { IsRun x.now before.now }
-    requires fits { Fits x.now (instance_of event.now) }
-    ensures { IfOk result (λ list. list ≡
-        filter (λ (c, v). is_none (value_before x.now before.now event.now c.param)) pairs.now) }
+fn unknown_pairs(alloc: Global, s: &ShownEvent<'_>, pairs: &[Pair]) -> Result<Seq<Pair>, NoMemory>
+    ensures { IfOk result (λ list. list ≡ filter (λ (c, v). is_none
+        (value_before s.now.x.now (take s.now.index s.now.run.now) s.now.event.now c.param))
+        pairs.now) }
 {
     let mut list = Seq::new(alloc);
     for pair in pairs {
-        if value_before(x, before, event, pair.0.param).is_none() {
+        if value_before(s, pair.0.param).is_none() {
             list.push(*pair)?;
         }
     }
@@ -56,22 +40,17 @@ fn unknown_pairs(
 }
 
 /// The value of the parameter that the event's role knew from the events before it.
-pub(crate) fn value_before(
-    x: &Expanded,
-    before: &[Event],
-    event: &Event,
-    param: u32,
-) -> Option<Value>
-    requires admitted { IsAdmitted x.now }
-    requires run { IsRun x.now before.now }
-    requires fits { Fits x.now (instance_of event.now) }
-    ensures { result ≡ value_before x.now before.now event.now param }
+pub(crate) fn value_before(s: &ShownEvent<'_>, param: u32) -> Option<Value>
+    ensures { result ≡
+        value_before s.now.x.now (take s.now.index s.now.run.now) s.now.event.now param }
 {
     // law: the value that is shown as known is the first known
     shows_knowledge();
     // law: there is one such value
     answers_once();
-    knows(x, before, event.role(x), &event.instance().key, param)
+    let before = &s.run[..s.index];
+    let role = s.event.role(s.x);
+    knows(s.x, before, role, &s.event.instance().key, param)
 }
 
 /// Appends a parameter and its value.

@@ -1,151 +1,75 @@
-ghost use Rattle.std.specs.Prelude.{◌≡◌, ◌<◌, ◌++◌, length, OnOk, take};
-ghost use Rattle.std.specs.List.{enumerate_from, flat_map};
-ghost use Rattle.bspl_types.specs.Admission.{IsAdmitted};
-ghost use Rattle.bspl_types.specs.History.{instance_of, IsRun};
+ghost use Rattle.std.specs.Prelude.{◌≡◌, ◌<◌, ◌++◌, length, OnOk};
+ghost use Rattle.bspl_types.specs.History.{instance_of, role_of};
 ghost use Rattle.bspl_types.specs.Instance.{Fits};
-ghost use Rattle.page_parts.specs.Fragment.{written};
-ghost use Rattle.run_chart.specs.Labels.{cut, label, label_words, missing, other_role, ring, side};
-ghost use Rattle.run_chart.specs.Labels.{not_received, text_height, text_start, words_at};
+ghost use Rattle.html.specs.Fragment.{as_html};
+ghost use Rattle.run_chart.specs.Labels.{is_ringed, label, missing, not_received, other_role};
+ghost use Rattle.run_chart.specs.Labels.{ring, side, text_height};
 
 use super::circle::push_circle;
-use super::finding::{Finding, is_ringed};
-use super::knowledge::news;
+use super::finding::is_ringed;
+use super::knowledge::Pair;
 use super::occurrence::is_received;
 use super::place::{column, row};
-use super::words::{name_and_fields, push_cut};
+use super::shown::ShownEvent;
+use super::wording::{ABOVE, BELOW, LABEL, LEFT_SIDE, NOT_RECEIVED, RIGHT_SIDE, RING};
+use super::words::{cut, ellipsis, name_and_fields};
 use bspl_types::{Event, Expanded};
+use html::{Fragment, fill};
 use list_base::{Bytes, NoMemory};
-use page_parts::{Piece, push_pieces};
 use std::alloc::Global;
 
-/// Appends the words of each event, and the rings of two that clash.
-#[tactic(auto, using(crate::proofs::IndexLemmas::enumerate_more, crate::proofs::IndexLemmas::enumerate_all))]
-pub(crate) fn push_labels(
-    alloc: Global,
-    text: &mut Bytes,
-    x: &Expanded,
-    run: &[Event],
-    finding: Finding,
-) -> Result<(), NoMemory>
-    requires admitted { IsAdmitted x.now }
-    requires run { IsRun x.now run.now }
+/// Appends the ring of an event that clashes with another, or may not follow.
+pub(crate) fn push_ring(text: &mut Bytes, s: &ShownEvent<'_>) -> Result<(), NoMemory>
     ensures { OnOk result (text.new ≡ text.old ++
-        written (flat_map (words_at x.now run.now finding) (enumerate_from 0 run.now))) }
+        as_html (ring (role_of s.now.x.now s.now.event.now) s.now.index
+        (is_ringed s.now.finding s.now.index))) }
 {
-    for (index, event) in run.iter().enumerate() {
-        push_words_at(alloc, text, x, run, finding, index, event)?;
+    if is_ringed(s.finding, s.index) {
+        return push_circle(text, RING, s.run, s.event.role(s.x), s.index);
     }
     Ok(())
 }
 
-/// Appends the words of the event at the index, and its ring.
-fn push_words_at(
+/// Appends the label of the event, with the pairs that are new to its role.
+pub(crate) fn push_label(
     alloc: Global,
     text: &mut Bytes,
-    x: &Expanded,
-    run: &[Event],
-    finding: Finding,
-    index: usize,
-    event: &Event,
+    s: &ShownEvent<'_>,
+    news: &[Pair],
 ) -> Result<(), NoMemory>
-    requires admitted { IsAdmitted x.now }
-    requires run { IsRun x.now run.now }
-    requires fits { Fits x.now (instance_of event.now) }
-    requires within { index < length run.now }
-    ensures { OnOk result (text.new ≡
-        text.old ++ written (words_at x.now run.now finding (index, event.now))) }
+    ensures { OnOk result (text.new ≡ text.old ++
+        as_html (label s.now.x.now news.now s.now.index s.now.event.now)) }
 {
-    push_ring(text, run, event.role(x), index, is_ringed(finding, index))?;
-    push_label(alloc, text, x, run, index, event)?;
-    push_missing(text, x, run, index, event)
-}
-
-/// Appends the ring of an event that clashes with another.
-fn push_ring(
-    text: &mut Bytes,
-    run: &[Event],
-    role: u32,
-    index: usize,
-    ringed: bool,
-) -> Result<(), NoMemory>
-    requires { index < length run.now }
-    ensures { OnOk result (text.new ≡ text.old ++ written (ring role index ringed)) }
-{
-    if ringed {
-        return push_circle(text, run, b"<circle cx=\"", role, index, b"\" r=\"9\"/>\n");
-    }
-    Ok(())
-}
-
-/// Appends the label of the event at the index.
-fn push_label(
-    alloc: Global,
-    text: &mut Bytes,
-    x: &Expanded,
-    run: &[Event],
-    index: usize,
-    event: &Event,
-) -> Result<(), NoMemory>
-    requires admitted { IsAdmitted x.now }
-    requires run { IsRun x.now run.now }
-    requires fits { Fits x.now (instance_of event.now) }
-    requires within { index < length run.now }
-    ensures { OnOk result (text.new ≡
-        text.old ++ written (label x.now (take index run.now) index event.now)) }
-{
-    push_text_start(text, run, event.role(x), other_role(x, event), index)?;
-    push_pieces(
+    let role = s.event.role(s.x);
+    let name = s.x.message_at(s.event.instance().message).name.as_slice();
+    let words = name_and_fields(alloc, s.x, name, news)?;
+    fill(
         text,
+        LABEL,
         &[
-            Piece::Tag(text_height(event)),
-            Piece::Number(index as u64 + 1),
-            Piece::Tag(b" "),
+            Fragment::Number(column(role)),
+            Fragment::Number(row(s.run, s.index)),
+            Fragment::Tag(side(role, other_role(s.x, s.event))),
+            Fragment::Tag(text_height(s.event)),
+            Fragment::Number(s.index as u64 + 1),
+            Fragment::Words(cut(28, words.as_slice())),
+            Fragment::Tag(ellipsis(28, words.as_slice())),
         ],
-    )?;
-    push_label_words(alloc, text, x, &run[..index], event)?;
-    push_pieces(text, &[Piece::Tag(b"</text>\n")])
-}
-
-/// Appends the words of a label.
-fn push_label_words(
-    alloc: Global,
-    text: &mut Bytes,
-    x: &Expanded,
-    before: &[Event],
-    event: &Event,
-) -> Result<(), NoMemory>
-    requires admitted { IsAdmitted x.now }
-    requires run { IsRun x.now before.now }
-    requires fits { Fits x.now (instance_of event.now) }
-    ensures { OnOk result (text.new ≡
-        text.old ++ written (cut 28 (label_words x.now before.now event.now))) }
-{
-    let name = x.message_at(event.instance().message).name.as_slice();
-    let pairs = news(alloc, x, before, event)?;
-    let words = name_and_fields(alloc, x, name, pairs.as_slice())?;
-    push_cut(text, 28, words.as_slice())
+    )
 }
 
 /// Appends that an emission is not received.
-fn push_missing(
-    text: &mut Bytes,
-    x: &Expanded,
-    run: &[Event],
-    index: usize,
-    event: &Event,
-) -> Result<(), NoMemory>
-    requires fits { Fits x.now (instance_of event.now) }
-    requires within { index < length run.now }
-    ensures { OnOk result (text.new ≡
-        text.old ++ written (missing x.now run.now index event.now)) }
+pub(crate) fn push_missing(text: &mut Bytes, s: &ShownEvent<'_>) -> Result<(), NoMemory>
+    ensures { OnOk result (text.new ≡ text.old ++
+        as_html (missing s.now.x.now s.now.run.now s.now.index s.now.event.now)) }
 {
-    match event {
+    match s.event {
         Event::Emit(instance) => {
-            if is_received(run, instance) {
+            if is_received(s.run, instance) {
                 return Ok(());
             }
-            let message = x.message_at(instance.message);
-            push_not_received(text, run, index, message.sender, message.receiver)
+            let message = s.x.message_at(instance.message);
+            push_not_received(text, s.run, s.index, message.sender, message.receiver)
         }
         Event::Receive(_) => Ok(()),
     }
@@ -160,31 +84,15 @@ fn push_not_received(
     receiver: u32,
 ) -> Result<(), NoMemory>
     requires { index < length run.now }
-    ensures { OnOk result (text.new ≡ text.old ++ written (not_received sender receiver index)) }
+    ensures { OnOk result (text.new ≡ text.old ++ as_html (not_received sender receiver index)) }
 {
-    push_text_start(text, run, sender, receiver, index)?;
-    push_pieces(text, &[Piece::Tag(b"16\">not received</text>\n")])
-}
-
-/// Appends where a text begins.
-fn push_text_start(
-    text: &mut Bytes,
-    run: &[Event],
-    role: u32,
-    other: u32,
-    index: usize,
-) -> Result<(), NoMemory>
-    requires { index < length run.now }
-    ensures { OnOk result (text.new ≡ text.old ++ written (text_start role other index)) }
-{
-    push_pieces(
+    fill(
         text,
+        NOT_RECEIVED,
         &[
-            Piece::Tag(b"<text x=\""),
-            Piece::Number(column(role)),
-            Piece::Tag(b"\" y=\""),
-            Piece::Number(row(run, index)),
-            Piece::Tag(side(role, other)),
+            Fragment::Number(column(sender)),
+            Fragment::Number(row(run, index)),
+            Fragment::Tag(side(sender, receiver)),
         ],
     )
 }
@@ -204,11 +112,7 @@ fn other_role(x: &Expanded, event: &Event) -> u32
 fn side(role: u32, other: u32) -> &'static [u8]
     ensures { result.now ≡ side role other }
 {
-    if role < other {
-        b"\" dx=\"10\" dy=\""
-    } else {
-        b"\" dx=\"-10\" text-anchor=\"end\" dy=\""
-    }
+    if role < other { RIGHT_SIDE } else { LEFT_SIDE }
 }
 
 /// Above the arrow of an emission, below that of a reception.
@@ -216,7 +120,7 @@ fn text_height(event: &Event) -> &'static [u8]
     ensures { result.now ≡ text_height event.now }
 {
     match event {
-        Event::Emit(_) => b"-6\">",
-        Event::Receive(_) => b"16\">",
+        Event::Emit(_) => ABOVE,
+        Event::Receive(_) => BELOW,
     }
 }

@@ -4,7 +4,7 @@
 mod cells;
 mod chart;
 mod circle;
-mod event_table;
+mod events;
 mod finding;
 mod foot;
 mod knowledge;
@@ -13,7 +13,10 @@ mod laws;
 mod lifelines;
 mod occurrence;
 mod place;
+mod rows;
+mod shown;
 mod strokes;
+mod wording;
 mod words;
 
 pub use chart::push_chart;

@@ -1,27 +1,27 @@
 ghost use Rattle.std.specs.Prelude.{◌≡◌, ◌<◌, IfSome, length};
 ghost use Rattle.std.specs.List.{list_any, position};
-ghost use Rattle.run_chart.specs.Strokes.{emits, receives, same_instance};
+ghost use Rattle.run_chart.specs.Strokes.{is_emission_of, is_reception_of, same_instance};
 
 use bspl_types::{Event, Instance};
 
 /// The index of the first emission of the instance.
 pub(crate) fn emission_index(run: &[Event], instance: &Instance) -> Option<usize>
-    ensures first { result ≡ position (emits instance.now) run.now }
+    ensures first { result ≡ position (is_emission_of instance.now) run.now }
     ensures within { IfSome result (λ index. index < length run.now) }
 {
-    run.iter().position(|event| emits(instance, event))
+    run.iter().position(|event| is_emission_of(instance, event))
 }
 
 /// Whether the run receives the instance.
 pub(crate) fn is_received(run: &[Event], instance: &Instance) -> bool
-    ensures { result ≡ list_any (receives instance.now) run.now }
+    ensures { result ≡ list_any (is_reception_of instance.now) run.now }
 {
-    run.iter().any(|event| receives(instance, event))
+    run.iter().any(|event| is_reception_of(instance, event))
 }
 
 /// Whether the event is the emission of the instance.
-fn emits(instance: &Instance, event: &Event) -> bool
-    ensures { result ≡ emits instance.now event.now }
+fn is_emission_of(instance: &Instance, event: &Event) -> bool
+    ensures { result ≡ is_emission_of instance.now event.now }
 {
     match event {
         Event::Emit(emitted) => same_instance(emitted, instance),
@@ -30,8 +30,8 @@ fn emits(instance: &Instance, event: &Event) -> bool
 }
 
 /// Whether the event is the reception of the instance.
-fn receives(instance: &Instance, event: &Event) -> bool
-    ensures { result ≡ receives instance.now event.now }
+fn is_reception_of(instance: &Instance, event: &Event) -> bool
+    ensures { result ≡ is_reception_of instance.now event.now }
 {
     match event {
         Event::Emit(_) => false,

@@ -1,76 +1,63 @@
 ghost use Rattle.std.specs.Prelude.{◌≡◌, ◌<◌, ◌++◌, length, OnOk};
 ghost use Rattle.std.specs.List.{flat_map};
-ghost use Rattle.bspl_types.specs.History.{instance_of, IsRun};
-ghost use Rattle.bspl_types.specs.Instance.{Fits};
-ghost use Rattle.page_parts.specs.Fragment.{written};
+ghost use Rattle.html.specs.Fragment.{as_html};
 ghost use Rattle.run_chart.specs.Drawing.{arrow_head, drawn, head_start, open_end};
 ghost use Rattle.run_chart.specs.Strokes.{Arrow, Stub, line_at, strokes, strokes_at};
 
 use super::circle::push_circle;
 use super::occurrence::{emission_index, is_received};
 use super::place::{column, row};
-use bspl_types::{Event, Expanded, Message};
+use super::shown::{Shown, ShownEvent};
+use super::wording::{ARROW, LEFT_END, LEFT_HEAD, MARK, RIGHT_END, RIGHT_HEAD, STUB};
+use bspl_types::{Event, Message};
+use html::{Fragment, fill};
 use list_base::{Bytes, NoMemory};
-use page_parts::{Piece, push_pieces};
 
 /// Appends the strokes of each event.
-pub(crate) fn push_strokes(text: &mut Bytes, x: &Expanded, run: &[Event]) -> Result<(), NoMemory>
-    requires { IsRun x.now run.now }
-    ensures { OnOk result
-        (text.new ≡ text.old ++ written (flat_map drawn (strokes x.now run.now))) }
+pub(crate) fn push_strokes(text: &mut Bytes, s: &Shown<'_>) -> Result<(), NoMemory>
+    ensures { OnOk result (text.new ≡
+        text.old ++ as_html (flat_map drawn (strokes s.now.x.now s.now.run.now))) }
 {
+    let run = s.run;
     for (index, event) in run.iter().enumerate() {
-        push_strokes_at(text, x, run, index, event)?;
+        let at = ShownEvent {
+            x: s.x,
+            run,
+            finding: s.finding,
+            index,
+            event,
+        };
+        push_strokes_at(text, &at)?;
     }
     Ok(())
 }
 
-/// Appends the strokes of the event at the index.
-fn push_strokes_at(
-    text: &mut Bytes,
-    x: &Expanded,
-    run: &[Event],
-    index: usize,
-    event: &Event,
-) -> Result<(), NoMemory>
-    requires fits { Fits x.now (instance_of event.now) }
-    requires within { index < length run.now }
-    ensures { OnOk result (text.new ≡
-        text.old ++ written (flat_map drawn (strokes_at x.now run.now (index, event.now)))) }
+/// Appends the strokes of the event: what leads to it or from it, and its mark.
+fn push_strokes_at(text: &mut Bytes, s: &ShownEvent<'_>) -> Result<(), NoMemory>
+    ensures { OnOk result (text.new ≡ text.old ++ as_html (flat_map drawn
+        (strokes_at s.now.x.now s.now.run.now (s.now.index, s.now.event.now)))) }
 {
-    push_line(text, x, run, index, event)?;
-    push_circle(
-        text,
-        run,
-        b"<circle class=\"m\" cx=\"",
-        event.role(x),
-        index,
-        b"\" r=\"4\"/>\n",
-    )
+    push_line(text, s)?;
+    push_circle(text, MARK, s.run, s.event.role(s.x), s.index)
 }
 
 /// Appends the arrow of a reception, or the stub of an emission that is not received.
-fn push_line(
-    text: &mut Bytes,
-    x: &Expanded,
-    run: &[Event],
-    index: usize,
-    event: &Event,
-) -> Result<(), NoMemory>
-    requires fits { Fits x.now (instance_of event.now) }
-    requires within { index < length run.now }
-    ensures { OnOk result (text.new ≡
-        text.old ++ written (flat_map drawn (line_at x.now run.now index event.now))) }
+fn push_line(text: &mut Bytes, s: &ShownEvent<'_>) -> Result<(), NoMemory>
+    ensures { OnOk result (text.new ≡ text.old ++ as_html (flat_map drawn
+        (line_at s.now.x.now s.now.run.now s.now.index s.now.event.now))) }
 {
-    match event {
+    match s.event {
         Event::Emit(instance) => {
-            if is_received(run, instance) {
+            if is_received(s.run, instance) {
                 return Ok(());
             }
-            push_stub(text, run, index, x.message_at(instance.message))
+            push_stub(text, s.run, s.index, s.x.message_at(instance.message))
         }
-        Event::Receive(instance) => match emission_index(run, instance) {
-            Some(sent) => push_arrow(text, run, sent, index, x.message_at(instance.message)),
+        Event::Receive(instance) => match emission_index(s.run, instance) {
+            Some(sent) => {
+                let message = s.x.message_at(instance.message);
+                push_arrow(text, s.run, sent, s.index, message)
+            }
             None => Ok(()),
         },
     }
@@ -87,20 +74,17 @@ fn push_arrow(
     requires emitted { sent < length run.now }
     requires within { received < length run.now }
     ensures { OnOk result (text.new ≡ text.old ++
-        written (drawn (Arrow sent message.now.sender received message.now.receiver))) }
+        as_html (drawn (Arrow sent message.now.sender received message.now.receiver))) }
 {
-    push_pieces(
+    fill(
         text,
+        ARROW,
         &[
-            Piece::Tag(b"<path class=\"m\" d=\"M"),
-            Piece::Number(column(message.sender)),
-            Piece::Tag(b" "),
-            Piece::Number(row(run, sent)),
-            Piece::Tag(b"L"),
-            Piece::Number(head_start(message.sender, message.receiver)),
-            Piece::Tag(b" "),
-            Piece::Number(row(run, received)),
-            Piece::Tag(arrow_head(message.sender, message.receiver)),
+            Fragment::Number(column(message.sender)),
+            Fragment::Number(row(run, sent)),
+            Fragment::Number(head_start(message.sender, message.receiver)),
+            Fragment::Number(row(run, received)),
+            Fragment::Tag(arrow_head(message.sender, message.receiver)),
         ],
     )
 }
@@ -114,16 +98,15 @@ fn push_stub(
 ) -> Result<(), NoMemory>
     requires { index < length run.now }
     ensures { OnOk result (text.new ≡ text.old ++
-        written (drawn (Stub index message.now.sender message.now.receiver))) }
+        as_html (drawn (Stub index message.now.sender message.now.receiver))) }
 {
-    push_pieces(
+    fill(
         text,
+        STUB,
         &[
-            Piece::Tag(b"<path d=\"M"),
-            Piece::Number(column(message.sender)),
-            Piece::Tag(b" "),
-            Piece::Number(row(run, index)),
-            Piece::Tag(open_end(message.sender, message.receiver)),
+            Fragment::Number(column(message.sender)),
+            Fragment::Number(row(run, index)),
+            Fragment::Tag(open_end(message.sender, message.receiver)),
         ],
     )
 }
@@ -144,9 +127,9 @@ fn arrow_head(sender: u32, receiver: u32) -> &'static [u8]
     ensures { result.now ≡ arrow_head sender receiver }
 {
     if sender < receiver {
-        b"m0-5l11 5-11 5z\"/>\n"
+        RIGHT_HEAD
     } else {
-        b"m0-5l-11 5 11 5z\"/>\n"
+        LEFT_HEAD
     }
 }
 
@@ -155,8 +138,8 @@ fn open_end(sender: u32, receiver: u32) -> &'static [u8]
     ensures { result.now ≡ open_end sender receiver }
 {
     if sender < receiver {
-        b"h52a4 4 0 1 0 8 0a4 4 0 1 0-8 0\"/>\n"
+        RIGHT_END
     } else {
-        b"h-52a4 4 0 1 0-8 0a4 4 0 1 0 8 0\"/>\n"
+        LEFT_END
     }
 }

@@ -1,13 +1,12 @@
-ghost use Rattle.std.specs.Prelude.{◌≡◌, ◌∷◌, ◌++◌, IfOk, OnOk};
+ghost use Rattle.std.specs.Prelude.{◌≡◌, ◌∷◌, ◌++◌, IfOk, take};
 ghost use Rattle.std.specs.List.{flat_map};
-ghost use Rattle.page_parts.specs.Fragment.{written};
 ghost use Rattle.run_chart.specs.Knowledge.{field};
-ghost use Rattle.run_chart.specs.Labels.{cut};
+ghost use Rattle.run_chart.specs.Words.{ellipsis};
 
 use super::knowledge::{Pair, push_field};
+use super::wording::ELLIPSIS;
 use bspl_types::Expanded;
 use list_base::{Bytes, NoMemory};
-use page_parts::{Piece, push_pieces};
 use std::alloc::Global;
 
 /// A name, and after it each pair as a field.
@@ -28,15 +27,20 @@ pub(crate) fn name_and_fields(
     Ok(words)
 }
 
-/// Appends the words, of which no more than so many bytes are shown.
-pub(crate) fn push_cut(text: &mut Bytes, most: usize, words: &[u8]) -> Result<(), NoMemory>
-    ensures { OnOk result (text.new ≡ text.old ++ written (cut most words.now)) }
+/// No more than so many bytes of the words.
+pub(crate) fn cut(most: usize, words: &[u8]) -> &[u8]
+    ensures { result.now ≡ take most words.now }
 {
     if words.len() <= most {
-        return push_pieces(text, &[Piece::Words(words)]);
+        words
+    } else {
+        &words[..most]
     }
-    push_pieces(
-        text,
-        &[Piece::Words(&words[..most]), Piece::Tag(b"&#8230;")],
-    )
+}
+
+/// That words go on, if there are more bytes.
+pub(crate) fn ellipsis(most: usize, words: &[u8]) -> &'static [u8]
+    ensures { result.now ≡ ellipsis most words.now }
+{
+    if words.len() <= most { b"" } else { ELLIPSIS }
 }

@@ -2,8 +2,8 @@
 use Rattle.std.specs.Prelude.{◌≡◌, ℕ, List, Option, Some, slice_get}
 use Rattle.bspl_types.specs.declared.expanded.Expanded.{Expanded}
 use Rattle.enactability.specs.Enactable.{Enactable}
-use Rattle.page_sections.specs.declared.fate.Fate.{Fate}
-use Rattle.page_sections.specs.declared.fate.Fate.TheVariants.{Dead, Sent, Undecided}
+use Rattle.message_fates.specs.declared.fate.Fate.{Fate}
+use Rattle.message_fates.specs.declared.fate.Fate.TheVariants.{Dead, Sent, Undecided}
 
 -- the fate is that the message is sent, and some legal run emits it; or that it is dead, and none does
 abbrev pub IsKnownFate : Expanded → ℕ → Fate → Type 0

@@ -1,6 +1,6 @@
 -- How events are counted by their messages, and the lines of the counts.
 use Rattle.std.specs.Prelude.{◌≡◌, ℕ, ◌+◌, ◌^◌, ◌<◌, List, [], ◌∷◌, codes, length, map, replicate}
-use Rattle.std.specs.Prelude.{slice_index_or, take}
+use Rattle.std.specs.Prelude.{take}
 use Rattle.std.specs.Fmt.{decimal}
 use Rattle.std.specs.List.{concat, count_by, enumerate_from, flat_map}
 use Rattle.bspl_types.specs.declared.event.Event.{Event}
@@ -11,36 +11,29 @@ use Rattle.adapter.specs.Desk.{DeskState}
 use Rattle.local_store.specs.State.{acts_of}
 use Rattle.refutation_log.specs.LogText.{line_of}
 use Rattle.report.specs.declared.count.Count.{Count}
+use Rattle.report.specs.WorldCounts.{count_of_message, no_count}
 use Rattle.report.specs.WorldText.{receives, sends}
 
 -- the events of all desks
 abbrev pub acts_of_all : List DeskState → List Event
 acts_of_all desks = flat_map (λ d. acts_of d.store) desks
 
--- a message that was not counted
-abbrev pub no_count : Count
-no_count = record { sent = 0; received = 0 }
-
 -- no message was counted
 abbrev pub no_counts : List Count
 no_counts = replicate message_limit no_count
-
--- the count of message m
-abbrev pub count_at : List Count → ℕ → Count
-count_at counts m = slice_index_or counts m no_count
 
 -- each count grew by the events of its message
 pub record GrowBy (events : List Event) (old new : List Count) : Type 0 where
   pub as_many : length new ≡ length old
   pub sent : (m : ℕ) → m < length old →
-      (count_at new m).sent ≡ (count_at old m).sent + count_by (sends m) events
+      (count_of_message new m).sent ≡ (count_of_message old m).sent + count_by (sends m) events
   pub received : (m : ℕ) → m < length old →
-      (count_at new m).received ≡ (count_at old m).received + count_by (receives m) events
+      (count_of_message new m).received ≡ (count_of_message old m).received + count_by (receives m) events
 
 -- so many events more can be counted
 pub record HaveRoom (events : ℕ) (counts : List Count) : Type 0 where
-  pub sent : (m : ℕ) → (count_at counts m).sent + events < 2 ^ 64
-  pub received : (m : ℕ) → (count_at counts m).received + events < 2 ^ 64
+  pub sent : (m : ℕ) → (count_of_message counts m).sent + events < 2 ^ 64
+  pub received : (m : ℕ) → (count_of_message counts m).received + events < 2 ^ 64
 
 -- the line of message m with its counts
 abbrev pub counted_line : Expanded → ℕ → Count → List ℕ
@@ -52,5 +45,5 @@ counted_line x m count = line_of
 -- the lines of the first messages
 abbrev pub counted_lines : Expanded → List Count → ℕ → List ℕ
 counted_lines x counts messages =
-    concat (map (λ (m, _). counted_line x m (count_at counts m))
+    concat (map (λ (m, _). counted_line x m (count_of_message counts m))
     (enumerate_from 0 (take messages x.messages)))

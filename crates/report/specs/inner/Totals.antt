@@ -1,13 +1,13 @@
 -- How all events are counted, and how many parameters are known.
-use Rattle.std.specs.Prelude.{◌≡◌, ℕ, ◌+◌, ◌^◌, ◌<◌, List, Option, Some, length, is_some, slice_get}
+use Rattle.std.specs.Prelude.{◌≡◌, ℕ, ◌+◌, ◌^◌, ◌<◌, List, Option, is_some}
 use Rattle.std.specs.Prelude.{sum}
 use Rattle.std.specs.List.{AllZip, count_by}
 use Rattle.bspl_types.specs.declared.event.Event.{Event}
 use Rattle.bspl_types.specs.declared.expanded.Expanded.{Expanded}
 use Rattle.bspl_types.specs.declared.value.Value.{Value}
-use Rattle.stamped_history.specs.TableValue.{IsTableValue}
 use Rattle.report.specs.declared.count.Count.{Count}
 use Rattle.report.specs.Summary.{KnowsAsMany, is_emission, is_reception}
+use Rattle.report.specs.WorldText.{AreFirstCells}
 
 -- the count grew by the events
 pub record GrowsBy (events : List Event) (old new : Count) : Type 0 where
@@ -23,9 +23,7 @@ pub record HasRoom (events : ℕ) (count : Count) : Type 0 where
 pub record KnowsFirst (x : Expanded) (run : List Event) (key : List Value) (params n : ℕ)
     : Type 0 where
   pub cells : List (Option Value)
-  pub count : length cells ≡ params
-  pub each : (p : ℕ) (cell : Option Value) → slice_get cells p ≡ Some cell →
-      IsTableValue x run key p cell
+  pub are : AreFirstCells x run key params cells
   pub many : n ≡ count_by is_some cells
 
 -- this many are known under the keys together

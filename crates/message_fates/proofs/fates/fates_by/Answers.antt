@@ -1,6 +1,6 @@
 -- All fates are known.
 use Rattle.std.proofs.Common.{◌≡◌, List, Option, Some, IfSome, map, subst, ◌∙◌}
-use Rattle.page_sections.specs.declared.fate.Fate.{Fate}
+use Rattle.message_fates.specs.declared.fate.Fate.{Fate}
 use Rattle.message_fates.proofs.FateLemmas.{known_found}
 use Rattle.message_fates.proofs.fates.fates_by.Goals as goal
 

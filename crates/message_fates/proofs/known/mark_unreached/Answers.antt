@@ -3,8 +3,8 @@ use Rattle.std.proofs.Common.{◌≡◌, List, Option, Some, length, subst, sym,
 use Rattle.std.proofs.lemmas.Bool.{false≢true}
 use Rattle.std.proofs.lemmas.List.{length-set}
 use Rattle.enactability.specs.Enactable.{Enactable}
-use Rattle.page_sections.specs.declared.fate.Fate.{Fate}
-use Rattle.page_sections.specs.declared.fate.Fate.TheVariants.{Dead}
+use Rattle.message_fates.specs.declared.fate.Fate.{Fate}
+use Rattle.message_fates.specs.declared.fate.Fate.TheVariants.{Dead}
 use Rattle.message_fates.specs.inner.Known.{AreKnown}
 use Rattle.message_fates.proofs.KnownLemmas.{known_more}
 use Rattle.message_fates.proofs.known.mark_unreached.Goals as goal

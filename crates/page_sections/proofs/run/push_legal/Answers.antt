@@ -1,13 +1,20 @@
--- The section has the conflict that was found.
+-- What is said, the chart, and the report, one after another.
+use Rattle.std.proofs.Common.{◌≡◌, ◌++◌}
 use Rattle.std.proofs.lemmas.Result.{on_ok_weaker}
-use Rattle.page_sections.proofs.RunLemmas.{appends_legal}
+use Rattle.html.specs.Fragment.{as_html}
+use Rattle.run_chart.specs.Chart.{chart}
+use Rattle.page_sections.specs.RunVerdict.{finding_of}
+use Rattle.page_sections.specs.RunWords.{legal_words, report_part}
+use Rattle.page_sections.proofs.GroupLemmas.{then_written}
 use Rattle.page_sections.proofs.run.push_legal.Goals as goal
 
 pub returns : goal.returns
 returns c =
-    let same = c.expanded.ensures.same in
-    let none = rw same at c.in_ok-found.ensures.none in
-    let least = rw same at c.in_ok-found.ensures.least in
-    on_ok_weaker c.push_found.result
-    (appends_legal c.args.a.now c.args.index.now c.in_ok-found.found c.args.report.now c.args.text.now _ c.requires.fits c.requires.legal none least)
-    (rw c.events.ensures at c.push_found.ensures)
+    let old = c.args.text.now in
+    let x = c.args.a.now in
+    let words = legal_words x c.args.found in
+    let picture = chart x c.args.run.now (finding_of c.args.found) in
+    let one : c.push_legal_words.new.text ≡ old ++ as_html words = rw c.expanded.ensures.same at c.in_ok-push_legal_words.ensures in
+    let drawn : c.push_chart.new.text ≡ c.push_legal_words.new.text ++ as_html picture = rw c.finding_of.ensures at c.in_ok-push_chart.ensures in
+    let two = then_written old c.push_legal_words.new.text c.push_chart.new.text words picture one drawn in
+    on_ok_weaker c.push_report.result (then_written old c.push_chart.new.text c.push_report.new.text (words ++ picture) (report_part c.args.report.now) two) c.push_report.ensures

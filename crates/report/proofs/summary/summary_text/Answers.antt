@@ -4,7 +4,7 @@ use Rattle.std.specs.List.{count_by}
 use Rattle.bspl_types.specs.declared.expanded.Expanded.{Expanded}
 use Rattle.report.specs.Summary.{count_line, is_emission, is_reception}
 use Rattle.report.specs.inner.Totals.{KnowsUnder}
-use Rattle.report.specs.inner.WorldRows.{IsRunOfDesks}
+use Rattle.report.specs.WorldRows.{IsRunOfWorld}
 use Rattle.report.proofs.RoleCounts.{run_counts}
 use Rattle.report.proofs.summary.summary_text.Goals as goal
 
@@ -15,9 +15,9 @@ returns c = λ run local has.
     let desks = c.args.world.now.desks in
     let total = c.count_all-total.result in
     let same : c.expanded-x.result.now ≡ x = c.expanded-x.ensures.same in
-    let is : IsRunOfDesks x desks run = record { are_desks = c.requires.desks; local = local; histories = has } in
+    let is : IsRunOfWorld x desks run = record { are_desks = c.requires.desks; local = local; histories = has } in
     let known : KnowsUnder x run keys c.count_known.result =
-    subst (λ (y : Expanded). IsRunOfDesks y desks run → KnowsUnder y run keys c.count_known.result) same (c.count_known.ensures run) is in
+    subst (λ (y : Expanded). IsRunOfWorld y desks run → KnowsUnder y run keys c.count_known.result) same (c.count_known.ensures run) is in
     let sent : total.sent ≡ count_by is_emission run = omega (arith, c.count_all-total.ensures.sent, run_counts is_emission x desks run has) in
     let received : total.received ≡ count_by is_reception run = omega (arith, c.count_all-total.ensures.received, run_counts is_reception x desks run has) in
     let first : c.push_line.new.text ≡ count_line (codes "keys") (length keys) =

@@ -7,7 +7,8 @@ use Rattle.bspl_types.specs.declared.event.Event.{Event}
 use Rattle.adapter.specs.Desk.{DeskState}
 use Rattle.local_store.specs.State.{StoreState, acts_of}
 use Rattle.stamped_history.specs.declared.entry.Entry.{Entry}
-use Rattle.report.specs.inner.Counts.{acts_of_all, no_count}
+use Rattle.report.specs.WorldCounts.{no_count}
+use Rattle.report.specs.inner.Counts.{acts_of_all}
 use Rattle.report.specs.inner.Totals.{GrowsBy}
 use Rattle.report.proofs.RoleCounts.{desks_more}
 use Rattle.report.proofs.TotalLemmas.{grows_both, room_for_desk}

@@ -1,6 +1,7 @@
 -- What has been counted of the stores.
 use Rattle.std.proofs.Common.{◌*◌, ◌≤◌, length, take}
-use Rattle.report.specs.inner.Counts.{acts_of_all, no_count}
+use Rattle.report.specs.WorldCounts.{no_count}
+use Rattle.report.specs.inner.Counts.{acts_of_all}
 use Rattle.report.specs.inner.Totals.{GrowsBy}
 use Rattle.report.proofs.world_totals.count_all.Given as goal
 

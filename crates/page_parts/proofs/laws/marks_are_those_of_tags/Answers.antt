@@ -1,6 +1,0 @@
--- Each part has the marks of its tag.
-use Rattle.page_parts.proofs.MarkupLemmas.{all_marks}
-use Rattle.page_parts.proofs.laws.marks_are_those_of_tags.Goals as goal
-
-pub returns : goal.returns
-returns c = all_marks

@@ -1,6 +1,0 @@
--- The events of a right verdict clash.
-use Rattle.verdict_words.proofs.NamedLemmas.{clash}
-use Rattle.verdict_words.proofs.laws.named_events_clash.Goals as goal
-
-pub returns : goal.returns
-returns c = clash c.legal_by_positions.ensures
