@@ -13,9 +13,10 @@ use Rattle.script_text.specs.Laws.{OneRefusal, ScriptIsNotRefused}
 use Rattle.verdict.specs.declared.outcome.Safety.{Safety}
 use Rattle.verdict.specs.declared.outcome.Safety.TheVariants.{Safe, Undecided, Unsafe}
 use Rattle.tool_input.specs.declared.rejection.Rejection.{Rejection}
-use Rattle.bspl_tool.specs.declared.world_report.WorldReport.{WorldReport}
-use Rattle.bspl_tool.specs.PlayedText.{AgentsText}
-use Rattle.bspl_tool.specs.RunAnswer.{IsRunRefused, script_rejection}
+use Rattle.agent_commands.specs.declared.world_report.WorldReport.{WorldReport}
+use Rattle.agent_commands.specs.PlayedText.{AgentsText, IsPlayedText}
+use Rattle.agent_commands.specs.RunAnswer.{IsRunRefused}
+use Rattle.rejections.specs.PartRejection.{script_rejection}
 use Rattle.bspl_tool.proofs.ClaimsNothing.{IsBlock, no_lines}
 use Rattle.bspl_tool.proofs.RejectedNames.{HasNames}
 use Rattle.bspl_tool.proofs.WorldLines.{report_is_block}
@@ -26,7 +27,7 @@ pub record OneAgents : Type 0 where
   pub exclusive : ScriptIsNotRefused
 
 -- what is written of the agents claims nothing
-pub agents_are_block : (report : WorldReport) (threads : ℕ) (job : Job) (safety : Safety) (text : List ℕ) → AgentsText report threads job safety text → IsBlock text
+pub agents_are_block : (report : WorldReport) (threads : ℕ) (job : Job) (safety : Safety) (text : List ℕ) → AgentsText (IsPlayedText report threads job) safety text → IsBlock text
 agents_are_block report threads job (Safe log) text played = report_is_block report job.protocol job.script played.finished.run text played.text_is
 agents_are_block report threads job (Unsafe run param first second) text none = subst IsBlock (sym none) no_lines
 agents_are_block report threads job (Undecided log) text none = subst IsBlock (sym none) no_lines

@@ -17,7 +17,8 @@ use Rattle.report.specs.AuditText.{bad_place_line, consistent_text, cycle_line, 
 use Rattle.report.specs.ReplayLines.{reason_fields}
 use Rattle.tool_input.specs.declared.rejection.Rejection.{Rejection}
 use Rattle.tool_input.specs.declared.status.Status.{Status}
-use Rattle.bspl_tool.specs.AuditAnswer.{IsAudited, IsAuditRefused, NamesFault, audit_rules, bad_place, cycle, histories_rejection}
+use Rattle.evidence_commands.specs.AuditAnswer.{IsAudited, IsAuditRefused, NamesFault, audit_rules, bad_place, cycle}
+use Rattle.rejections.specs.PartRejection.{histories_rejection}
 use Rattle.bspl_tool.proofs.ClaimsNothing.{IsBlock, block_joined}
 use Rattle.bspl_tool.proofs.CommandLaws.{CommandLaws, honest_nothing}
 use Rattle.bspl_tool.proofs.EvidenceLines.{run_is_block}

@@ -6,14 +6,15 @@ use Rattle.bspl_types.specs.Expansion.{message_name}
 use Rattle.enactability.specs.DeadText.{IsDeadText}
 use Rattle.enactability.specs.Laws.{AcceptedDeadDoesNotFail, DeadLogFailsOnce, DeadLogIsNotRefused, TextHasOneDeadLog, TextHasOneDeadRefusal}
 use Rattle.enactability.specs.Refusal.{IsOneMessage}
-use Rattle.log_lines.specs.LogLines.{log_rejection, reject_line}
+use Rattle.rejections.specs.PartRejection.{log_rejection}
+use Rattle.rejections.specs.FailureLine.{reject_line}
 use Rattle.refutation_log.specs.declared.refutation.Log.{Log}
 use Rattle.tool_input.specs.declared.rejection.Rejection.{Rejection}
 use Rattle.tool_input.specs.declared.status.Status.{Status}
 use Rattle.tool_input.specs.Lines.{line}
-use Rattle.bspl_tool.specs.CheckDeadAnswer.{IsCheckDeadAnswer, IsCheckDeadRefused, SaysAcceptedDead, SaysRejectedDead, check_dead_rules}
+use Rattle.evidence_commands.specs.CheckDeadAnswer.{IsCheckDeadAnswer, IsCheckDeadRefused, SaysAcceptedDead, SaysRejectedDead, check_dead_rules}
 use Rattle.bspl_tool.specs.Laws.{IsOutput}
-use Rattle.bspl_tool.specs.Texts.{accepted_dead_line}
+use Rattle.evidence_commands.specs.CheckDeadAnswer.{accepted_dead_line}
 use Rattle.bspl_tool.proofs.CheckLaws.{line_names, not_memory, reject_claims_nothing}
 use Rattle.bspl_tool.proofs.ClaimsNothing.{ClaimsNothing, line_claims_nothing}
 use Rattle.bspl_tool.proofs.CommandLaws.{CommandLaws, honest_nothing}

@@ -3,10 +3,13 @@ use Rattle.std.proofs.Common.{◌≡◌, ◌≢◌, ◌⊎◌, ℕ, false, List,
 use Rattle.std.specs.Fmt.{decimal}
 use Rattle.std.specs.Prelude.{IfSome}
 use Rattle.bspl_types.specs.declared.expanded.Expanded.{Expanded}
-use Rattle.log_lines.specs.LogLines.{log_rejection, reject_line, reject_words}
+use Rattle.rejections.specs.PartRejection.{log_rejection}
+use Rattle.rejections.specs.FailureLine.{reject_line, reject_words}
 use Rattle.log_checker.specs.declared.refusal.Reject.{Reject}
 use Rattle.log_checker.specs.declared.refusal.Reject.TheVariants.{NoClause, NoDrop, NoMemory, NoPivot, NotEmpty}
-use Rattle.protocol_check.specs.Laws.{AcceptedLivenessDoesNotFail, AcceptedSafetyDoesNotFail, LivenessFailsOnce, SafetyFailsOnce}
+use Rattle.enactment_model.specs.Property.{Holds}
+use Rattle.protocol_check.specs.Check.{property_of}
+use Rattle.protocol_check.specs.Laws.{AcceptedLogDoesNotFail, LogFailsOnce}
 use Rattle.refutation_log.specs.declared.refusal.LogRefusal.{LogRefusal}
 use Rattle.refutation_log.specs.declared.refusal.LogRefusal.TheVariants as log
 use Rattle.refutation_log.specs.declared.refutation.Kind.{Kind}
@@ -16,8 +19,7 @@ use Rattle.refutation_log.specs.LogText.{IsTextOf}
 use Rattle.refutation_log.specs.TextLaws.{LogIsNotRefused, TextHasOneLog, TextHasOneRefusal}
 use Rattle.tool_input.specs.declared.rejection.Rejection.{Rejection}
 use Rattle.tool_input.specs.declared.status.Status.{Status}
-use Rattle.bspl_tool.specs.CheckAnswer.{Accepts, Fails, IsCheckAnswer, IsCheckRefused, SaysAccepted, SaysRejected, check_rules, claim_of}
-use Rattle.bspl_tool.specs.Claims.{IsClaimTrue, claim_line}
+use Rattle.evidence_commands.specs.CheckAnswer.{IsCheckAnswer, IsCheckRefused, SaysAccepted, SaysRejected, check_rules, accepted_kind_line}
 use Rattle.bspl_tool.specs.Laws.{IsOutput}
 use Rattle.tool_input.specs.Lines.{line}
 use Rattle.bspl_tool.proofs.ClaimsNothing.{ClaimsNothing, line_claims_nothing}
@@ -30,10 +32,8 @@ pub record OneCheck : Type 0 where
   pub logs : TextHasOneLog
   pub refusals : TextHasOneRefusal
   pub exclusive : LogIsNotRefused
-  pub safety : SafetyFailsOnce
-  pub safe : AcceptedSafetyDoesNotFail
-  pub liveness : LivenessFailsOnce
-  pub live : AcceptedLivenessDoesNotFail
+  pub failure : LogFailsOnce
+  pub accepted : AcceptedLogDoesNotFail
 
 -- a refusal that is written is not that memory ran out
 pub not_memory : (refusal : LogRefusal) (r : Rejection) → log_rejection refusal ≡ Some r → refusal ≢ log.NoMemory
@@ -75,17 +75,15 @@ reject_claims_nothing NotEmpty = line_claims_nothing (reject_words NotEmpty) ref
 reject_claims_nothing NoMemory = line_claims_nothing (reject_words NoMemory) refl refl
 
 -- the line of an accepted log claims one property, which is true
-accepted_is_honest : (x : Expanded) (kind : Kind) (n : ℕ) → IsClaimTrue (claim_of kind) x → IsHonest x (take n (line (claim_line (claim_of kind))))
-accepted_is_honest x Safety n holds = honest_if x (line (claim_line (claim_of Safety))) n (inl holds) (inr (record { first = refl; later = refl })) (λ name field. record { first = refl; later = refl })
-accepted_is_honest x Liveness n holds = honest_if x (line (claim_line (claim_of Liveness))) n (inr (record { first = refl; later = refl })) (inl holds) (λ name field. record { first = refl; later = refl })
+accepted_is_honest : (x : Expanded) (kind : Kind) (n : ℕ) → Holds (property_of kind) x → IsHonest x (take n (line (accepted_kind_line kind)))
+accepted_is_honest x Safety n holds = honest_if x (line (accepted_kind_line Safety)) n (inl holds) (inr (record { first = refl; later = refl })) (λ name field. record { first = refl; later = refl })
+accepted_is_honest x Liveness n holds = honest_if x (line (accepted_kind_line Liveness)) n (inr (record { first = refl; later = refl })) (inl holds) (λ name field. record { first = refl; later = refl })
 
 -- an answer claims only what is true
 check_is_honest : (x : Expanded) (part out : List ℕ) (status : Status) (n : ℕ) → IsCheckAnswer x part out status → IsHonest x (take n out)
 check_is_honest x part out status n answer =
     elim answer.answer [
-      | inl says ↦
-          let is : line (claim_line (claim_of answer.kind)) ≡ out = ap (λ claim. line (claim_line claim)) (sym says.accepted.claim_is) ∙ sym says.text in
-          subst (λ text. IsHonest x (take n text)) is (accepted_is_honest x answer.kind n (subst (λ claim. IsClaimTrue claim x) says.accepted.claim_is says.accepted.claimed))
+      | inl says ↦ subst (λ text. IsHonest x (take n text)) (sym says.text) (accepted_is_honest x answer.kind n says.holds)
       | inr rejected ↦ honest_nothing x out n (subst ClaimsNothing (sym rejected.text) (reject_claims_nothing rejected.reject))
     ]
 
@@ -99,24 +97,13 @@ line_names log.NoMemory = tt
 check_names : (part : List ℕ) (r : Rejection) → IsCheckRefused part r → HasNames r
 check_names part r refused = subst (λ o. IfSome o HasNames) refused.rejection_is (line_names refused.refusal)
 
--- a log has one first failure
-fails_once : OneCheck → (x : Expanded) (kind : Kind) (of : Log) (first second : Reject) → Fails x kind of first → Fails x kind of second → first ≡ second
-fails_once once x Safety of first second one other = once.safety x of first second one other
-fails_once once x Liveness of first second one other = once.liveness x of first second one other
-
--- and none if it is accepted
-accepted_or_fails : OneCheck → (x : Expanded) (kind : Kind) (of : Log) (reject : Reject) → Accepts x kind of → Fails x kind of reject → ⊥
-accepted_or_fails once x Safety of reject accepts fails = once.safe x of reject accepts fails
-accepted_or_fails once x Liveness of reject accepts fails = once.live x of reject accepts fails
-
 -- two answers on one log are one
 same_answer : OneCheck → (x : Expanded) (kind : Kind) (of : Log) (out out' : List ℕ) (status status' : Status) → SaysAccepted x kind of out status ⊎ SaysRejected x kind of out status → SaysAccepted x kind of out' status' ⊎ SaysRejected x kind of out' status' → IsOutput out status out' status'
-same_answer once x kind of out out' status status' (inl one) (inl other) =
-    (one.text ∙ ap (λ claim. line (claim_line claim)) (one.accepted.claim_is ∙ sym other.accepted.claim_is) ∙ sym other.text, one.done ∙ sym other.done)
-same_answer once x kind of out out' status status' (inl one) (inr other) = absurd (accepted_or_fails once x kind of other.reject one.accepted.accepts other.fails)
-same_answer once x kind of out out' status status' (inr one) (inl other) = absurd (accepted_or_fails once x kind of one.reject other.accepted.accepts one.fails)
+same_answer once x kind of out out' status status' (inl one) (inl other) = (one.text ∙ sym other.text, one.done ∙ sym other.done)
+same_answer once x kind of out out' status status' (inl one) (inr other) = absurd (once.accepted (property_of kind) x of other.reject one.accepts other.fails)
+same_answer once x kind of out out' status status' (inr one) (inl other) = absurd (once.accepted (property_of kind) x of one.reject other.accepts one.fails)
 same_answer once x kind of out out' status status' (inr one) (inr other) =
-    (one.text ∙ ap (λ reject. reject_line reject) (fails_once once x kind of one.reject other.reject one.fails other.fails) ∙ sym other.text, one.refuted ∙ sym other.refuted)
+    (one.text ∙ ap (λ reject. reject_line reject) (once.failure (property_of kind) x of one.reject other.reject one.fails other.fails) ∙ sym other.text, one.refuted ∙ sym other.refuted)
 
 -- and so on one part
 checked_once : OneCheck → (x : Expanded) (part out out' : List ℕ) (status status' : Status) → IsCheckAnswer x part out status → IsCheckAnswer x part out' status' → IsOutput out status out' status'

@@ -6,10 +6,9 @@ use Rattle.std.proofs.lemmas.Bool.{and_from, and_parts, both_ways, eq-eqb, eqb-t
 use Rattle.std.proofs.lemmas.List.{take-append-drop}
 use Rattle.std.proofs.lemmas.List.Folds.{list_any-append}
 use Rattle.std.proofs.lemmas.List.Splits.{join_with_byte-slice_split}
-use Rattle.bspl_tool.specs.declared.claim.Claim.{Claim}
-use Rattle.bspl_tool.specs.declared.claim.Claim.TheVariants.{AcceptedLiveness, AcceptedSafety, LivenessLive, SafetySafe}
-use Rattle.bspl_tool.specs.Claims.{MessageClaim, SaysDead, SaysEnacted, all_claims, claim_line, message_claim_line}
-use Rattle.bspl_tool.specs.Texts.{SaysLine, dead_line, enacted_line}
+use Rattle.bspl_tool.specs.Claims.{AcceptedLiveness, AcceptedSafety, Claim, LivenessLive, MessageClaim, SafetySafe, SaysDead, SaysEnacted, all_claims, claim_line, message_claim_line}
+use Rattle.bspl_tool.specs.Texts.{SaysLine}
+use Rattle.verdict_commands.specs.MessageLines.{dead_line, enacted_line}
 use Rattle.tool_input.specs.Lines.{line, lines}
 use Rattle.bspl_tool.proofs.Unbroken.{has_byte, has_lf, joined_has_none}
 

@@ -8,11 +8,9 @@ use Rattle.tool_input.specs.declared.rejection.Rejection.{Rejection}
 use Rattle.tool_input.specs.declared.status.Status.{Status}
 use Rattle.enactment_model.specs.Liveness.{LiveProtocol}
 use Rattle.enactment_model.specs.Safety.{SafeProtocol}
-use Rattle.bspl_tool.specs.declared.claim.Claim.{Claim}
-use Rattle.bspl_tool.specs.declared.claim.Claim.TheVariants.{AcceptedLiveness, AcceptedSafety, LivenessLive, SafetySafe}
-use Rattle.bspl_tool.specs.Claims.{IsClaimTrue, IsTrueOfMessage, MessageClaim, claim_line, message_claim_line}
+use Rattle.bspl_tool.specs.Claims.{AcceptedLiveness, AcceptedSafety, Claim, IsClaimTrue, IsTrueOfMessage, LivenessLive, MessageClaim, SafetySafe, claim_line, message_claim_line}
 use Rattle.bspl_tool.specs.Laws.{IsOutput}
-use Rattle.bspl_tool.specs.Rules.{CommandRules}
+use Rattle.tool_frame.specs.Rules.{CommandRules}
 use Rattle.bspl_tool.specs.Texts.{SaysLine}
 use Rattle.bspl_tool.proofs.ClaimsNothing.{Avoids, ClaimsNothing, IsField, liveness_lines, message_lines, safety_lines, says_no_message, says_none, says_nothing}
 use Rattle.bspl_tool.proofs.NameBytes.{name_is_field}

@@ -20,8 +20,9 @@ use Rattle.refutation_log.specs.LogText.{entry_line, least_version}
 use Rattle.tool_input.specs.declared.status.Status.{Status}
 use Rattle.tool_input.specs.Lines.{line}
 use Rattle.bspl_tool.specs.Claims.{IsTrueOfMessage, MessageClaim, SaysDead, SaysEnacted, message_claim_line}
-use Rattle.bspl_tool.specs.DeadAnswer.{IsDeadAnswer, dead_rules, message_evidence, message_line, message_part, message_text, messages_text}
-use Rattle.bspl_tool.specs.Texts.{SaysLine, dead_line, enacted_line}
+use Rattle.verdict_commands.specs.DeadAnswer.{IsDeadAnswer, dead_rules, message_evidence, message_line, message_part, message_text, messages_text}
+use Rattle.bspl_tool.specs.Texts.{SaysLine}
+use Rattle.verdict_commands.specs.MessageLines.{dead_line, enacted_line}
 use Rattle.bspl_tool.proofs.ClaimsNothing.{IsBlock, IsBlockWithout, IsField, block_joined, claim_lines, joined_without, no_lines, says_no_claim, says_none, starts, starts_itself, whole_line_without, without_claim, without_claims, without_message}
 use Rattle.bspl_tool.proofs.CommandLaws.{CommandLaws, IsHonest}
 use Rattle.bspl_tool.proofs.EvidenceLines.{blocks_joined, entry_is_block, message_has_no_lf, message_is_field, run_is_block}

@@ -2,7 +2,7 @@
 use Rattle.std.proofs.Common.{◌≡◌, ℕ, List, sym, ◌∙◌, subst}
 use Rattle.bspl_types.specs.declared.expanded.Expanded.{Expanded}
 use Rattle.protocol_expand.specs.Printed.{IsPrinted}
-use Rattle.bspl_tool.specs.ExpandAnswer.{expand_rules}
+use Rattle.verdict_commands.specs.ExpandAnswer.{expand_rules}
 use Rattle.bspl_tool.proofs.ClaimsNothing.{ClaimsNothing}
 use Rattle.bspl_tool.proofs.CommandLaws.{CommandLaws, honest_nothing}
 use Rattle.bspl_tool.proofs.PrintedLines.{printed_claims_nothing}

@@ -7,8 +7,8 @@ use Rattle.report.specs.VerdictText.{liveness_line, safety_line}
 use Rattle.verdict.specs.declared.outcome.Verdicts.{Verdicts}
 use Rattle.verdict.specs.Verdicts.{AreRight}
 use Rattle.tool_input.specs.declared.status.Status.{Status}
-use Rattle.bspl_tool.specs.declared.world_report.WorldReport.TheVariants.{Summary}
-use Rattle.bspl_tool.specs.GenerateAnswer.{IsGenerateAnswer, generate_rules}
+use Rattle.agent_commands.specs.declared.world_report.WorldReport.TheVariants.{Summary}
+use Rattle.agent_commands.specs.GenerateAnswer.{IsGenerateAnswer, generate_rules}
 use Rattle.bspl_tool.proofs.AgentsLaws.{OneAgents, agents_are_block, agents_names, refused_once, script_or_refusal}
 use Rattle.bspl_tool.proofs.ClaimsNothing.{IsBlock, block_joined}
 use Rattle.bspl_tool.proofs.CommandLaws.{CommandLaws, IsHonest}

@@ -13,14 +13,16 @@ use Rattle.bspl_io.specs.Traffic.{Traffic}
 use Rattle.program_frame.specs.Call.{AreRemaining, WritesPrefix}
 use Rattle.program_frame.specs.declared.ending.Ending.{Ending}
 use Rattle.program_frame.specs.declared.ending.Ending.TheVariants.{Answered, ReadFault, WriteFault, NoMemory}
-use Rattle.bspl_tool.specs.Call.{IsToolCall}
+use Rattle.tool_frame.specs.Call.{IsToolCall}
 use Rattle.bspl_tool.specs.Laws.{CallsAreTrue}
 use Rattle.bspl_tool.specs.Headline.{IsJudged, IsTrueOf, TrueWhereSaid}
-use Rattle.bspl_tool.specs.Output.{IsDone, Output, usage, refused, done}
-use Rattle.bspl_tool.specs.Request.{RequestsInput}
+use Rattle.tool_frame.specs.Output.{DoesTask, Output, usage, refused, done}
+use Rattle.tool_frame.specs.Interface.{RequestsInput, task_bytes}
+use Rattle.bspl_tool.specs.Interface.{tool_interface}
 use Rattle.tool_input.specs.Parts.{protocol_text}
-use Rattle.bspl_tool.specs.Task.{task_bytes}
-use Rattle.bspl_tool.specs.Refusals.{Refuses, RefusesInput}
+use Rattle.tool_input.specs.Rejection.{rejection_line}
+use Rattle.bspl_tool.specs.Task.{rules_of}
+use Rattle.tool_frame.specs.Refusals.{Refuses, RefusesInput}
 use Rattle.bspl_tool.proofs.ClaimsNothing.{ClaimsNothing, line_claims_nothing, says_no_message, says_nothing}
 use Rattle.bspl_tool.proofs.NameBytes.{name_is_field}
 use Rattle.bspl_tool.proofs.RejectedNames.{HasNames, requested_is_name, text_rejection_names}
@@ -28,15 +30,15 @@ use Rattle.bspl_tool.proofs.RejectionLines.{rejection_claims_nothing}
 use Rattle.bspl_tool.proofs.TaskLaws.{laws_of}
 
 -- the names in a refusal of an input are names
-input_names : (task : Task) (name input : List ℕ) {r : Rejection} → IsTrue (is_name name) → RefusesInput task name input r → HasNames r
+input_names : (task : Task) (name input : List ℕ) {r : Rejection} → IsTrue (is_name name) → RefusesInput (rules_of task) name input r → HasNames r
 input_names task name input named (RefusesInput.no_part part lacks) = record { first = tt; second = tt }
 input_names task name input named (RefusesInput.text part q r has reason is) = text_rejection_names name (protocol_text input) q r named reason is
-input_names task name input named (RefusesInput.part part x r has judged reason) = (laws_of task).names x part r reason
+input_names task name input named (RefusesInput.command part x r has judged reason) = (laws_of task).names x part r reason
 
 -- so are those in each refusal
-refused_names : (args : List (List ℕ)) (bytes : List ℕ) {r : Rejection} → Refuses args bytes r → HasNames r
+refused_names : (args : List (List ℕ)) (bytes : List ℕ) {r : Rejection} → Refuses tool_interface args bytes r → HasNames r
 refused_names args bytes (Refuses.too_long asks long) = record { first = tt; second = tt }
-refused_names args bytes (Refuses.read task name r read refuses) = input_names task name (task_bytes task bytes) (requested_is_name args task name read.requested) refuses
+refused_names args bytes (Refuses.read task name r read refuses) = input_names task name (task_bytes tool_interface task bytes) (requested_is_name args task name read.requested) refuses
 
 -- a prefix of a text that claims nothing
 nothing_said : (args : List (List ℕ)) (remaining : Option (List ℕ)) (text : List ℕ) (n : ℕ) → ClaimsNothing text → IsTrueOf args remaining (take n text)
@@ -46,31 +48,32 @@ nothing_said args remaining text n nothing = record {
 }
 
 -- a prefix of an answer
-truly_said : (args : List (List ℕ)) (remaining : Option (List ℕ)) (bytes out : List ℕ) (status : Status) (n : ℕ) → AreRemaining remaining bytes → IsDone args bytes out status → IsTrueOf args remaining (take n out)
+truly_said : (args : List (List ℕ)) (remaining : Option (List ℕ)) (bytes out : List ℕ) (status : Status) (n : ℕ) → AreRemaining remaining bytes → DoesTask tool_interface args bytes out status → IsTrueOf args remaining (take n out)
 truly_said args remaining bytes out status n input made =
     let answered = made.answered in
     let judged : IsJudged args remaining answered.protocol = record { task = made.task; name = made.name; requested = made.read.requested; bytes = bytes; input = input; judged = answered.judged } in
-    let honest = (laws_of made.task).honest answered.protocol answered.part out status n answered.answer in record {
+    let honest = (laws_of made.task).honest answered.protocol answered.given out status n answered.answer in record {
       claimed = λ claim says. (answered.protocol, judged, honest.claimed claim says);
       messages = λ claim name named says. (answered.protocol, judged, honest.messages claim name named says);
     }
 
 -- a prefix of an output
-said_by_output : (args : List (List ℕ)) (remaining : Option (List ℕ)) (bytes out : List ℕ) (status : Status) (n : ℕ) → AreRemaining remaining bytes → Output args bytes out status → IsTrueOf args remaining (take n out)
+said_by_output : (args : List (List ℕ)) (remaining : Option (List ℕ)) (bytes out : List ℕ) (status : Status) (n : ℕ) → AreRemaining remaining bytes → Output tool_interface args bytes out status → IsTrueOf args remaining (take n out)
 said_by_output args remaining bytes _ _ n input (usage none) =
     nothing_said args remaining _ n (line_claims_nothing (codes "usage: bspl COMMAND NAME [--brief] [--conflicts N] [--threads N]") refl refl)
-said_by_output args remaining bytes _ _ n input (refused r refuses) = nothing_said args remaining _ n (rejection_claims_nothing r (refused_names args bytes refuses))
+said_by_output args remaining bytes _ _ n input (refused out r made) =
+    subst (λ (text : List ℕ). IsTrueOf args remaining (take n text)) (sym made.text) (nothing_said args remaining (rejection_line r) n (rejection_claims_nothing r (refused_names args bytes made.reason)))
 said_by_output args remaining bytes _ _ n input (done out status made) = truly_said args remaining bytes out status n input made
 
 -- what was appended is a prefix of an output
-true_after_prefix : (args : List (List ℕ)) (remaining remaining_after old new : Option (List ℕ)) (bytes out : List ℕ) (status : Status) → AreRemaining remaining bytes → Output args bytes out status → AppendsPrefix old new out → TrueWhereSaid args (record { remaining = remaining; remaining_after = remaining_after; contents = old; contents_after = new })
+true_after_prefix : (args : List (List ℕ)) (remaining remaining_after old new : Option (List ℕ)) (bytes out : List ℕ) (status : Status) → AreRemaining remaining bytes → Output tool_interface args bytes out status → AppendsPrefix old new out → TrueWhereSaid args (record { remaining = remaining; remaining_after = remaining_after; contents = old; contents_after = new })
 true_after_prefix args remaining remaining_after None new bytes out status input output (n, appended) = tt
 true_after_prefix args remaining remaining_after (Some before) None bytes out status input output (n, appended) = tt
 true_after_prefix args remaining remaining_after (Some before) (Some after) bytes out status input output (n, appended) = λ written is.
     subst (IsTrueOf args remaining) (append_cancel_left before (take n out) written (sym appended ∙ is)) (said_by_output args remaining bytes out status n input output)
 
 -- perhaps the whole of it
-true_after_text : (args : List (List ℕ)) (remaining remaining_after old new : Option (List ℕ)) (bytes out : List ℕ) (status : Status) → AreRemaining remaining bytes → Output args bytes out status → Appends old new out → TrueWhereSaid args (record { remaining = remaining; remaining_after = remaining_after; contents = old; contents_after = new })
+true_after_text : (args : List (List ℕ)) (remaining remaining_after old new : Option (List ℕ)) (bytes out : List ℕ) (status : Status) → AreRemaining remaining bytes → Output tool_interface args bytes out status → Appends old new out → TrueWhereSaid args (record { remaining = remaining; remaining_after = remaining_after; contents = old; contents_after = new })
 true_after_text args remaining remaining_after old new bytes out status input output appended =
     true_after_prefix args remaining remaining_after old new bytes out status input output (length out, subst (Appends old new) (sym (take_all (length out) out (omega arith))) appended)
 
@@ -81,13 +84,13 @@ true_after_nothing args remaining remaining_after (Some before) new same = subst
     subst (IsTrueOf args remaining) (append_cancel_left before [] written (append-nil before ∙ is)) (nothing_said args remaining (codes "\n") 0 (line_claims_nothing [] refl refl)))
 
 -- what was written of an output
-prefix_true : (args : List (List ℕ)) (t : Traffic) → WritesPrefix (RequestsInput args) input_limit (Output args) t → TrueWhereSaid args t
+prefix_true : (args : List (List ℕ)) (t : Traffic) → WritesPrefix (RequestsInput tool_interface args) input_limit (Output tool_interface args) t → TrueWhereSaid args t
 prefix_true args t written =
     let answer = written.answer in
     true_after_prefix args t.remaining t.remaining_after t.contents t.contents_after answer.bytes written.out written.status answer.input answer.right written.appended
 
 -- so it is after each call
-calls_true : (args : List (List ℕ)) (t : Traffic) (ending : Ending Status) → IsToolCall args t ending → TrueWhereSaid args t
+calls_true : (args : List (List ℕ)) (t : Traffic) (ending : Ending Status) → IsToolCall tool_interface args t ending → TrueWhereSaid args t
 calls_true args t (Answered status) call =
     let written = call.written in
     let answer = written.answer in

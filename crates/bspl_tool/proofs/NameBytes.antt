@@ -6,10 +6,8 @@ use Rattle.std.specs.List.{after_first, before_first, join_with_byte, list_all, 
 use Rattle.std.proofs.lemmas.Bool.{and_parts, cases_Bool, eq-eqb, eqb-true, false_from_ne_true, false≢true, or_from, or_parts}
 use Rattle.std.proofs.lemmas.List.Splits.{join_with_byte-slice_split}
 use Rattle.bspl_types.specs.Name.{begins_name, goes_on, is_group, is_grouped, is_name, is_name_rest, is_plain_name, is_positive_number, is_reserved}
-use Rattle.bspl_tool.specs.declared.claim.Claim.{Claim}
-use Rattle.bspl_tool.specs.declared.claim.Claim.TheVariants.{AcceptedLiveness, AcceptedSafety, LivenessLive, SafetySafe}
-use Rattle.bspl_tool.specs.Claims.{all_claims, claim_line}
-use Rattle.bspl_tool.specs.Texts.{dead_line, enacted_line}
+use Rattle.bspl_tool.specs.Claims.{AcceptedLiveness, AcceptedSafety, Claim, LivenessLive, SafetySafe, all_claims, claim_line}
+use Rattle.verdict_commands.specs.MessageLines.{dead_line, enacted_line}
 use Rattle.bspl_tool.proofs.ClaimsNothing.{IsField, begins, claim_lines, message_lines, starts, starts_rest}
 use Rattle.bspl_tool.proofs.Unbroken.{has_byte, has_lf, joined_has_none}
 

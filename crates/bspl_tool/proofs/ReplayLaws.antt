@@ -27,8 +27,8 @@ use Rattle.run_text.specs.Refusal.{RunIsNotRefused, TextHasOneBadLine, TextHasOn
 use Rattle.tool_input.specs.declared.rejection.Rejection.{Rejection}
 use Rattle.tool_input.specs.declared.status.Status.{Status}
 use Rattle.bspl_tool.specs.Laws.{IsOutput}
-use Rattle.bspl_tool.specs.ReplayAnswer.{run_rejection}
-use Rattle.bspl_tool.specs.ReplayAnswer.{IsReplayAnswer, IsReplayRefused, SaysLegal, replay_rules}
+use Rattle.rejections.specs.PartRejection.{run_rejection}
+use Rattle.evidence_commands.specs.ReplayAnswer.{IsReplayAnswer, IsReplayRefused, SaysLegal, replay_rules}
 use Rattle.bspl_tool.proofs.ClaimsNothing.{IsBlock, block_joined, claims, no_lines}
 use Rattle.bspl_tool.proofs.CommandLaws.{CommandLaws, honest_nothing}
 use Rattle.bspl_tool.proofs.EvidenceLines.{message_has_no_lf, param_has_no_lf}

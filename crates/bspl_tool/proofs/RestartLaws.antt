@@ -6,8 +6,8 @@ use Rattle.report.specs.VerdictText.{verdict_text}
 use Rattle.tool_input.specs.declared.status.Status.{Status}
 use Rattle.verdict.specs.declared.outcome.Safety.{Safety}
 use Rattle.verdict.specs.declared.outcome.Safety.TheVariants.{Safe, Undecided, Unsafe}
-use Rattle.bspl_tool.specs.declared.world_report.WorldReport.TheVariants.{Table}
-use Rattle.bspl_tool.specs.RestartAnswer.{IsRestartAnswer, RestartsText, restart_rules}
+use Rattle.agent_commands.specs.declared.world_report.WorldReport.TheVariants.{Table}
+use Rattle.agent_commands.specs.RestartAnswer.{IsRestartAnswer, RestartsText, restart_rules}
 use Rattle.bspl_tool.proofs.AgentsLaws.{OneAgents, agents_are_block, agents_names, refused_once, script_or_refusal}
 use Rattle.bspl_tool.proofs.ClaimsNothing.{IsBlock, block_joined, no_lines}
 use Rattle.bspl_tool.proofs.CommandLaws.{CommandLaws, IsHonest}

@@ -3,8 +3,8 @@ use Rattle.std.proofs.Common.{ℕ, Bool, List, ◌++◌, take, sym, ◌∙◌, a
 use Rattle.agent_scripts.specs.Job.{Job}
 use Rattle.bspl_types.specs.declared.expanded.Expanded.{Expanded}
 use Rattle.tool_input.specs.declared.status.Status.{Status}
-use Rattle.bspl_tool.specs.declared.world_report.WorldReport.TheVariants.{Table}
-use Rattle.bspl_tool.specs.RunAnswer.{IsRunAnswer, run_rules}
+use Rattle.agent_commands.specs.declared.world_report.WorldReport.TheVariants.{Table}
+use Rattle.agent_commands.specs.RunAnswer.{IsRunAnswer, run_rules}
 use Rattle.bspl_tool.proofs.AgentsLaws.{OneAgents, agents_are_block, agents_names, refused_once, script_or_refusal}
 use Rattle.bspl_tool.proofs.CommandLaws.{CommandLaws, IsHonest}
 use Rattle.bspl_tool.proofs.VerifyLaws.{verdict_is_honest}

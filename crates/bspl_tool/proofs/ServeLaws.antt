@@ -10,7 +10,7 @@ use Rattle.serde_json.specs.Written.{compact_text}
 use Rattle.wire_form.specs.declared.reply.Reply.{Reply}
 use Rattle.wire_form.specs.declared.reply.Reply.TheVariants.{Blocked, Received, Refused, Sent}
 use Rattle.wire_form.specs.Reply.{reply_data, reply_text}
-use Rattle.bspl_tool.specs.ServeAnswer.{serve_rules}
+use Rattle.agent_commands.specs.ServeAnswer.{serve_rules}
 use Rattle.bspl_tool.proofs.ClaimsNothing.{IsBlock, block_joined, claims, closed, line_claims_nothing, no_lines}
 use Rattle.bspl_tool.proofs.CommandLaws.{CommandLaws, honest_nothing}
 use Rattle.bspl_tool.proofs.JsonLines.{json_has_no_lf}

@@ -1,14 +1,14 @@
 -- The laws of each command.
 use Rattle.bspl_tool.specs.declared.task.Task.{Task}
 use Rattle.bspl_tool.specs.declared.task.Task.TheVariants.{Audit, Check, CheckDead, Dead, Expand, Generate, Replay, Restart, Run, Serve, Verify}
-use Rattle.bspl_tool.specs.AuditAnswer.{audit_rules}
-use Rattle.bspl_tool.specs.CheckAnswer.{check_rules}
-use Rattle.bspl_tool.specs.CheckDeadAnswer.{check_dead_rules}
-use Rattle.bspl_tool.specs.ExpandAnswer.{expand_rules}
-use Rattle.bspl_tool.specs.GenerateAnswer.{generate_rules}
-use Rattle.bspl_tool.specs.ReplayAnswer.{replay_rules}
-use Rattle.bspl_tool.specs.RestartAnswer.{restart_rules}
-use Rattle.bspl_tool.specs.RunAnswer.{run_rules}
+use Rattle.evidence_commands.specs.AuditAnswer.{audit_rules}
+use Rattle.evidence_commands.specs.CheckAnswer.{check_rules}
+use Rattle.evidence_commands.specs.CheckDeadAnswer.{check_dead_rules}
+use Rattle.verdict_commands.specs.ExpandAnswer.{expand_rules}
+use Rattle.agent_commands.specs.GenerateAnswer.{generate_rules}
+use Rattle.evidence_commands.specs.ReplayAnswer.{replay_rules}
+use Rattle.agent_commands.specs.RestartAnswer.{restart_rules}
+use Rattle.agent_commands.specs.RunAnswer.{run_rules}
 use Rattle.bspl_tool.specs.Task.{rules_of}
 use Rattle.bspl_tool.proofs.AuditLaws.{OneAudit, audit_laws}
 use Rattle.bspl_tool.proofs.CheckDeadLaws.{OneCheckDead, check_dead_laws}

@@ -16,7 +16,7 @@ use Rattle.verdict.specs.declared.outcome.Verdicts.{Verdicts}
 use Rattle.verdict.specs.Right.{IsRight}
 use Rattle.verdict.specs.RightLiveness.{IsRightLiveness}
 use Rattle.verdict.specs.Verdicts.{AreRight}
-use Rattle.bspl_tool.specs.VerifyAnswer.{verify_rules}
+use Rattle.verdict_commands.specs.VerifyAnswer.{verify_rules}
 use Rattle.bspl_tool.proofs.ClaimsNothing.{IsBlock, IsBlockWithout, IsField, block_joined, joined_without, liveness_lines, message_lines, message_lines_whole, no_lines, no_liveness, no_safety, safety_lines, without_message}
 use Rattle.bspl_tool.proofs.CommandLaws.{CommandLaws, IsHonest}
 use Rattle.bspl_tool.proofs.EvidenceLines.{log_is_block, run_is_block}

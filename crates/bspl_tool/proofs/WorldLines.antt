@@ -12,9 +12,9 @@ use Rattle.bspl_types.specs.Expansion.{message_of, param_name}
 use Rattle.bspl_types.specs.ValueSpelling.{value_spelling}
 use Rattle.report.specs.Summary.{IsSummaryText, count_line, is_emission, is_reception}
 use Rattle.report.specs.WorldText.{IsRowLine, IsWorldText, cell_field, message_line, receives, row_line, sends, world_line}
-use Rattle.bspl_tool.specs.declared.world_report.WorldReport.{WorldReport}
-use Rattle.bspl_tool.specs.declared.world_report.WorldReport.TheVariants.{Summary, Table}
-use Rattle.bspl_tool.specs.PlayedText.{ReportsOn}
+use Rattle.agent_commands.specs.declared.world_report.WorldReport.{WorldReport}
+use Rattle.agent_commands.specs.declared.world_report.WorldReport.TheVariants.{Summary, Table}
+use Rattle.agent_commands.specs.PlayedText.{ReportsOn}
 use Rattle.bspl_tool.proofs.ClaimsNothing.{IsBlock, block_joined, claim_lines, claims, closed, line_avoids, message_lines, no_lines}
 use Rattle.bspl_tool.proofs.EvidenceLines.{message_has_no_lf, message_is_field, param_has_no_lf}
 use Rattle.bspl_tool.proofs.FieldBytes.{fields_are_block, joined_fields, value_has_no_lf}

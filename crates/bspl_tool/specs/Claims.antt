@@ -5,16 +5,23 @@ use Rattle.bspl_types.specs.Expansion.{message_name}
 use Rattle.enactability.specs.Enactable.{Enactable}
 use Rattle.enactment_model.specs.Liveness.{LiveProtocol}
 use Rattle.enactment_model.specs.Safety.{SafeProtocol}
-use Rattle.bspl_tool.specs.declared.claim.Claim.{Claim}
-use Rattle.bspl_tool.specs.declared.claim.Claim.TheVariants.{AcceptedLiveness, AcceptedSafety, LivenessLive, SafetySafe}
-use Rattle.bspl_tool.specs.Texts.{dead_line, enacted_line}
+use Rattle.evidence_commands.specs.CheckAnswer.{accepted_kind_line}
+use Rattle.refutation_log.specs.declared.refutation.Kind.TheVariants.{Liveness, Safety}
+use Rattle.verdict_commands.specs.MessageLines.{dead_line, enacted_line}
+
+-- what a line may claim of the protocol: a verdict, or that a log is accepted
+pub data Claim : Type 0 where
+  SafetySafe : Claim
+  AcceptedSafety : Claim
+  LivenessLive : Claim
+  AcceptedLiveness : Claim
 
 -- the line of each claim
 abbrev pub claim_line : Claim → List ℕ
 claim_line SafetySafe = codes "safety safe"
-claim_line AcceptedSafety = codes "accepted safety"
+claim_line AcceptedSafety = accepted_kind_line Safety
 claim_line LivenessLive = codes "liveness live"
-claim_line AcceptedLiveness = codes "accepted liveness"
+claim_line AcceptedLiveness = accepted_kind_line Liveness
 
 -- what it says of the protocol: it is safe in every legal run, or what is public is bound at each
 -- key at which a legal run is quiet

@@ -4,14 +4,13 @@ use Rattle.std.specs.Prelude.{◌≡◌, ℕ, List, ◌++◌, Option, IfSome, Is
 use Rattle.bspl_types.specs.declared.expanded.Expanded.{Expanded}
 use Rattle.bspl_types.specs.Name.{is_name}
 use Rattle.bspl_io.specs.Traffic.{Traffic}
-use Rattle.bspl_tool.specs.declared.claim.Claim.{Claim}
 use Rattle.bspl_tool.specs.declared.task.Task.{Task}
 use Rattle.program_frame.specs.Call.{AreRemaining}
 use Rattle.tool_input.specs.Input.{Declares}
-use Rattle.bspl_tool.specs.Claims.{IsClaimTrue, IsTrueOfMessage, MessageClaim, claim_line}
+use Rattle.bspl_tool.specs.Claims.{Claim, IsClaimTrue, IsTrueOfMessage, MessageClaim, claim_line}
 use Rattle.bspl_tool.specs.Claims.{message_claim_line}
 use Rattle.bspl_tool.specs.Request.{Requests}
-use Rattle.bspl_tool.specs.Task.{judged_text}
+use Rattle.bspl_tool.specs.Interface.{judged_text}
 use Rattle.bspl_tool.specs.Texts.{SaysLine}
 
 -- the arguments request a task that judges the protocol, on the bytes that remain or its own text

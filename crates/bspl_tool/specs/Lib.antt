@@ -1,26 +1,9 @@
 -- What the tool promises, in the order in which it is read; what private functions cite is last.
 pub mod Headline
 pub mod Claims
-pub mod Call
-pub mod Output
+pub mod Interface
 pub mod Request
 pub mod Task
-pub mod Outcome
-pub mod Rules
-pub mod ExpandAnswer
-pub mod CheckAnswer
-pub mod VerifyAnswer
-pub mod ReplayAnswer
-pub mod PlayedText
-pub mod RunAnswer
-pub mod RestartAnswer
-pub mod GenerateAnswer
-pub mod DeadAnswer
-pub mod CheckDeadAnswer
-pub mod ServeAnswer
-pub mod AuditAnswer
-pub mod StageCount
-pub mod Refusals
 pub mod Texts
 pub mod Laws
 pub mod inner

@@ -1,23 +1,22 @@
--- The commands: one row of rules for each, the task of each, and the bytes on which a task is done.
-use Rattle.std.specs.Prelude.{ℕ, Bool, List, Option, None, Some, unwrap_or}
+-- The tasks of the tool: one row of rules for each, and the task of each command.
+use Rattle.std.specs.Prelude.{ℕ, Bool, List, Option, None, Some, ⊤}
 use Rattle.command_line.specs.declared.command.Command.{Command}
 use Rattle.command_line.specs.declared.command.Command.TheVariants as command
-use Rattle.tool_input.specs.Parts.{protocol_text}
 use Rattle.workload.specs.Stage.{stage_text}
 use Rattle.bspl_tool.specs.declared.task.Task.{Task}
 use Rattle.bspl_tool.specs.declared.task.Task.TheVariants.{Audit, Check, CheckDead, Dead, Expand, Generate, Replay, Restart, Run, Serve, Verify}
-use Rattle.bspl_tool.specs.AuditAnswer.{audit_rules}
-use Rattle.bspl_tool.specs.CheckAnswer.{check_rules}
-use Rattle.bspl_tool.specs.CheckDeadAnswer.{check_dead_rules}
-use Rattle.bspl_tool.specs.DeadAnswer.{dead_rules}
-use Rattle.bspl_tool.specs.ExpandAnswer.{expand_rules}
-use Rattle.bspl_tool.specs.GenerateAnswer.{generate_rules}
-use Rattle.bspl_tool.specs.ReplayAnswer.{replay_rules}
-use Rattle.bspl_tool.specs.RestartAnswer.{restart_rules}
-use Rattle.bspl_tool.specs.Rules.{CommandRules}
-use Rattle.bspl_tool.specs.RunAnswer.{run_rules}
-use Rattle.bspl_tool.specs.ServeAnswer.{serve_rules}
-use Rattle.bspl_tool.specs.VerifyAnswer.{verify_rules}
+use Rattle.evidence_commands.specs.AuditAnswer.{audit_rules}
+use Rattle.evidence_commands.specs.CheckAnswer.{check_rules}
+use Rattle.evidence_commands.specs.CheckDeadAnswer.{check_dead_rules}
+use Rattle.verdict_commands.specs.DeadAnswer.{dead_rules}
+use Rattle.verdict_commands.specs.ExpandAnswer.{expand_rules}
+use Rattle.agent_commands.specs.GenerateAnswer.{generate_rules}
+use Rattle.evidence_commands.specs.ReplayAnswer.{replay_rules}
+use Rattle.agent_commands.specs.RestartAnswer.{restart_rules}
+use Rattle.tool_frame.specs.Rules.{CommandRules}
+use Rattle.agent_commands.specs.RunAnswer.{run_rules}
+use Rattle.agent_commands.specs.ServeAnswer.{serve_rules}
+use Rattle.verdict_commands.specs.VerifyAnswer.{verify_rules}
 
 -- the rules of each task
 abbrev pub rules_of : Task → CommandRules
@@ -47,15 +46,20 @@ task_of command.CheckDead brief conflicts threads = Some CheckDead
 task_of command.Serve brief conflicts threads = Some Serve
 task_of command.Audit brief conflicts threads = Some Audit
 
+-- how many threads each role has in a task; with none, agents play on the thread of the call
+abbrev pub task_threads : Task → ℕ
+task_threads (Run brief conflicts threads) = threads
+task_threads (Generate stages conflicts threads) = threads
+task_threads task = 0
+
 -- the text that a task makes for itself and is done on in place of the input
 abbrev pub own_text : Task → Option (List ℕ)
 own_text (Generate stages conflicts threads) = Some (stage_text stages)
 own_text task = None
 
--- the bytes that it is done on: its own text, or the input
-abbrev pub task_bytes : Task → List ℕ → List ℕ
-task_bytes task input = unwrap_or (own_text task) input
-
--- the text that declares the protocol which the task judges: the protocol text of these bytes
-abbrev pub judged_text : Task → List ℕ → List ℕ
-judged_text task input = protocol_text (task_bytes task input)
+-- it is answered at once, and no agents are to play
+abbrev pub IsAnsweredWhole : Task → Type 0
+IsAnsweredWhole (Run brief conflicts threads) = ⊥
+IsAnsweredWhole (Restart brief conflicts) = ⊥
+IsAnsweredWhole (Generate stages conflicts threads) = ⊥
+IsAnsweredWhole task = ⊤

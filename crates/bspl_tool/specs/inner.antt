@@ -1,7 +1,2 @@
--- What private functions alone cite.
-pub mod Answer
-pub mod Error
-pub mod Job
-pub mod Messages
-pub mod Restart
-pub mod Serve
+-- What only private functions cite.
+pub mod Completed

@@ -1,21 +1,25 @@
-ghost use Rattle.std.specs.Prelude.{◌≤◌, IfOk, List, ℕ, length, map, string_bytes};
-ghost use Rattle.bspl_types.specs.Limits.{input_limit};
+ghost use Rattle.std.specs.Prelude.{◌↔◌, IfOk, IsTrue, List, ℕ, map, string_bytes};
+ghost use Rattle.agent_commands.specs.Answer.{Completes, IsPlayable};
 ghost use Rattle.program_frame.specs.Call.{AreCounted};
-ghost use Rattle.bspl_tool.specs.Call.{IsToolCall};
+ghost use Rattle.program_frame.specs.Program.{IsRequested};
+ghost use Rattle.tool_frame.specs.Call.{IsToolCall, fault_counts, traffic_of};
 ghost use Rattle.bspl_tool.specs.Headline.{TrueWhereSaid};
-ghost use Rattle.bspl_tool.specs.Output.{Output};
-ghost use Rattle.bspl_tool.specs.Request.{IsRequest, IsThreaded};
+ghost use Rattle.bspl_tool.specs.Interface.{IsToolRequest, tool_interface};
+ghost use Rattle.bspl_tool.specs.Request.{IsThreaded};
+ghost use Rattle.bspl_tool.specs.inner.Completed.{IsCompleted};
 
 use super::laws::calls_are_true;
-use super::play::finish_in_threads;
-use super::request::{Request, is_threaded};
+use super::question::ToolQuestion;
 use adapter::Gate;
+use agent_commands::{Answer, finish, finish_in_threads};
 use bspl_io::{Sink, Source};
 use bspl_types::NoMemory;
+use command_line::one_line;
 use program_frame::{Ending, Prepared, Reply, halves_are_calls, prepare, serve, write_reply};
 use std::alloc::Global;
 use std::sync::Wait;
 use std::thread::Threads;
+use tool_frame::Request;
 use tool_input::Status;
 
 /// Reads what the arguments request, and writes the answer. Agents play in the threads that the
@@ -28,86 +32,78 @@ pub fn bspl<H: Threads + Wait + Sync, R: Source, W: Sink, G: Gate + Sync>(
     output: &mut W,
     gate: &G,
 ) -> Ending<Status>
-    ensures call { IsToolCall (map string_bytes args.now) (record {
-      remaining = R.remaining input.old;
-      remaining_after = R.remaining input.new;
-      contents = W.contents output.old;
-      contents_after = W.contents output.new;
-    }) result }
-    ensures faults { AreCounted (record {
-      reads = R.faults input.old;
-      reads_after = R.faults input.new;
-      writes = W.faults output.old;
-      writes_after = W.faults output.new;
-    }) result }
+    ensures call { IsToolCall tool_interface (map string_bytes args.now) (traffic_of
+        (R.remaining input.old) (R.remaining input.new)
+        (W.contents output.old) (W.contents output.new)) result }
+    ensures faults { AreCounted (fault_counts
+        (R.faults input.old) (R.faults input.new)
+        (W.faults output.old) (W.faults output.new)) result }
 
     // The headline: `safety safe` is written only of a protocol that is safe in every legal run,
     // `liveness live` only of one that binds what is public wherever a legal run is quiet.
-    ensures headline { TrueWhereSaid (map string_bytes args.now) (record {
-      remaining = R.remaining input.old;
-      remaining_after = R.remaining input.new;
-      contents = W.contents output.old;
-      contents_after = W.contents output.new;
-    }) }
+    ensures headline { TrueWhereSaid (map string_bytes args.now) (traffic_of
+        (R.remaining input.old) (R.remaining input.new)
+        (W.contents output.old) (W.contents output.new)) }
 {
     // law: what a call writes claims only what is true
     calls_are_true();
-    match is_threaded(alloc, args) {
-        Ok(true) => threaded(rt, alloc, args, input, output, gate),
-        Ok(false) => bspl_alone(alloc, args, input, output),
-        Err(_) => Ending::NoMemory,
-    }
-}
-
-/// The call for arguments that ask for threads.
-fn threaded<H: Threads + Wait + Sync, R: Source, W: Sink, G: Gate + Sync>(
-    rt: &H,
-    alloc: Global,
-    args: &[String],
-    input: &mut R,
-    output: &mut W,
-    gate: &G,
-) -> Ending<Status>
-    ensures call { IsToolCall (map string_bytes args.now) (record {
-      remaining = R.remaining input.old;
-      remaining_after = R.remaining input.new;
-      contents = W.contents output.old;
-      contents_after = W.contents output.new;
-    }) result }
-    ensures faults { AreCounted (record {
-      reads = R.faults input.old;
-      reads_after = R.faults input.new;
-      writes = W.faults output.old;
-      writes_after = W.faults output.new;
-    }) result }
-{
     // law: what is prepared and then goes on is a call
-    halves_are_calls::<Request<'_>>();
-    match prepare::<Request<'_>, R>(alloc, args, input) {
+    halves_are_calls::<Request<'_, ToolQuestion<'_>>>();
+    match prepare::<Request<'_, ToolQuestion<'_>>, R>(alloc, args, input) {
         Prepared::Replied(reply) => write_reply(Ok(reply), output),
         Prepared::Read { request, input } => {
-            write_reply(
-                reply_in_threads(rt, alloc, &request, input.as_slice(), gate),
-                output,
-            )
+            let answer = request.answer(alloc, input.as_slice());
+            write_reply(completed(rt, alloc, &request, answer, gate), output)
         }
         Prepared::Ended(ending) => ending,
     }
 }
 
-/// The reply to the whole input, or to no bytes if none is asked for. Agents play in their threads.
-fn reply_in_threads<H: Threads + Wait + Sync, G: Gate + Sync>(
+/// The reply that the answer to the request comes to. The runtime is used only for arguments that
+/// ask for threads.
+fn completed<'a, H: Threads + Wait + Sync, G: Gate + Sync>(
     rt: &H,
     alloc: Global,
-    request: &Request<'_>,
-    input: &[u8],
+    request: &Request<'a, ToolQuestion<'a>>,
+    answer: Result<Answer, NoMemory>,
     gate: &G,
 ) -> Result<Reply<Status>, NoMemory>
-    requires { length input.now ≤ input_limit }
-    ensures { (args : List (List ℕ)) → IsRequest args request.now →
-        IfOk result (λ reply. Output args input.now reply.text reply.status) }
+    requires known { IsRequested IsToolRequest request.now }
+    requires playable { IfOk answer IsPlayable }
+    ensures { IfOk result (λ reply. IsCompleted answer reply) }
 {
-    finish_in_threads(rt, alloc, request.answer(alloc, input)?, gate)
+    let answer = answer?;
+    if is_threaded(request) {
+        finish_in_threads(rt, alloc, answer, gate)
+    } else {
+        finish_alone(alloc, request, answer)
+    }
+}
+
+/// Whether the arguments ask for threads.
+fn is_threaded<'a>(request: &Request<'a, ToolQuestion<'a>>) -> bool
+    ensures { (args : List (List ℕ)) → IsToolRequest args request.now →
+        (IsTrue result ↔ IsThreaded args) }
+{
+    // law: arguments are one command line at most
+    one_line();
+    match request.asked() {
+        Some(question) => question.task.is_threaded(),
+        None => false,
+    }
+}
+
+/// The reply that the answer comes to, for arguments that ask for no threads.
+fn finish_alone<'a>(
+    alloc: Global,
+    _request: &Request<'a, ToolQuestion<'a>>,
+    answer: Answer,
+) -> Result<Reply<Status>, NoMemory>
+    requires playable { IsPlayable answer }
+    requires alone { (args : List (List ℕ)) → IsToolRequest args _request.now → ¬ IsThreaded args }
+    ensures { IfOk result (λ reply. Completes answer reply.text reply.status) }
+{
+    finish(alloc, answer)
 }
 
 /// The call for arguments that ask for no threads. It takes no runtime and waits for nobody.
@@ -118,26 +114,17 @@ pub fn bspl_alone<R: Source, W: Sink>(
     output: &mut W,
 ) -> Ending<Status>
     requires { ¬ IsThreaded (map string_bytes args.now) }
-    ensures call { IsToolCall (map string_bytes args.now) (record {
-      remaining = R.remaining input.old;
-      remaining_after = R.remaining input.new;
-      contents = W.contents output.old;
-      contents_after = W.contents output.new;
-    }) result }
-    ensures faults { AreCounted (record {
-      reads = R.faults input.old;
-      reads_after = R.faults input.new;
-      writes = W.faults output.old;
-      writes_after = W.faults output.new;
-    }) result }
-    ensures headline { TrueWhereSaid (map string_bytes args.now) (record {
-      remaining = R.remaining input.old;
-      remaining_after = R.remaining input.new;
-      contents = W.contents output.old;
-      contents_after = W.contents output.new;
-    }) }
+    ensures call { IsToolCall tool_interface (map string_bytes args.now) (traffic_of
+        (R.remaining input.old) (R.remaining input.new)
+        (W.contents output.old) (W.contents output.new)) result }
+    ensures faults { AreCounted (fault_counts
+        (R.faults input.old) (R.faults input.new)
+        (W.faults output.old) (W.faults output.new)) result }
+    ensures headline { TrueWhereSaid (map string_bytes args.now) (traffic_of
+        (R.remaining input.old) (R.remaining input.new)
+        (W.contents output.old) (W.contents output.new)) }
 {
     // law: what a call writes claims only what is true
     calls_are_true();
-    serve::<Request<'_>, R, W>(alloc, args, input, output)
+    serve::<Request<'_, ToolQuestion<'_>>, R, W>(alloc, args, input, output)
 }

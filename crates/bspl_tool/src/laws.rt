@@ -1,16 +1,18 @@
-ghost use Rattle.bspl_tool.specs.Laws.{CallsAreTrue, OneAnswer, OneRejection, RefusalIsAll, UsageIsAll};
+ghost use Rattle.bspl_tool.specs.Laws.{CallsAreTrue, LinesRequestTasks, OneAnswer, OneRejection};
+ghost use Rattle.bspl_tool.specs.Laws.{RefusalIsAll, UsageIsAll};
 
 /// A law: what a call writes claims only what is true of the protocol that it judges.
 pub fn calls_are_true()
     ensures { CallsAreTrue }
 {}
 
-/// A law: arguments that are no command line get the usage line alone, there is one reason at most
-/// to refuse arguments and an input, what is refused is not answered, and `check`, `check-dead`,
-/// `replay` and `expand` have one answer at most. `verify`, `dead` and `run` may have several: the
-/// search may find another run, log or number of steps, and the answer with it is right too. So it
-/// is with `audit`, whose run or cycle may be another.
+/// A law: each command line requests a task, and arguments that are none get the usage line alone.
+/// There is one reason at most to refuse arguments and an input, what is refused is not answered,
+/// and `check`, `check-dead`, `replay` and `expand` have one answer at most. `verify`, `dead` and
+/// `run` may have several: the search may find another run, log or number of steps, and the answer
+/// with it is right too. So it is with `audit`, whose run or cycle may be another.
 pub fn answers_are_distinct()
+    ensures tasks { LinesRequestTasks }
     ensures usage { UsageIsAll }
     ensures rejection { OneRejection }
     ensures refused { RefusalIsAll }
@@ -25,8 +27,7 @@ pub fn answers_are_distinct()
     // law: a text is that of one log at most, or has one first bad line
     refutation_log::reads_once();
     // law: a log is accepted or has one first failure
-    protocol_check::safety_fails_once();
-    protocol_check::liveness_fails_once();
+    protocol_check::log_fails_once();
     // law: a text is that of one run at most, or has one first bad line
     run_text::reads_once();
     // law: a run has one report

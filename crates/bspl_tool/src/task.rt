@@ -1,27 +1,19 @@
-ghost use Rattle.std.specs.Prelude.{◌≡◌, ◌↔◌, ◌≤◌, IfErr, IfOk, IfSome, IsTrue, None, length};
+ghost use Rattle.std.specs.Prelude.{◌≡◌, ◌↔◌, ◌<◌, ◌≤◌, IfErr, IfOk, IfSome, IsTrue, None, length};
 ghost use Rattle.bspl_types.specs.Limits.{input_limit};
-ghost use Rattle.bspl_tool.specs.Task.{own_text, rules_of, task_of};
-ghost use Rattle.bspl_tool.specs.inner.Answer.{IsPlayable, IsRightAnswer};
-ghost use Rattle.bspl_tool.specs.inner.Error.{RejectsFor};
+ghost use Rattle.agent_commands.specs.Answer.{Completes, IsPlayable};
+ghost use Rattle.tool_frame.specs.Answer.{IsRightAnswer};
+ghost use Rattle.tool_frame.specs.Error.{RejectsFor};
+ghost use Rattle.bspl_tool.specs.Task.{IsAnsweredWhole, own_text, rules_of, task_of, task_threads};
 
-use super::answer::Answer;
-use super::answer_error::AnswerError;
-use super::audit_command::audit;
-use super::check_command::check;
-use super::check_dead_command::check_dead;
-use super::dead_command::dead;
-use super::expand_command::expand;
-use super::generate_command::generate;
-use super::replay_command::replay;
-use super::restart_command::restart;
-use super::run_command::run;
-use super::serve_command::serve;
-use super::stage_count::StageCount;
-use super::verify_command::verify;
+use agent_commands::{Answer, StageCount, generate, restart, run, serve};
 use bspl_types::{Admitted, Bytes, NoMemory};
 use command_line::{Budget, Command, ThreadCount};
+use evidence_commands::{audit, check, check_dead, replay};
+use program_frame::Reply;
 use std::alloc::Global;
-use tool_input::Part;
+use tool_frame::{AnswerError, Need};
+use tool_input::{Part, Status};
+use verdict_commands::{dead, expand, verify};
 
 /// What is done with the protocol that the arguments name.
 #[derive(Clone, Copy, Debug, PartialEq, Eq)]
@@ -100,22 +92,43 @@ pub fn task_of(
 }
 
 impl Task {
-    /// The part of the input that it needs beside the protocol text.
-    pub(crate) fn part(&self) -> Option<Part>
-        ensures { result ≡ (rules_of self.now).part }
+    /// What it needs of the input beside the protocol text.
+    pub fn needs(&self) -> Need
+        ensures { result ≡ (rules_of self.now).needs }
     {
         match self {
-            Task::Expand | Task::Verify { .. } | Task::Dead { .. } => None,
-            Task::Check | Task::CheckDead => Some(Part::Log),
-            Task::Replay => Some(Part::Run),
-            Task::Serve => Some(Part::Wire),
-            Task::Audit => Some(Part::Histories),
-            Task::Run { .. } | Task::Restart { .. } | Task::Generate { .. } => Some(Part::Agents),
+            Task::Expand | Task::Verify { .. } | Task::Dead { .. } => Need::Nothing,
+            Task::Check | Task::CheckDead => Need::Part(Part::Log),
+            Task::Replay => Need::Part(Part::Run),
+            Task::Serve => Need::Part(Part::Wire),
+            Task::Audit => Need::Part(Part::Histories),
+            Task::Run { .. } | Task::Restart { .. } | Task::Generate { .. } => {
+                Need::Part(Part::Agents)
+            }
+        }
+    }
+
+    /// Whether its agents play in threads of their own.
+    pub fn is_threaded(&self) -> bool
+        ensures { IsTrue result ↔ (0 < task_threads self.now) }
+    {
+        match self {
+            Task::Run { threads, .. } => threads.threads() > 0,
+            Task::Generate { threads, .. } => threads.threads() > 0,
+            Task::Expand
+            | Task::Verify { .. }
+            | Task::Check
+            | Task::Replay
+            | Task::Restart { .. }
+            | Task::Dead { .. }
+            | Task::CheckDead
+            | Task::Serve
+            | Task::Audit => false,
         }
     }
 
     /// Whether it is done on the input.
-    pub(crate) fn reads_input(&self) -> bool
+    pub fn reads_input(&self) -> bool
         ensures { IsTrue result ↔ (own_text self.now ≡ None) }
     {
         match self {
@@ -138,44 +151,61 @@ impl Task {
         }
     }
 
-    /// What is answered on the protocol, with the bytes of the part that it needs.
-    pub(crate) fn answer(
+    /// What is answered on the protocol and the bytes that are given beside it.
+    pub fn answer(
         self,
         alloc: Global,
         protocol: Admitted,
-        part: &[u8],
+        given: &[u8],
     ) -> Result<Answer, AnswerError>
-        requires { length part.now ≤ input_limit }
-        ensures ok { IfOk result (IsRightAnswer ((rules_of self).answers protocol part.now)) }
+        requires { length given.now ≤ input_limit }
+        ensures ok { IfOk result
+            (IsRightAnswer Completes ((rules_of self).answers protocol given.now)) }
         ensures safe { IfOk result IsPlayable }
-        ensures refused { IfErr result (RejectsFor ((rules_of self).refuses protocol part.now)) }
+        ensures refused { IfErr result (RejectsFor ((rules_of self).refuses protocol given.now)) }
     {
         match self {
-            Task::Expand => Ok(Answer::Whole(expand(alloc, &protocol)?)),
-            Task::Verify { brief, conflicts } => {
-                Ok(Answer::Whole(verify(alloc, brief, conflicts, &protocol)?))
-            }
-            Task::Check => Ok(Answer::Whole(check(alloc, &protocol, part)?)),
-            Task::Replay => Ok(Answer::Whole(replay(alloc, &protocol, part)?)),
             Task::Run {
                 brief,
                 conflicts,
                 threads,
-            } => run(alloc, brief, conflicts, threads, protocol, part),
+            } => run(alloc, brief, conflicts, threads, protocol, given),
             Task::Restart { brief, conflicts } => {
-                Ok(Answer::Whole(restart(alloc, brief, conflicts, protocol, part)?))
+                restart(alloc, brief, conflicts, protocol, given)
             }
-            Task::Dead { brief, conflicts } => {
-                Ok(Answer::Whole(dead(alloc, brief, conflicts, &protocol)?))
-            }
-            Task::CheckDead => Ok(Answer::Whole(check_dead(alloc, &protocol, part)?)),
-            Task::Serve => Ok(Answer::Whole(serve(alloc, &protocol, part)?)),
-            Task::Audit => Ok(Answer::Whole(audit(alloc, &protocol, part)?)),
             Task::Generate {
                 stages,
                 conflicts,
                 threads,
-            } => generate(alloc, stages, conflicts, threads, protocol, part),
+            } => generate(alloc, stages, conflicts, threads, protocol, given),
+            _ => Ok(Answer::Whole(self.reply(alloc, &protocol, given)?)),
+        }
+    }
+
+    /// What is replied on the protocol and those bytes, if no agents are to play.
+    fn reply(
+        self,
+        alloc: Global,
+        protocol: &Admitted,
+        given: &[u8],
+    ) -> Result<Reply<Status>, AnswerError>
+        requires whole { IsAnsweredWhole self }
+        requires short { length given.now ≤ input_limit }
+        ensures ok { IfOk result (λ reply.
+            (rules_of self).answers protocol.now given.now reply.text reply.status) }
+        ensures refused { IfErr result
+            (RejectsFor ((rules_of self).refuses protocol.now given.now)) }
+    {
+        match self {
+            Task::Expand => Ok(expand(alloc, protocol)?),
+            Task::Verify { brief, conflicts } => Ok(verify(alloc, brief, conflicts, protocol)?),
+            Task::Dead { brief, conflicts } => Ok(dead(alloc, brief, conflicts, protocol)?),
+            Task::Check => check(alloc, protocol, given),
+            Task::CheckDead => check_dead(alloc, protocol, given),
+            Task::Replay => replay(alloc, protocol, given),
+            Task::Audit => audit(alloc, protocol, given),
+            Task::Serve => serve(alloc, protocol, given),
+            Task::Run { .. } | Task::Restart { .. } | Task::Generate { .. } => unreachable!(),
         }
     }
 }

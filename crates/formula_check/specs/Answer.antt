@@ -5,7 +5,7 @@ use Rattle.clause_core.specs.Clause.{IsUnsatisfiable}
 use Rattle.dimacs.specs.Verdict.{IsFormulaOf}
 use Rattle.log_checker.specs.declared.refusal.Reject.{Reject}
 use Rattle.log_checker.specs.FirstFailure.{FailsFirst}
-use Rattle.log_lines.specs.LogLines.{reject_line}
+use Rattle.rejections.specs.FailureLine.{reject_line}
 use Rattle.refutation_log.specs.declared.refutation.Log.{Log}
 use Rattle.refutation_log.specs.Resolution.{Accepts}
 use Rattle.tool_input.specs.declared.status.Status.{Status}

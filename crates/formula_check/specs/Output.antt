@@ -6,7 +6,7 @@ use Rattle.dimacs.specs.Dimacs.{IsNoFormula, text_lines}
 use Rattle.dimacs.specs.Output.{refused_line}
 use Rattle.dimacs.specs.RefusedLine.{StopsAt}
 use Rattle.dimacs.specs.Verdict.{IsFormulaOf}
-use Rattle.log_lines.specs.LogLines.{log_rejection}
+use Rattle.rejections.specs.PartRejection.{log_rejection}
 use Rattle.refutation_log.specs.declared.refusal.LogRefusal.{LogRefusal}
 use Rattle.refutation_log.specs.declared.refutation.Kind.{Kind}
 use Rattle.refutation_log.specs.declared.refutation.Log.{Log as SpecLog}

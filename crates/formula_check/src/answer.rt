@@ -8,9 +8,9 @@ use clause_core::Formula;
 use dimacs::formulas_are_as_written;
 use list_base::{Bytes, NoMemory};
 use log_checker::{Reject, check_log};
-use log_lines::reject_line;
 use program_frame::Reply;
 use refutation_log::Log;
+use rejections::reject_line;
 use std::alloc::Global;
 use tool_input::Status;
 

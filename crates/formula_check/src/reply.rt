@@ -12,9 +12,9 @@ use super::answer::log_answer;
 use clause_core::Formula;
 use dimacs::{Refusal, formula_of, formulas_are_as_written, refused_line};
 use list_base::{Bytes, NoMemory};
-use log_lines::log_rejection;
 use program_frame::Reply;
 use refutation_log::{read_log, steps_are_fewer_than_bytes};
+use rejections::log_rejection;
 use std::alloc::Global;
 use tool_input::{
     INPUT_LIMIT, InputRefusal, Part, Rejection, Status, input_rejection, needed_part,

@@ -1,5 +1,5 @@
 -- Words of lines and lines of texts; numbers and names as words; the legend; the text as it is
--- read; how variables are numbered; and the output of a call.
+-- read; and how variables are numbered.
 pub mod Words
 pub mod Numbers
 pub mod Names
@@ -7,5 +7,3 @@ pub mod LegendWords
 pub mod Reading
 pub mod Numbering
 pub mod Written
-pub mod OneOutput
-pub mod ReplyLemmas

@@ -11,9 +11,7 @@ use Rattle.bspl_types.specs.declared.property.Property.{Property}
 use Rattle.bspl_types.specs.declared.property.Property.TheVariants.{Safety}
 use Rattle.clause_encoding.specs.Formula.{IsFormula}
 use Rattle.enactability.specs.EnactFormula.{IsEnactFormula}
-use Rattle.tool_input.specs.MessageName.{IsMessageNamed}
 use Rattle.formula_text.specs.Legend.{Meaning, legend}
-use Rattle.formula_text.specs.Request.{Subject, Dead, Whole}
 
 -- `c`, the variable's number, and the words
 abbrev pub meaning_line : Meaning → List ℕ
@@ -46,14 +44,3 @@ pub record IsEnactText (x : Expanded) (message : ℕ) (text : List ℕ) : Type 0
   pub formula : Formula
   pub is_formula : IsEnactFormula x (message ∷ []) formula
   pub printed : text ≡ text_of Safety x formula
-
--- so it is with the message of the name
-pub record IsNamedText (x : Expanded) (name text : List ℕ) : Type 0 where
-  pub message : ℕ
-  pub named : IsMessageNamed x name message
-  pub text_is : IsEnactText x message text
-
--- the text is that of the formula that is wanted
-abbrev pub IsTextFor : Subject → Expanded → List ℕ → Type 0
-IsTextFor (Whole property) x text = IsFormulaText property x text
-IsTextFor (Dead name) x text = IsNamedText x name text

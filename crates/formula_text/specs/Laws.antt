@@ -1,5 +1,4 @@
--- The text is read as the formula, its legend names each variable once, and it is the only one. So
--- is the output.
+-- The text is read as the formula, its legend names each variable once, and it is the only one.
 use Rattle.std.specs.Prelude.{◌≡◌, ℕ, List, [], ◌∷◌, map}
 use Rattle.std.specs.List.{range_with_len}
 use Rattle.bspl_types.specs.declared.expanded.Expanded.{Expanded}
@@ -9,10 +8,8 @@ use Rattle.bspl_types.specs.declared.property.Property.{Property}
 use Rattle.bspl_types.specs.declared.property.Property.TheVariants.{Safety}
 use Rattle.clause_encoding.specs.Formula.{IsFormula}
 use Rattle.enactability.specs.EnactFormula.{IsEnactFormula}
-use Rattle.tool_input.specs.declared.status.Status.{Status}
 use Rattle.formula_text.specs.FormulaText.{IsEnactText, IsFormulaText, text_of}
 use Rattle.formula_text.specs.Legend.{legend}
-use Rattle.formula_text.specs.Output.{FormulaOutput}
 
 -- the text is in DIMACS form: a header and exactly the clauses of the formula
 abbrev pub ReadsBack : Type 0
@@ -49,10 +46,3 @@ abbrev pub OneEnactText : Type 0
 OneEnactText =
     (x : Expanded) (message : ℕ) (a b : List ℕ) → IsEnactText x message a →
     IsEnactText x message b → a ≡ b
-
--- arguments and an input have one output and one status
-abbrev pub OneOutput : Type 0
-OneOutput =
-    (args : List (List ℕ)) (input out out' : List ℕ) (status status' : Status) →
-    FormulaOutput args input out status → FormulaOutput args input out' status' →
-    (out ≡ out') × (status ≡ status')

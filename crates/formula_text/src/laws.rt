@@ -1,11 +1,10 @@
 ghost use Rattle.formula_text.specs.Laws.{EnactReadsBack, NamesEachEnactVariable, NamesEachVariable};
-ghost use Rattle.formula_text.specs.Laws.{OneEnactText, OneOutput, OneText, ReadsBack};
+ghost use Rattle.formula_text.specs.Laws.{OneEnactText, OneText, ReadsBack};
 
 use clause_encoding::{
     clauses_are_as_many, clauses_are_determined, clauses_are_few, variables_are_small,
 };
 use enactability::enact_clauses_are_few;
-use tool_input::{messages_are_named_once, texts_are_judged_once};
 
 /// A law: the text is in DIMACS form, with exactly the clauses of the formula.
 pub fn reads_back()
@@ -34,16 +33,4 @@ pub fn one_text()
 {
     // law: what is written has one list of clauses
     clauses_are_determined();
-}
-
-/// A law: arguments and an input have one output and one status.
-pub fn one_output()
-    ensures { OneOutput }
-{
-    // law: a text declares one protocol for a name, or is refused for one reason
-    texts_are_judged_once();
-    // law: a name is that of one message
-    messages_are_named_once();
-    // law: a protocol has one text of its formula
-    one_text();
 }

@@ -8,6 +8,14 @@ mod call_tests;
 #[cfg(test)]
 mod command_line_tests;
 #[cfg(test)]
+mod long_line_tests;
+#[cfg(test)]
 mod program_args_tests;
 #[cfg(test)]
+mod refusal_words_tests;
+#[cfg(test)]
 mod rejection_tests;
+#[cfg(test)]
+mod role_rows;
+#[cfg(test)]
+mod role_tests;

@@ -4,13 +4,9 @@ use adapter::OpenGate;
 use bspl_io::{MemSink, MemSource};
 use bspl_tool::bspl;
 use dimacs::run;
-use explained_answer::bspl_explain;
 use formula_check::dimacs_check;
-use formula_text::bspl_formula;
-use joint_enactment::bspl_can;
 use list_base::{Bytes, NoMemory};
-use lrat_export::bspl_lrat;
-use protocol_page::bspl_page;
+use more_commands::bspl_more;
 use std::alloc::Global;
 use std::sync::Wait;
 use std::thread::Threads;
@@ -122,11 +118,7 @@ fn status_of<H: Threads + Wait + Sync>(
     let (program, args) = words.split_first()?;
     match program.as_str() {
         "bspl" => Some(bspl_status(rt, alloc, args, source, sink)),
-        "bspl_explain" => Some(explain_status(alloc, args, source, sink)),
-        "bspl_formula" => Some(formula_status(alloc, args, source, sink)),
-        "bspl_can" => Some(can_status(alloc, args, source, sink)),
-        "bspl_lrat" => Some(lrat_status(alloc, args, source, sink)),
-        "bspl_page" => Some(page_status(alloc, args, source, sink)),
+        "bspl_more" => Some(more_status(alloc, args, source, sink)),
         "dimacs_sat" => Some(dimacs_status(alloc, args, source, sink)),
         "dimacs_check" => Some(check_status(alloc, args, source, sink)),
         _ => None,
@@ -143,34 +135,8 @@ fn bspl_status<H: Threads + Wait + Sync>(
     bspl(rt, alloc, args, source, sink, &OpenGate).number()
 }
 
-fn explain_status(
-    alloc: Global,
-    args: &[String],
-    source: &mut MemSource,
-    sink: &mut MemSink,
-) -> u8 {
-    bspl_explain(alloc, args, source, sink).number()
-}
-
-fn formula_status(
-    alloc: Global,
-    args: &[String],
-    source: &mut MemSource,
-    sink: &mut MemSink,
-) -> u8 {
-    bspl_formula(alloc, args, source, sink).number()
-}
-
-fn can_status(alloc: Global, args: &[String], source: &mut MemSource, sink: &mut MemSink) -> u8 {
-    bspl_can(alloc, args, source, sink).number()
-}
-
-fn lrat_status(alloc: Global, args: &[String], source: &mut MemSource, sink: &mut MemSink) -> u8 {
-    bspl_lrat(alloc, args, source, sink).number()
-}
-
-fn page_status(alloc: Global, args: &[String], source: &mut MemSource, sink: &mut MemSink) -> u8 {
-    bspl_page(alloc, args, source, sink).number()
+fn more_status(alloc: Global, args: &[String], source: &mut MemSource, sink: &mut MemSink) -> u8 {
+    bspl_more(alloc, args, source, sink).number()
 }
 
 fn dimacs_status(alloc: Global, args: &[String], source: &mut MemSource, sink: &mut MemSink) -> u8 {

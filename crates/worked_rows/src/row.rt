@@ -2,6 +2,7 @@ use super::answer::{Answer, LentAnswer, answer_at, answer_to};
 use super::evidence::without_evidence;
 use super::spelling::append_line;
 use super::streams::{Fault, calls_of};
+use super::texts::{Texts, text_asked};
 use list_base::{Bytes, NoMemory};
 use std::alloc::Global;
 use std::sync::Wait;
@@ -53,13 +54,18 @@ impl Row {
 
     /// Takes a line: the one with the status, which ends the input, or one of the input or the
     /// output.
-    pub(crate) fn take_line(&mut self, alloc: Global, line: &[u8]) -> Result<(), NoMemory> {
+    pub(crate) fn take_line(
+        &mut self,
+        alloc: Global,
+        texts: &Texts,
+        line: &[u8],
+    ) -> Result<(), NoMemory> {
         match line {
             [b'=', b' ', status @ ..] => self.want(Trial::Answer, status),
             [b'~', b' ', status @ ..] => self.want(Trial::Evidence, status),
             [b'!', b' ', status @ ..] => self.want(Trial::Faults, status),
             [b'-', b' ', status @ ..] => self.want(Trial::WriteFaults, status),
-            _ => self.push_line(alloc, line),
+            _ => self.push_line(alloc, texts, line),
         }
     }
 
@@ -69,12 +75,18 @@ impl Row {
         self.wanted.status.append(status)
     }
 
-    /// Puts a line to the input, or to the output once the status is known.
-    fn push_line(&mut self, alloc: Global, line: &[u8]) -> Result<(), NoMemory> {
-        if self.trial.is_some() {
-            append_line(alloc, &mut self.wanted.output, line)
+    /// Puts a line, or the text of a file that it stands for, to the input, or to the output once the
+    /// status is known.
+    fn push_line(&mut self, alloc: Global, texts: &Texts, line: &[u8]) -> Result<(), NoMemory> {
+        let taken = if self.trial.is_some() {
+            &mut self.wanted.output
         } else {
-            append_line(alloc, &mut self.input, line)
+            &mut self.input
+        };
+        match text_asked(line) {
+            Some((name, true)) => taken.append(texts.find(name).unwrap_or(b"no such text\n")),
+            Some((name, false)) => taken.append(without_end(texts.find(name).unwrap_or(b""))),
+            None => append_line(alloc, taken, line),
         }
     }
 
@@ -125,4 +137,9 @@ impl Row {
             _ => None,
         }
     }
+}
+
+/// The text without its last line end.
+fn without_end(text: &[u8]) -> &[u8] {
+    text.strip_suffix(b"\n").unwrap_or(text)
 }

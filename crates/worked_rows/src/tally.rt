@@ -2,6 +2,7 @@ use super::answer::LentAnswer;
 use super::row::Row;
 use super::spelling::append_number;
 use super::streams::{Fault, NO_FAULT};
+use super::texts::Texts;
 use super::trial::{faults_of, wanted_at};
 use list_base::{Bytes, NoMemory};
 use std::alloc::Global;
@@ -48,6 +49,7 @@ impl Tally {
         rt: &H,
         alloc: Global,
         name: &[u8],
+        texts: &Texts,
         rows: &[u8],
     ) -> Result<(), NoMemory> {
         self.section = Bytes::from_slice(alloc, name)?;
@@ -55,7 +57,7 @@ impl Tally {
         let lines = rows.strip_suffix(b"\n").unwrap_or(rows);
         for line in lines.split(|b| *b == b'\n') {
             self.line = self.line.saturating_add(1);
-            self.take_line(rt, alloc, line)?;
+            self.take_line(rt, alloc, texts, line)?;
         }
         self.end_row(rt, alloc)
     }
@@ -65,6 +67,7 @@ impl Tally {
         &mut self,
         rt: &H,
         alloc: Global,
+        texts: &Texts,
         line: &[u8],
     ) -> Result<(), NoMemory> {
         if line.starts_with(b"# ") {
@@ -72,7 +75,7 @@ impl Tally {
         }
         match line.strip_prefix(b"$") {
             Some(head) => self.begin_row(rt, alloc, head),
-            None => self.go_on(alloc, line),
+            None => self.go_on(alloc, texts, line),
         }
     }
 
@@ -89,9 +92,9 @@ impl Tally {
     }
 
     /// Gives the line to the row that is being read. A line before the first row is passed over.
-    fn go_on(&mut self, alloc: Global, line: &[u8]) -> Result<(), NoMemory> {
+    fn go_on(&mut self, alloc: Global, texts: &Texts, line: &[u8]) -> Result<(), NoMemory> {
         match &mut self.row {
-            Some(row) => row.take_line(alloc, line),
+            Some(row) => row.take_line(alloc, texts, line),
             None => Ok(()),
         }
     }

@@ -10,7 +10,7 @@ use Rattle.tool_input.specs.declared.rejection.Rejection.{Rejection}
 use Rattle.tool_input.specs.declared.status.Status.{Status}
 use Rattle.tool_input.specs.declared.status.Status.TheVariants.{Refused}
 use Rattle.tool_input.specs.Rejection.{rejection_line}
-use Rattle.log_lines.specs.LogLines.{log_rejection}
+use Rattle.rejections.specs.PartRejection.{log_rejection}
 use Rattle.formula_check.specs.Answer.{IsLogAnswer}
 
 -- the reply has this text and this status

@@ -1,4 +1,5 @@
 -- What the crates below answer once, the tool does.
+use Rattle.bspl_tool.proofs.LineTasks.{line_has_task}
 use Rattle.bspl_tool.proofs.Distinct.{OneEach, answer_law, refusal_law, rejection_law, usage_law}
 use Rattle.bspl_tool.proofs.laws.answers_are_distinct.Goals as goal
 
@@ -17,10 +18,8 @@ returns c =
           logs = c.reads_once.ensures.logs;
           refusals = c.reads_once.ensures.refusals;
           exclusive = c.reads_once.ensures.exclusive;
-          safety = c.safety_fails_once.ensures.failure;
-          safe = c.safety_fails_once.ensures.accepted;
-          liveness = c.liveness_fails_once.ensures.failure;
-          live = c.liveness_fails_once.ensures.accepted;
+          failure = c.log_fails_once.ensures.failure;
+          accepted = c.log_fails_once.ensures.accepted;
         };
         replay = record {
           runs = c.reads_once-2.ensures.runs;
@@ -44,4 +43,4 @@ returns c =
           exclusive = c.reads_once-4.ensures.exclusive;
         };
       };
-    } in record { usage = usage_law; rejection = rejection_law each; refused = refusal_law each; answer = answer_law each }
+    } in record { tasks = λ args is. line_has_task args is.0 is.1; usage = usage_law; rejection = rejection_law each; refused = refusal_law each; answer = answer_law each }

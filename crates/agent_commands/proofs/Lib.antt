@@ -1,0 +1,5 @@
+pub mod PlayAnswers
+pub mod RunAnswers
+pub mod RestartAnswers
+pub mod GenerateAnswers
+pub mod ServeAnswers

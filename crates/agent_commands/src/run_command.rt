@@ -1,0 +1,35 @@
+ghost use Rattle.std.specs.Prelude.{IfErr, IfOk};
+ghost use Rattle.tool_frame.specs.Answer.{IsRightAnswer};
+ghost use Rattle.tool_frame.specs.Error.{RejectsFor};
+ghost use Rattle.agent_commands.specs.Answer.{Completes, IsPlayable};
+ghost use Rattle.agent_commands.specs.RunAnswer.{IsRunAnswer, IsRunRefused};
+
+use super::agents::{job_of, play_if_safe};
+use super::answer::Answer;
+use super::play_mode::PlayMode;
+use super::world_report::WorldReport;
+use bspl_types::Admitted;
+use command_line::{Budget, ThreadCount};
+use std::alloc::Global;
+use tool_frame::AnswerError;
+use verdict_commands::reply_with_verdicts;
+
+/// Answers `run` on the text of agents. They are to play if their protocol is found safe.
+pub fn run(
+    alloc: Global,
+    brief: bool,
+    conflicts: Budget,
+    threads: ThreadCount,
+    protocol: Admitted,
+    part: &[u8],
+) -> Result<Answer, AnswerError>
+    ensures ok { IfOk result
+        (IsRightAnswer Completes (IsRunAnswer brief conflicts threads protocol part.now)) }
+    ensures safe { IfOk result IsPlayable }
+    ensures refused { IfErr result (RejectsFor (IsRunRefused protocol part.now)) }
+{
+    let job = job_of(alloc, protocol, part)?;
+    let found = reply_with_verdicts(alloc, brief, conflicts, job.admitted())?;
+    let report = WorldReport::Table;
+    Ok(play_if_safe(job, PlayMode::InThreads { threads, report }, found))
+}

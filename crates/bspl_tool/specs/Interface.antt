@@ -1,0 +1,30 @@
+-- The tool as a program of commands.
+use Rattle.std.specs.Prelude.{◌≡◌, ℕ, List, Option}
+use Rattle.tool_frame.specs.Interface.{Interface, task_bytes}
+use Rattle.tool_frame.specs.Request.{IsRequest}
+use Rattle.tool_input.specs.Parts.{protocol_text}
+use Rattle.tool_input.specs.Rejection.{rejection_line}
+use Rattle.bspl_tool.specs.declared.question.ToolQuestion.{ToolQuestion}
+use Rattle.bspl_tool.specs.declared.task.Task.{Task}
+use Rattle.bspl_tool.specs.Request.{Requests}
+use Rattle.bspl_tool.specs.Task.{own_text, rules_of}
+use Rattle.bspl_tool.specs.Texts.{usage_text}
+
+-- its tasks, and how arguments request them; a refusal is written as its line
+abbrev pub tool_interface : Interface Task
+tool_interface = record {
+  usage = usage_text;
+  requests = Requests;
+  rules = rules_of;
+  own_text = own_text;
+  refusal_text = λ task input rejection out. out ≡ rejection_line rejection;
+}
+
+-- the text that declares the protocol which the task judges: the protocol text of the bytes that it
+-- is done on
+abbrev pub judged_text : Task → List ℕ → List ℕ
+judged_text task input = protocol_text (task_bytes tool_interface task input)
+
+-- the arguments request what is asked: this task on this name, or no task
+abbrev pub IsToolRequest : List (List ℕ) → Option ToolQuestion → Type 0
+IsToolRequest = IsRequest tool_interface (λ question. question.task) (λ question. question.name.now)

@@ -1,9 +1,0 @@
--- The line that names a role.
-use Rattle.std.specs.Prelude.{◌≡◌, ℕ, ◌<◌, List, ◌++◌, codes, length}
-use Rattle.bspl_types.specs.declared.expanded.Expanded.{Expanded}
-use Rattle.history_audit.specs.HistoryText.{role_name}
-
--- without its LF the line is that of the role
-pub record IsRoleOf (x : Expanded) (first : List ℕ) (role : ℕ) : Type 0 where
-  pub known : role < length x.roles
-  pub is_line : first ≡ codes "role " ++ role_name x role

@@ -1,9 +1,0 @@
--- Arguments that name a formula ask for the input, and invalid ones do not.
-use Rattle.formula_text.proofs.ReplyLemmas.{asks_with_name, unasked_output}
-use Rattle.formula_text.proofs.request.RequestProgram.asks_input.Goals as goal
-
-pub returns-clause-exact : goal.returns-clause-exact
-returns-clause-exact c = λ args request. asks_with_name args c.args.self.now.wanted c.is_some.result c.is_some.ensures request
-
-pub returns-clause-unasked : goal.returns-clause-unasked
-returns-clause-unasked c = unasked_output

@@ -1,4 +1,0 @@
-pub mod ArgumentLemmas
-pub mod NameLemmas
-pub mod ReplyLemmas
-pub mod TruthLemmas

@@ -1,9 +1,0 @@
--- What is answered is answered of the messages that are asked.
-use Rattle.joint_enactment.proofs.TruthLemmas.{never_true, run_true}
-use Rattle.joint_enactment.proofs.laws.answers_are_true.Goals as goal
-
-pub returns-clause-never : goal.returns-clause-never
-returns-clause-never c = λ args input out x messages asked output. never_true c.texts_are_judged_once.ensures.declaration c.messages_are_named_once.ensures args input x messages asked out output
-
-pub returns-clause-together : goal.returns-clause-together
-returns-clause-together c = λ args input out x messages asked output. run_true c.texts_are_judged_once.ensures.declaration c.messages_are_named_once.ensures args input x messages asked out output

@@ -1,8 +1,0 @@
--- Which messages have been found.
-use Rattle.std.proofs.Common.{map, take}
-use Rattle.joint_enactment.specs.Named.{AreNamed}
-use Rattle.joint_enactment.proofs.lookup.messages_of.Given as goal
-
--- those of the names so far
-abbrev pub invariant-loop-name : goal.invariant-loop-name
-invariant-loop-name l = AreNamed l.x (map (λ name. name.now) (take l.name-index l.names)) l.messages

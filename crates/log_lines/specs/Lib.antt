@@ -1,2 +1,0 @@
--- What is written of a log that is not accepted, or of a text that is none.
-pub mod LogLines

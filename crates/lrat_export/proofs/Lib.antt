@@ -1,2 +1,0 @@
--- The outputs of a call, from its replies.
-pub mod ReplyLemmas

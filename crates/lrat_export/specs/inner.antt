@@ -1,3 +1,0 @@
--- What only private functions cite.
-pub mod Reply
-pub mod Request

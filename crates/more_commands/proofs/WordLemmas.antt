@@ -1,0 +1,30 @@
+-- What makes an answer in words, and answers without them.
+use Rattle.std.proofs.Common.{◌≡◌, ℕ, Bool, List, ◌++◌, refl, ◌∙◌}
+use Rattle.verdict_commands.specs.VerifyAnswer.{IsVerdictAnswer}
+use Rattle.bspl_tool.specs.declared.task.Task.{Task}
+use Rattle.bspl_tool.specs.declared.task.Task.TheVariants as tasks
+use Rattle.bspl_tool.specs.Task.{rules_of}
+use Rattle.bspl_types.specs.declared.expanded.Expanded.{Expanded}
+use Rattle.program_frame.specs.declared.reply.Reply.{Reply}
+use Rattle.report.specs.ExitStatus.{verdict_status}
+use Rattle.tool_input.specs.declared.status.Status.{Status}
+use Rattle.verdict.specs.declared.outcome.Verdicts.{Verdicts}
+use Rattle.answer_words.specs.VerdictText.{IsVerdictWords}
+use Rattle.more_commands.specs.ExplainAnswer.{AnswersInWords, IsExplainedAnswer}
+
+-- words behind a right answer with verdicts
+pub words_behind : (brief : Bool) (budget : ℕ) (x : Expanded) (v : Verdicts) (said reply : Reply Status) (words : List ℕ) → IsVerdictAnswer brief budget x v said.text → said.status ≡ verdict_status v.safety v.liveness → IsVerdictWords x v words → reply.text ≡ said.text ++ words → reply.status ≡ said.status → IsExplainedAnswer brief budget x reply.text reply.status
+words_behind brief budget x v said reply words answer ends are text status = record {
+  verdicts = v;
+  verdict_text = said.text;
+  answer = answer;
+  words = words;
+  are_words = are;
+  text = text;
+  ends = status ∙ ends;
+}
+
+-- an answer of another task than `verify` has no words
+pub other_answer : (task : Task) → ((brief : Bool) (budget : ℕ) → task ≡ tasks.Verify brief budget → ⊥) → (x : Expanded) (given out : List ℕ) (status : Status) → (rules_of task).answers x given out status → AnswersInWords task x given out status
+other_answer (tasks.Verify brief budget) other x given out status answers = absurd (other brief budget refl)
+other_answer task other x given out status answers = answers

@@ -1,0 +1,23 @@
+-- The proof of the formula, or the first failure.
+use Rattle.std.proofs.Common.{inl, inr, refl, rules}
+use Rattle.more_commands.proofs.lrat_command.log_answer.Goals as goal
+
+pub returns-in-Ok : goal.returns-in-Ok
+returns-in-Ok c = inl (record {
+  formula = c.in_ok-formula.formula;
+  is_formula = rw c.property_of.ensures at c.in_ok-formula.ensures.exact;
+  proves = c.in-Ok.ensures.ok;
+  done = refl;
+})
+
+pub returns : goal.returns
+returns c = inr (record {
+  reject = c.in-Err.reject;
+  fails = record {
+    formula = c.in_ok-formula.formula;
+    is_formula = rw c.property_of.ensures at c.in_ok-formula.ensures.exact;
+    fails = (c.in-Err.ensures.rejects (search rules) c.in-Err.reject).0 refl;
+  };
+  text = c.in_ok-reject_line-in-Err.ensures;
+  refuted = refl;
+})

@@ -1,0 +1,38 @@
+-- What `explain` answers on an admitted protocol.
+use Rattle.std.specs.Prelude.{◌≡◌, ℕ, Bool, List, ◌++◌}
+use Rattle.answer_words.specs.VerdictText.{IsVerdictWords}
+use Rattle.bspl_tool.specs.declared.task.Task.{Task}
+use Rattle.bspl_tool.specs.declared.task.Task.TheVariants.{Verify}
+use Rattle.bspl_tool.specs.Task.{rules_of}
+use Rattle.bspl_types.specs.declared.expanded.Expanded.{Expanded}
+use Rattle.report.specs.ExitStatus.{verdict_status}
+use Rattle.tool_frame.specs.Rules.{CommandRules}
+use Rattle.tool_input.specs.declared.status.Status.{Status}
+use Rattle.verdict.specs.declared.outcome.Verdicts.{Verdicts}
+use Rattle.verdict_commands.specs.VerifyAnswer.{IsVerdictAnswer}
+
+-- the text of some right verdicts, as `verify` gives it; then their words; and their status
+pub record IsExplainedAnswer (brief : Bool) (budget : ℕ) (x : Expanded) (out : List ℕ)
+    (status : Status) : Type 0 where
+  pub verdicts : Verdicts
+  pub verdict_text : List ℕ
+  pub answer : IsVerdictAnswer brief budget x verdicts verdict_text
+  pub words : List ℕ
+  pub are_words : IsVerdictWords x verdicts words
+  pub text : out ≡ verdict_text ++ words
+  pub ends : status ≡ verdict_status verdicts.safety verdicts.liveness
+
+-- a right answer to the task: that of `verify` has words, and each other one is the tool's
+abbrev pub AnswersInWords : Task → Expanded → List ℕ → List ℕ → Status → Type 0
+AnswersInWords (Verify brief budget) x given out status =
+    IsExplainedAnswer brief budget x out status
+AnswersInWords task x given out status = (rules_of task).answers x given out status
+
+-- the rules of the tool's task, with words
+abbrev pub explain_rules : Task → CommandRules
+explain_rules task = record {
+  needs = (rules_of task).needs;
+  answers = AnswersInWords task;
+  refuses = (rules_of task).refuses;
+  is_determined = ⊥;
+}

@@ -1,0 +1,45 @@
+-- What `formula` answers on an admitted protocol.
+use Rattle.std.specs.Prelude.{◌≡◌, ℕ, List, ⊤}
+use Rattle.bspl_types.specs.declared.expanded.Expanded.{Expanded}
+use Rattle.formula_text.specs.FormulaText.{IsEnactText, IsFormulaText}
+use Rattle.tool_frame.specs.declared.need.Need.TheVariants.{Nothing}
+use Rattle.tool_frame.specs.Rules.{CommandRules}
+use Rattle.tool_input.specs.declared.rejection.Rejection.{Rejection}
+use Rattle.tool_input.specs.declared.status.Status.{Status}
+use Rattle.tool_input.specs.declared.status.Status.TheVariants.{Done}
+use Rattle.tool_input.specs.MessageName.{IsMessageNamed, unknown_message}
+use Rattle.more_commands.specs.FormulaArguments.{Dead, FormulaSubject, Whole}
+
+-- the text is that of the formula in which the message of the name is sent
+pub record IsNamedText (x : Expanded) (name text : List ℕ) : Type 0 where
+  pub message : ℕ
+  pub named : IsMessageNamed x name message
+  pub text_is : IsEnactText x message text
+
+-- the text is that of the formula that is asked for
+abbrev pub IsTextFor : FormulaSubject → Expanded → List ℕ → Type 0
+IsTextFor (Whole property) x text = IsFormulaText property x text
+IsTextFor (Dead name) x text = IsNamedText x name text
+
+-- it is printed
+pub record PrintsFormula (x : Expanded) (subject : FormulaSubject) (out : List ℕ)
+    (status : Status) : Type 0 where
+  pub printed : IsTextFor subject x out
+  pub done : status ≡ Done
+
+-- the protocol has no message of the name that is asked for
+pub record IsFormulaRefused (x : Expanded) (subject : FormulaSubject) (r : Rejection)
+    : Type 0 where
+  pub message : List ℕ
+  pub is_asked : subject ≡ Dead message
+  pub unknown : (m : ℕ) → ¬ IsMessageNamed x message m
+  pub rejection_is : r ≡ unknown_message message
+
+-- it needs the protocol alone, and gives one text or one refusal
+abbrev pub formula_rules : FormulaSubject → CommandRules
+formula_rules subject = record {
+  needs = Nothing;
+  answers = λ x given. PrintsFormula x subject;
+  refuses = λ x given. IsFormulaRefused x subject;
+  is_determined = ⊤;
+}

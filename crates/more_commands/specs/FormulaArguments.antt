@@ -1,0 +1,29 @@
+-- What the arguments of `formula` ask.
+use Rattle.std.specs.Prelude.{◌≡◌, ℕ, List, [], ◌∷◌, IsTrue, codes}
+use Rattle.bspl_types.specs.Name.{is_name}
+use Rattle.bspl_types.specs.declared.property.Property.{Property}
+use Rattle.bspl_types.specs.declared.property.Property.TheVariants.{Liveness, Safety}
+
+-- which formula of a protocol: that of a property, or that of a message by its name
+pub data FormulaSubject : Type 0 where
+  Whole : (property : Property) → FormulaSubject
+  Dead : (message : List ℕ) → FormulaSubject
+
+-- the word for a property
+abbrev pub property_word : Property → List ℕ
+property_word Safety = codes "safety"
+property_word Liveness = codes "liveness"
+
+-- the words stand for the formula; a message has a name of the language
+abbrev pub IsSubject : List (List ℕ) → FormulaSubject → Type 0
+IsSubject words (Whole property) = words ≡ property_word property ∷ []
+IsSubject words (Dead message) =
+    (words ≡ codes "dead" ∷ message ∷ []) × IsTrue (is_name message)
+
+-- the arguments are the name of a protocol and the words for the formula
+pub record AsksFormula (args : List (List ℕ)) (name : List ℕ) (subject : FormulaSubject)
+    : Type 0 where
+  pub words : List (List ℕ)
+  pub arguments : args ≡ name ∷ words
+  pub named : IsTrue (is_name name)
+  pub subject_is : IsSubject words subject

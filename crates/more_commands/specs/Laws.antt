@@ -1,0 +1,78 @@
+-- What an output says is true, and which outputs are the only ones. Each statement is the contract
+-- of a function.
+use Rattle.std.specs.Prelude.{◌≡◌, ℕ, Bool, List, ◌∷◌, ◌++◌, codes}
+use Rattle.bspl_tool.specs.Interface.{tool_interface}
+use Rattle.bspl_types.specs.declared.expanded.Expanded.{Expanded}
+use Rattle.enactability.specs.Enactable.{AreEnactable}
+use Rattle.enactment_model.specs.Liveness.{LiveProtocol}
+use Rattle.enactment_model.specs.Safety.{SafeProtocol}
+use Rattle.tool_frame.specs.Interface.{HasTask}
+use Rattle.tool_frame.specs.Output.{Output}
+use Rattle.tool_input.specs.declared.status.Status.{Status}
+use Rattle.tool_input.specs.declared.status.Status.TheVariants.{Done, Refuted}
+use Rattle.tool_input.specs.Input.{Declares}
+use Rattle.tool_input.specs.Parts.{protocol_text}
+use Rattle.more_commands.specs.CanArguments.{CanTask}
+use Rattle.more_commands.specs.ExplainAnswer.{IsExplainedAnswer}
+use Rattle.more_commands.specs.FormulaArguments.{FormulaSubject}
+use Rattle.more_commands.specs.Given.{Given}
+use Rattle.more_commands.specs.Named.{AreNamed}
+use Rattle.more_commands.specs.PageAnswer.{IsPageAnswer}
+use Rattle.more_commands.specs.Task.{Can, Formula, RequestsMore, more_interface}
+
+-- the arguments and the input speak of these messages of this protocol
+pub record AreAskedOf (args : List (List ℕ)) (input : List ℕ) (x : Expanded)
+    (messages : List ℕ) : Type 0 where
+  pub name : List ℕ
+  pub task : CanTask
+  pub requested : RequestsMore args (Can task) name
+  pub declared : Declares name (protocol_text input) x
+  pub named : AreNamed x task.messages messages
+
+-- the status of `never` is given only if no legal run emits all of them under one key
+abbrev pub NeverIsTrue : Type 0
+NeverIsTrue =
+    (args : List (List ℕ)) (input out : List ℕ) (x : Expanded) (messages : List ℕ) →
+    AreAskedOf args input x messages → Output more_interface args input out Refuted →
+    ¬ AreEnactable x messages
+
+-- and that of a run only if one does
+abbrev pub TogetherIsTrue : Type 0
+TogetherIsTrue =
+    (args : List (List ℕ)) (input out : List ℕ) (x : Expanded) (messages : List ℕ) →
+    AreAskedOf args input x messages → Output more_interface args input out Done →
+    AreEnactable x messages
+
+-- arguments that ask for a formula, and an input, have one output and one status
+abbrev pub OneFormulaOutput : Type 0
+OneFormulaOutput =
+    (args : List (List ℕ)) (input out out' : List ℕ) (status status' : Status)
+    (subject : FormulaSubject) (name : List ℕ) → RequestsMore args (Formula subject) name →
+    Output more_interface args input out status →
+    Output more_interface args input out' status' → (out ≡ out') × (status ≡ status')
+
+-- a page with the status 0 is given of a safe and live protocol alone
+abbrev pub DonePagesAreTrue : Type 0
+DonePagesAreTrue =
+    (x : Expanded) (given : Given) (out : List ℕ) → IsPageAnswer x given out Done →
+    SafeProtocol x × LiveProtocol x
+
+-- so is an answer of `verify` in words
+abbrev pub DoneAnswersAreTrue : Type 0
+DoneAnswersAreTrue =
+    (brief : Bool) (budget : ℕ) (x : Expanded) (out : List ℕ) →
+    IsExplainedAnswer brief budget x out Done → SafeProtocol x × LiveProtocol x
+
+-- a right output of the tool for these arguments, with this status, and then words
+pub record AddsWords (args : List (List ℕ)) (bytes out : List ℕ) (status : Status) : Type 0 where
+  pub answer : List ℕ
+  pub is_answer : Output tool_interface args bytes answer status
+  pub words : List ℕ
+  pub is_out : out ≡ answer ++ words
+
+-- what `explain` writes for a command line of the tool adds words to an output of the tool
+abbrev pub AnswersAddWords : Type 0
+AnswersAddWords =
+    (args rest : List (List ℕ)) (bytes out : List ℕ) (status : Status) →
+    args ≡ codes "explain" ∷ rest → HasTask tool_interface rest →
+    Output more_interface args bytes out status → AddsWords rest bytes out status

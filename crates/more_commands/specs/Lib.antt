@@ -1,0 +1,15 @@
+-- What one call promises: the commands and their arguments; then what each answers, and the laws.
+-- What private functions cite is last.
+pub mod Call
+pub mod Task
+pub mod CanArguments
+pub mod FormulaArguments
+pub mod CanAnswer
+pub mod Named
+pub mod FormulaAnswer
+pub mod LratAnswer
+pub mod PageAnswer
+pub mod Given
+pub mod ExplainAnswer
+pub mod Laws
+pub mod inner

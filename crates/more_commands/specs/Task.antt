@@ -1,0 +1,101 @@
+-- The commands: what each is asked, by which arguments, and by which rules it answers.
+use Rattle.std.specs.Prelude.{◌≡◌, ℕ, List, [], ◌∷◌, ◌++◌, Option, None, codes, IsTrue}
+use Rattle.answer_words.specs.Refusal.{IsRefusalText}
+use Rattle.bspl_tool.specs.declared.task.Task.{Task}
+use Rattle.bspl_tool.specs.Request.{Requests}
+use Rattle.bspl_tool.specs.Task.{own_text}
+use Rattle.bspl_types.specs.Name.{is_name}
+use Rattle.tool_frame.specs.Interface.{Interface}
+use Rattle.tool_frame.specs.Rules.{CommandRules}
+use Rattle.tool_input.specs.declared.rejection.Rejection.{Rejection}
+use Rattle.tool_input.specs.Lines.{line}
+use Rattle.tool_input.specs.Rejection.{rejection_line}
+use Rattle.more_commands.specs.declared.word.CommandWord.{CommandWord}
+use Rattle.more_commands.specs.declared.word.CommandWord.TheVariants as word
+use Rattle.more_commands.specs.CanAnswer.{can_rules}
+use Rattle.more_commands.specs.CanArguments.{AsksCan, CanTask}
+use Rattle.more_commands.specs.ExplainAnswer.{explain_rules}
+use Rattle.more_commands.specs.FormulaAnswer.{formula_rules}
+use Rattle.more_commands.specs.FormulaArguments.{AsksFormula, FormulaSubject}
+use Rattle.more_commands.specs.LratAnswer.{lrat_rules}
+use Rattle.more_commands.specs.PageAnswer.{page_rules}
+
+-- messages are enacted together, a formula is printed, a log becomes a proof in LRAT form, a page is
+-- made, or a task of the tool is done in words
+pub data MoreTask : Type 0 where
+  Can : (task : CanTask) → MoreTask
+  Formula : (subject : FormulaSubject) → MoreTask
+  Lrat : MoreTask
+  Page : MoreTask
+  Explain : (task : Task) → MoreTask
+
+-- the text of the word of a command
+abbrev pub word_text : CommandWord → List ℕ
+word_text word.Can = codes "can"
+word_text word.Formula = codes "formula"
+word_text word.Lrat = codes "lrat"
+word_text word.Page = codes "page"
+word_text word.Explain = codes "explain"
+
+-- the word of a task's command
+abbrev pub task_word : MoreTask → CommandWord
+task_word (Can task) = word.Can
+task_word (Formula subject) = word.Formula
+task_word Lrat = word.Lrat
+task_word Page = word.Page
+task_word (Explain task) = word.Explain
+
+-- the only argument is the name of a protocol
+pub record IsNameAlone (args : List (List ℕ)) (name : List ℕ) : Type 0 where
+  pub arguments : args ≡ name ∷ []
+  pub named : IsTrue (is_name name)
+
+-- the arguments after that word ask for the task on the protocol of the name
+abbrev pub AsksTask : List (List ℕ) → MoreTask → List ℕ → Type 0
+AsksTask args (Can task) name = AsksCan args name task
+AsksTask args (Formula subject) name = AsksFormula args name subject
+AsksTask args Lrat name = IsNameAlone args name
+AsksTask args Page name = IsNameAlone args name
+AsksTask args (Explain task) name = Requests args task name
+
+-- the arguments request the task on the protocol of the name
+pub record RequestsMore (args : List (List ℕ)) (task : MoreTask) (name : List ℕ) : Type 0 where
+  pub rest : List (List ℕ)
+  pub arguments : args ≡ word_text (task_word task) ∷ rest
+  pub asks : AsksTask rest task name
+
+-- the rules of each task
+abbrev pub more_rules : MoreTask → CommandRules
+more_rules (Can task) = can_rules task
+more_rules (Formula subject) = formula_rules subject
+more_rules Lrat = lrat_rules
+more_rules Page = page_rules
+more_rules (Explain task) = explain_rules task
+
+-- the text that a task makes for itself: that of the tool's task
+abbrev pub more_own_text : MoreTask → Option (List ℕ)
+more_own_text (Explain task) = own_text task
+more_own_text task = None
+
+-- how a refusal is written: in words, or in its line
+abbrev pub IsMoreRefusal : MoreTask → List ℕ → Rejection → List ℕ → Type 0
+IsMoreRefusal (Explain task) input r out = IsRefusalText input r out
+IsMoreRefusal task input r out = out ≡ rejection_line r
+
+-- the line for invalid arguments
+abbrev pub more_usage : List ℕ
+more_usage =
+    line (codes "usage: bspl_more COMMAND NAME ..: " ++
+    codes "can NAME MESSAGE .. [--brief] [--conflicts N] | " ++
+    codes "formula NAME safety|liveness|dead MESSAGE | lrat NAME | page NAME | " ++
+    codes "explain COMMAND NAME ..")
+
+-- the commands together
+abbrev pub more_interface : Interface MoreTask
+more_interface = record {
+  usage = more_usage;
+  requests = RequestsMore;
+  rules = more_rules;
+  own_text = more_own_text;
+  refusal_text = IsMoreRefusal;
+}

@@ -1,0 +1,81 @@
+ghost use Rattle.std.specs.Prelude.{List, ℕ, map, string_bytes, IfOk, MatchOption};
+ghost use Rattle.more_commands.specs.declared.word.CommandWord.TheVariants as word;
+ghost use Rattle.more_commands.specs.Task.{IsNameAlone};
+ghost use Rattle.more_commands.specs.inner.Question.{IsAskedBy};
+
+use super::can_arguments::can_question;
+use super::command::MoreCommand;
+use super::formula_arguments::formula_question;
+use super::question::MoreQuestion;
+use super::word::CommandWord;
+use bspl_tool::ToolQuestion;
+use bspl_types::is_name;
+use list_base::NoMemory;
+use std::alloc::Global;
+use tool_frame::Question;
+
+/// What the arguments after the word of a command ask, if they are valid.
+pub(crate) fn question_of<'a>(
+    alloc: Global,
+    word: CommandWord,
+    args: &'a [String],
+) -> Result<Option<MoreQuestion<'a>>, NoMemory>
+    ensures { IfOk result (IsAskedBy word (map string_bytes args.now)) }
+{
+    match word {
+        CommandWord::Can => can_question(alloc, args),
+        CommandWord::Formula => Ok(formula_question(args)),
+        CommandWord::Lrat => Ok(lrat_question(args)),
+        CommandWord::Page => Ok(page_question(args)),
+        CommandWord::Explain => explain_question(alloc, args),
+    }
+}
+
+/// What the arguments of `lrat` ask.
+fn lrat_question(args: &[String]) -> Option<MoreQuestion<'_>>
+    ensures { IsAskedBy word.Lrat (map string_bytes args.now) result }
+{
+    Some(MoreQuestion {
+        name: name_alone(args)?,
+        command: MoreCommand::Lrat,
+    })
+}
+
+/// What the arguments of `page` ask.
+fn page_question(args: &[String]) -> Option<MoreQuestion<'_>>
+    ensures { IsAskedBy word.Page (map string_bytes args.now) result }
+{
+    Some(MoreQuestion {
+        name: name_alone(args)?,
+        command: MoreCommand::Page,
+    })
+}
+
+/// The name that is the only argument.
+fn name_alone(args: &[String]) -> Option<&[u8]>
+    ensures { MatchOption result
+        ((name : List ℕ) → ¬ IsNameAlone (map string_bytes args.now) name)
+        (λ name. IsNameAlone (map string_bytes args.now) name.now) }
+{
+    match args {
+        [name] if is_name(name.as_bytes()) => Some(name.as_bytes()),
+        _ => None,
+    }
+}
+
+/// What the arguments of `explain` ask: what they ask of the tool.
+fn explain_question<'a>(
+    alloc: Global,
+    args: &'a [String],
+) -> Result<Option<MoreQuestion<'a>>, NoMemory>
+    ensures { IfOk result (IsAskedBy word.Explain (map string_bytes args.now)) }
+{
+    match ToolQuestion::asked(alloc, args) {
+        Ok(Some(ToolQuestion { task, name })) => Ok(Some(MoreQuestion {
+            name,
+            command: MoreCommand::Explain(task),
+        })),
+        Ok(None) => Ok(None),
+        Err(_) => Err(NoMemory),
+    }
+}

@@ -1,0 +1,50 @@
+ghost use Rattle.more_commands.specs.Laws.{AnswersAddWords, DoneAnswersAreTrue, DonePagesAreTrue};
+ghost use Rattle.more_commands.specs.Laws.{NeverIsTrue, OneFormulaOutput, TogetherIsTrue};
+
+use super::question::MoreQuestion;
+use formula_text::one_text;
+use tool_frame::Question;
+use tool_input::{messages_are_named_once, texts_are_judged_once};
+
+/// A law: what an output of `can` says of the messages is true of the protocol that the input
+/// declares.
+pub fn answers_are_true()
+    ensures never { NeverIsTrue }
+    ensures together { TogetherIsTrue }
+{
+    // law: arguments request one task
+    MoreQuestion::asks_once();
+    // law: a text declares one protocol for a name
+    texts_are_judged_once();
+    // law: a name is that of one message
+    messages_are_named_once();
+}
+
+/// A law: arguments that ask for a formula, and an input, have one output and one status.
+pub fn one_output()
+    ensures { OneFormulaOutput }
+{
+    // law: arguments request one task
+    MoreQuestion::asks_once();
+    // law: a text declares one protocol for a name, or is refused for one reason
+    texts_are_judged_once();
+    // law: a name is that of one message
+    messages_are_named_once();
+    // law: a protocol has one text of its formula
+    one_text();
+}
+
+/// A law: the status 0 is that of a page on a safe and live protocol.
+pub fn done_pages_are_true()
+    ensures { DonePagesAreTrue }
+{}
+
+/// A law: so it is with an answer of `verify` in words.
+pub fn done_answers_are_true()
+    ensures { DoneAnswersAreTrue }
+{}
+
+/// A law: what `explain` writes for a command line is an output of the tool for it, and then words.
+pub fn answers_add_words()
+    ensures { AnswersAddWords }
+{}

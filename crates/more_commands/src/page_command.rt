@@ -1,0 +1,35 @@
+ghost use Rattle.std.specs.Prelude.{IfErr, IfOk};
+ghost use Rattle.tool_frame.specs.Error.{RejectsFor};
+ghost use Rattle.more_commands.specs.PageAnswer.{IsPageRefused, ShowsInput};
+
+use super::pages::{page_answer, page_with_agents, page_with_run};
+use agent_scripts::Job;
+use bspl_types::Admitted;
+use program_frame::Reply;
+use rejections::{run_rejection, script_rejection};
+use run_text::read_run;
+use script_text::read_scripts;
+use std::alloc::Global;
+use tool_frame::{AnswerError, error_for};
+use tool_input::{Part, Status, needed_part};
+
+/// Answers `page` on the whole input, which may give a run or agents beside the protocol.
+pub fn page(alloc: Global, protocol: Admitted, input: &[u8]) -> Result<Reply<Status>, AnswerError>
+    ensures ok { IfOk result (λ reply.
+        ShowsInput protocol input.now reply.text reply.status) }
+    ensures refused { IfErr result (RejectsFor (IsPageRefused protocol input.now)) }
+{
+    if let Ok(part) = needed_part(Some(Part::Run), input) {
+        let run = read_run(alloc, &protocol, part).map_err(|refusal| error_for(run_rejection(
+            refusal,
+        )))?;
+        return Ok(page_with_run(alloc, &protocol, run.as_slice())?);
+    }
+    if let Ok(part) = needed_part(Some(Part::Agents), input) {
+        let agents = read_scripts(alloc, part, &protocol).map_err(|refusal| error_for(
+            script_rejection(refusal),
+        ))?;
+        return Ok(page_with_agents(alloc, &Job::of(protocol, agents))?);
+    }
+    Ok(page_answer(alloc, &protocol)?)
+}

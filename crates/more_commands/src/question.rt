@@ -1,0 +1,119 @@
+ghost use Rattle.std.specs.Prelude.{◌≡◌, ⊤, IfOk};
+ghost use Rattle.tool_frame.specs.Answer.{IsRightAnswer, RepliesWith};
+ghost use Rattle.tool_frame.specs.Laws.{LongIsRefusedAlike, OneTask};
+ghost use Rattle.more_commands.specs.Task.{more_interface, more_usage};
+
+use super::arguments::question_of;
+use super::command::MoreCommand;
+use super::word::word_of;
+use bspl_tool::ToolQuestion;
+use bspl_types::Admitted;
+use list_base::{Bytes, NoMemory};
+use program_frame::Reply;
+use std::alloc::Global;
+use tool_frame::{AnswerError, Need, Question};
+use tool_input::{Rejection, Status};
+
+/// The line for arguments that request nothing.
+const USAGE: &[u8] =
+    b"usage: bspl_more COMMAND NAME ..: can NAME MESSAGE .. [--brief] [--conflicts N] | formula NAME safety|liveness|dead MESSAGE | lrat NAME | page NAME | explain COMMAND NAME ..\n";
+
+/// A command on the protocol of a name.
+#[derive(Drop)]
+pub struct MoreQuestion<'a> {
+    pub(crate) name: &'a [u8],
+    pub(crate) command: MoreCommand<'a>,
+}
+
+impl<'a> Question<'a> for MoreQuestion<'a> {
+    ghost use Rattle.std.specs.Prelude.{⊤};
+    ghost use Rattle.tool_frame.specs.Answer.{RepliesWith};
+    ghost use Rattle.more_commands.specs.Task.{MoreTask, more_interface};
+    ghost use Rattle.more_commands.specs.inner.Question.{more_task};
+
+    type Answer = Reply<Status>;
+
+    ghost Task = { MoreTask };
+
+    ghost interface = { more_interface };
+
+    ghost task = { λ question. more_task question.command };
+
+    ghost name = { λ question. question.name.now };
+
+    ghost completes = { RepliesWith };
+
+    ghost can_finish = { λ _. ⊤ };
+
+    fn asked(alloc: Global, args: &'a [String]) -> Result<Option<MoreQuestion<'a>>, NoMemory> {
+        let Some((word, rest)) = args.split_first() else {
+            return Ok(None);
+        };
+        match word_of(word.as_bytes()) {
+            Some(word) => question_of(alloc, word, rest),
+            None => Ok(None),
+        }
+    }
+
+    fn usage() -> &'static [u8]
+        ensures { result.now ≡ more_usage }
+    {
+        USAGE
+    }
+
+    fn name(&self) -> &[u8] {
+        self.name
+    }
+
+    fn needs(&self) -> Need {
+        self.command.needs()
+    }
+
+    fn reads_input(&self) -> bool {
+        self.command.reads_input()
+    }
+
+    fn own_text(&self, alloc: Global) -> Result<Option<Bytes>, NoMemory> {
+        self.command.own_text(alloc)
+    }
+
+    fn answer(
+        &self,
+        alloc: Global,
+        protocol: Admitted,
+        given: &[u8],
+    ) -> Result<Reply<Status>, AnswerError> {
+        self.command.answer(alloc, protocol, given)
+    }
+
+    fn refused(
+        &self,
+        alloc: Global,
+        input: &[u8],
+        rejection: &Rejection,
+    ) -> Result<Reply<Status>, NoMemory> {
+        self.command.refused(alloc, input, rejection)
+    }
+
+    fn whole(reply: Reply<Status>) -> Reply<Status>
+        ensures is_reply { RepliesWith result reply.text reply.status }
+        ensures right { IsRightAnswer RepliesWith (RepliesWith reply) result }
+        ensures finishes { ⊤ }
+    {
+        reply
+    }
+
+    fn finish(alloc: Global, answer: Reply<Status>) -> Result<Reply<Status>, NoMemory>
+        ensures { IfOk result (λ reply. RepliesWith answer reply.text reply.status) }
+    {
+        Ok(answer)
+    }
+
+    fn asks_once()
+        ensures once { OneTask more_interface }
+        ensures alike { LongIsRefusedAlike more_interface }
+    {
+        // law: arguments request one task of the tool at most
+        ToolQuestion::asks_once();
+    }
+}

@@ -1,0 +1,34 @@
+ghost use Rattle.std.specs.Prelude.{◌≡◌, ◌≢◌, MatchOption};
+ghost use Rattle.more_commands.specs.declared.word.CommandWord.{CommandWord as SpecWord};
+ghost use Rattle.more_commands.specs.Task.{word_text};
+
+/// The word of a command.
+#[derive(Clone, Copy, Debug, PartialEq, Eq)]
+pub enum CommandWord {
+    Can,
+    Formula,
+    Lrat,
+    Page,
+    Explain,
+}
+
+/// The command whose word this is.
+pub(crate) fn word_of(text: &[u8]) -> Option<CommandWord>
+    ensures { MatchOption result
+        ((word : SpecWord) → text.now ≢ word_text word)
+        (λ word. text.now ≡ word_text word) }
+{
+    if text == b"can".as_slice() {
+        Some(CommandWord::Can)
+    } else if text == b"formula".as_slice() {
+        Some(CommandWord::Formula)
+    } else if text == b"lrat".as_slice() {
+        Some(CommandWord::Lrat)
+    } else if text == b"page".as_slice() {
+        Some(CommandWord::Page)
+    } else if text == b"explain".as_slice() {
+        Some(CommandWord::Explain)
+    } else {
+        None
+    }
+}

@@ -1,4 +1,0 @@
-pub mod AnswerLemmas
-pub mod PageLemmas
-pub mod PlayLemmas
-pub mod ReplyLemmas

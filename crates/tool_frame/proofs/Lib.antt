@@ -1,0 +1,3 @@
+pub mod Unasked
+pub mod InputReplies
+pub mod Replies
