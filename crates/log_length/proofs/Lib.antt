@@ -1,5 +1,0 @@
-pub mod Literals
-pub mod Codes
-pub mod Running
-pub mod Distinct
-pub mod Counting
