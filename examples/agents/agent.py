@@ -4,8 +4,9 @@
     agent.py ROLE PURCHASES LOG [--port PORT] [--seed SEED]
 
 It decides what to send. Whether it may, and what a message that comes tells, its child process answers, a line for each
-line: bspl_role if it is built, else role.py, or the program that BSPL_ROLE names. Each request is logged before it is made, and its reply after it; an
-agent that is started with such a log makes the same requests again, gets the same replies, and goes on.
+line: `./bspl role`, or the program that BSPL_ROLE names, as role.py. Each request is logged before it is made, and its
+reply after it; an agent that is started with such a log makes the same requests again, gets the same replies, and goes
+on.
 
 Messages travel as the role's replies have them, and may be dropped, repeated or late: the receiver acknowledges each
 by its number, and the sender sends it again until then. With a seed the lines that come in are treated so here.
@@ -21,9 +22,8 @@ from pathlib import Path
 from link import Chaos, Inbox, of_arguments
 from protocol import EXAMPLES, purchase
 
-BUILT = EXAMPLES.parent / "crates/bspl_role/out/bspl_role"
-PLAIN = Path(__file__).resolve().parent / "role.py"
-ROLE_PROGRAM = os.environ.get("BSPL_ROLE", str(BUILT if BUILT.exists() else PLAIN))
+FRONT = str(EXAMPLES.parent / "bspl")
+ROLE_COMMAND = [os.environ["BSPL_ROLE"]] if "BSPL_ROLE" in os.environ else [FRONT, "role"]
 QUIET = 0.3
 AGAIN = 200
 
@@ -58,7 +58,7 @@ class Role:
     """The child process that keeps the role's store, and the log of what it was asked."""
 
     def __init__(self, protocol, role, log):
-        command = [ROLE_PROGRAM, protocol.name, role]
+        command = [*ROLE_COMMAND, protocol.name, role]
         self.child = subprocess.Popen(command, stdin=subprocess.PIPE, stdout=subprocess.PIPE)
         self.child.stdin.write((protocol.text + "%% wire\n").encode())
         self.past = list(self.replayed(log))

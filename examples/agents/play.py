@@ -7,8 +7,8 @@ The agents reach each other over a broker, mosquitto, which is started here on a
 pipes. With --chaos a tenth of the lines to each agent is dropped, a tenth comes twice, and a tenth comes late; and the
 seller is killed once and started again. When all N (1000) purchases have ended, `bspl audit` judges the three
 histories, and the outcome of each purchase is printed. The status is 0 if one legal run explains the histories, and no
-two of them have different values of one thing. The agents ask the program of --role or of BSPL_ROLE, else bspl_role
-if it is built, else role.py; BSPL names the program that audits.
+two of them have different values of one thing. The agents ask `./bspl role`, or the program of --role or of BSPL_ROLE,
+as role.py; `./bspl audit` audits, or the program that BSPL names.
 """
 import argparse
 import collections
@@ -27,7 +27,8 @@ from link import session
 from protocol import EXAMPLES, purchase
 
 HERE = Path(__file__).resolve().parent
-BSPL = os.environ.get("BSPL", str(EXAMPLES.parent / "crates/bspl/out/bspl"))
+FRONT = str(EXAMPLES.parent / "bspl")
+BSPL = os.environ.get("BSPL", FRONT)
 ROLES = ["B", "S", "Shipper"]
 KILLED = "S"
 SECONDS = 600
@@ -176,6 +177,13 @@ def report(logs, purchases):
     return answer == "consistent" and not differing and "open" not in outcomes
 
 
+def tell_of_role():
+    """Says what keeps the roles' stores; what has no build yet gets one before the play begins."""
+    if "BSPL_ROLE" not in os.environ:
+        subprocess.run([FRONT, "role"], stdin=subprocess.DEVNULL, capture_output=True)
+    print(f"play: the roles are those of {os.environ.get('BSPL_ROLE', './bspl role')}", file=sys.stderr)
+
+
 def main():
     arguments = argparse.ArgumentParser()
     arguments.add_argument("--pipes", action="store_true")
@@ -186,6 +194,7 @@ def main():
     given = arguments.parse_args()
     if given.role:
         os.environ["BSPL_ROLE"] = str(given.role.resolve())
+    tell_of_role()
     signal.signal(signal.SIGTERM, lambda *_: sys.exit(1))
     with tempfile.TemporaryDirectory() as scratch:
         folder = given.logs or Path(scratch)

@@ -1,0 +1,121 @@
+"""Trials of bspl_role with its input held open: each line has to have its reply before the next one is written.
+
+The lines and the replies are those of the worked rows on `bspl serve`, which gives the same replies at the end of its
+input. A role of an unsafe protocol, of a text that is refused, and for other arguments has to end at once.
+"""
+import queue
+import re
+import subprocess
+import threading
+
+from rows import rows, without_evidence
+
+# how long one reply may take on a machine that is at work
+SECONDS = 20
+WIRE = b"%% wire\n"
+
+
+class Role:
+    """A role that plays, and the lines that it has written, which a thread collects."""
+
+    def __init__(self, path, args):
+        self.process = subprocess.Popen([path, *args], stdin=subprocess.PIPE, stdout=subprocess.PIPE)
+        self.lines = queue.Queue()
+        threading.Thread(target=self.collect, daemon=True).start()
+
+    def collect(self):
+        for line in self.process.stdout:
+            self.lines.put(line)
+        self.lines.put(b"")
+
+    def reply_to(self, line):
+        """Writes the line, and gives the next line of the role; no bytes at the end, or if none came in time."""
+        self.process.stdin.write(line)
+        self.process.stdin.flush()
+        try:
+            return self.lines.get(timeout=SECONDS)
+        except queue.Empty:
+            return b""
+
+    def end(self):
+        """Ends the input. Gives the status, and what the role wrote after the last reply."""
+        self.process.stdin.close()
+        rest = b"".join(iter(self.lines.get, b""))
+        return self.process.wait(), rest
+
+
+def parts_of(row):
+    """Of a row on `serve` that ends well: the text up to the wire line, the role, and its lines with their replies."""
+    text, _, wire = row.given.partition(WIRE)
+    head, *lines = wire.splitlines(keepends=True)
+    return text + WIRE, head.split()[1], list(zip(lines, row.output.splitlines(keepends=True)))
+
+
+def wrong_play(path, row):
+    """Plays the role of the row line by line."""
+    text, role, lines = parts_of(row)
+    player = Role(path, [row.args[2], role, b"--unchecked"])
+    player.process.stdin.write(text)
+    for line, wanted in lines:
+        if line.endswith(b"\n"):
+            found = player.reply_to(line)
+        else:
+            player.process.stdin.write(line)
+            status, found = player.end()
+            return None if (status, found) == (0, wanted) else f"{row.place}: bspl_role, its last line"
+        if found != wanted:
+            player.end()
+            return f"{row.place}: bspl_role replies {found} to {line}, and not {wanted}"
+    return None if player.end() == (0, b"") else f"{row.place}: bspl_role at the end of its input"
+
+
+def wrong_end(path, args, given, status, output):
+    """Whether the role ends with this status and output while its input is held open."""
+    player = Role(path, args)
+    player.process.stdin.write(given)
+    player.process.stdin.flush()
+    try:
+        ended = player.process.wait(SECONDS)
+    except subprocess.TimeoutExpired:
+        ended = None
+        player.process.kill()
+    found = without_evidence(b"".join(iter(player.lines.get, b"")))
+    wanted = (status, without_evidence(output))
+    return None if (ended, found) == wanted else f"bspl_role {args}: ended {ended} with {found}"
+
+
+def is_on_whole_lines(row):
+    """Whether the row's lines and replies can be paired: a role line, and a reply for each line after it."""
+    text, found, wire = row.given.partition(WIRE)
+    lines = wire.splitlines()
+    return found and not text.count(b"%%") and lines and len(lines[0].split()) == 2 and (
+        len(row.output.splitlines()) == len(lines) - 1
+    )
+
+
+def is_unsafe(row):
+    """Whether the row has a text of one protocol, which is found unsafe."""
+    is_verdict = row.args[:2] == [b"bspl", b"verify"] and b"--brief" in row.args
+    return is_verdict and b"\nsafety unsafe" in row.output and row.given.count(b"roles") == 1
+
+
+def endings(path, all_rows):
+    """The calls that end by themselves: status 1, 3 and 4."""
+    ping = b"Ping { roles A, B parameters out ID key A -> B: ping[out ID] }\n"
+    usage = b"usage: bspl_role NAME ROLE [--unchecked]\n"
+    yield lambda: wrong_end(path, ["Ping"], b"", 3, usage)
+    yield lambda: wrong_end(path, ["Ping", "A", "--brief"], b"", 3, usage)
+    yield lambda: wrong_end(path, ["Ping", "C"], ping + WIRE, 4, b"refused F5\n")
+    yield lambda: wrong_end(path, ["Pong", "A"], ping + WIRE, 4, b"refused E3 Pong\n")
+    for row in [row for row in all_rows if is_unsafe(row)][:5]:
+        role = re.search(rb"roles\s+(\w+)", row.given)[1]
+        yield lambda row=row, role=role: wrong_end(path, [row.args[2], role], row.given + b"\n" + WIRE, 1, row.output)
+
+
+def trials(paths):
+    path = paths["bspl_role"]
+    all_rows = list(rows())
+    for row in all_rows:
+        if row.args[:2] == [b"bspl", b"serve"] and row.status == 0 and is_on_whole_lines(row):
+            yield lambda row=row: wrong_play(path, row)
+    yield from endings(path, all_rows)
