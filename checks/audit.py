@@ -27,6 +27,7 @@ from pathlib import Path
 from typing import NamedTuple
 
 sys.path.insert(0, str(Path(__file__).resolve().parent.parent / "bench"))
+from fair import fair  # noqa: E402
 from measure import TOP, least, missing, program  # noqa: E402
 
 BSPL = program("bspl")
@@ -66,16 +67,6 @@ class Protocol:
 
     def histories_of(self, run):
         return {role: [event for event in run if self.role_of(event) == role] for role in self.roles}
-
-
-def fair():
-    """One role asks seven others, and each answers."""
-    asked = range(1, 8)
-    params = ["out ID key"] + [f"out a{n}, out b{n}" for n in asked]
-    asks = [f"  R0 -> R{n}: ask{n}[{'out' if n == 1 else 'in'} ID, out a{n}]" for n in asked]
-    answers = [f"  R{n} -> R0: answer{n}[in ID, in a{n}, out b{n}]" for n in asked]
-    roles = ", ".join(f"R{n}" for n in range(8))
-    return "\n".join(["Fair {", f"  roles {roles}", "  parameters " + ", ".join(params), *asks, *answers, "}"])
 
 
 def example(name):

@@ -29,6 +29,7 @@ import tempfile
 from pathlib import Path
 
 sys.path.insert(0, str(Path(__file__).resolve().parent.parent / "bench"))
+from fair import fair  # noqa: E402
 from measure import TOP, program  # noqa: E402
 
 BSPL = program("bspl")
@@ -49,16 +50,6 @@ RACE = """Race {
 """
 # What ends the rows of Race: B answers A's message, or C's.
 ANSWERS = {b"04": "A's message first", b"05": "C's message first"}
-
-
-def fair():
-    """One role asks seven others, and each answers."""
-    asked = range(1, 8)
-    params = ["out ID key"] + [f"out a{n}, out b{n}" for n in asked]
-    asks = [f"  R0 -> R{n}: ask{n}[{'out' if n == 1 else 'in'} ID, out a{n}]" for n in asked]
-    answers = [f"  R{n} -> R0: answer{n}[in ID, in a{n}, out b{n}]" for n in asked]
-    roles = ", ".join(f"R{n}" for n in range(8))
-    return "\n".join(["Fair {", f"  roles {roles}", "  parameters " + ", ".join(params), *asks, *answers, "}", ""])
 
 
 def run(name, text, threads, before=(), **how):

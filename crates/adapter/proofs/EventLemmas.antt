@@ -20,20 +20,20 @@ use Rattle.local_store.specs.State.{acts_of, with_entry}
 use Rattle.stamped_history.specs.PlayedLaws.{PlayedGrows}
 use Rattle.stamped_history.specs.Played.{IsPlayed, Played}
 use Rattle.adapter.specs.Desk.{DeskState}
-use Rattle.adapter.specs.Kept.{AreDistinct, IsKept}
+use Rattle.adapter.specs.Kept.{AreDistinctEvents, IsKept}
 use Rattle.adapter.specs.Pending.{messages_of, pairs_of, pending}
 use Rattle.adapter.specs.Rules.{rules_of}
 use Rattle.adapter.proofs.PendingLemmas.{fewer_pending, HasNone}
 
 -- an event of a new pair is apart from the others
-apart : (history : List Event) (e : Event) → HasNone history (instance_of e).key (instance_of e).message → (f : Event) → Contains history f → AreDistinct f e
+apart : (history : List Event) (e : Event) → HasNone history (instance_of e).key (instance_of e).message → (f : Event) → Contains history f → AreDistinctEvents f e
 apart history (Emit j) none (Emit i) among = λ one other. none (Emit i) among one other
 apart history (Emit j) none (Receive i) among = tt
 apart history (Receive j) none (Emit i) among = tt
 apart history (Receive j) none (Receive i) among = λ one other. none (Receive i) among one other
 
-all_apart : (history : List Event) (e : Event) → HasNone history (instance_of e).key (instance_of e).message → AllPairs AreDistinct history → AllPairs AreDistinct (history ++ e ∷ [])
-all_apart history e none once = all_pairs_push AreDistinct history e once (λ k d within. apart history e none (get_or history k d) (All-contains_itself history k d within))
+all_apart : (history : List Event) (e : Event) → HasNone history (instance_of e).key (instance_of e).message → AllPairs AreDistinctEvents history → AllPairs AreDistinctEvents (history ++ e ∷ [])
+all_apart history e none once = all_pairs_push AreDistinctEvents history e once (λ k d within. apart history e none (get_or history k d) (All-contains_itself history k d within))
 
 -- an event of a new pair, which is played, leaves the desk kept
 pub with_event : PlayedGrows → EqualValuesAreOne → (job : Job) (role : ℕ) (d : DeskState) (e : Event) (stamp number : ℕ) → IsKept job role d → Contains job.script.keys (instance_of e).key → (instance_of e).message < length job.protocol.messages → role_of job.protocol e ≡ role → HasNone (acts_of d.store) (instance_of e).key (instance_of e).message → IsPlayed job.protocol (rules_of job) (acts_of d.store) e → IsConsistent (with_entry d.store e stamp number) → IsKept job role (record d { store = with_entry d.store e stamp number })
@@ -48,7 +48,7 @@ with_event grows equal job role d e stamp number kept keyed within own none play
       protocol_is = kept.protocol_is;
       role_is = kept.role_is;
       consistent = consistent;
-      once = subst (AllPairs AreDistinct) grown (all_apart acts e none kept.once);
+      once = subst (AllPairs AreDistinctEvents) grown (all_apart acts e none kept.once);
       held = kept.held;
       room = subst (λ (es : List Event). length (pending es pairs) < d.store.spare - 1) grown room;
       played = subst (λ (es : List Event). Played job.protocol (rules_of job) es) grown (grows job.protocol (rules_of job) acts e kept.played keyed played);

@@ -19,7 +19,7 @@ use Rattle.agent_scripts.specs.Job.{Job}
 use Rattle.local_store.specs.State.{acts_of}
 use Rattle.stamped_history.specs.declared.entry.Entry.{Entry}
 use Rattle.adapter.specs.Desk.{DeskState}
-use Rattle.adapter.specs.Kept.{AreDistinct, IsKept}
+use Rattle.adapter.specs.Kept.{AreDistinctEvents, IsKept}
 use Rattle.adapter.specs.Laws.{KeptEventsAreFew}
 use Rattle.adapter.specs.Pending.{messages_of, pairs_of}
 use Rattle.adapter.proofs.PendingLemmas.{Pair, among_pairs, own_message}
@@ -43,7 +43,7 @@ two_roles : (x : Expanded) (m role : ℕ) → IsAdmitted x → m < length x.mess
 two_roles x m role admitted within sends receives = (admitted.each_message m no_message within).two_roles (sends ∙ sym receives)
 
 -- two events of a role have two pairs
-distinct_pairs : (x : Expanded) (role : ℕ) (e f : Event) → IsAdmitted x → (instance_of e).message < length x.messages → role_of x e ≡ role → role_of x f ≡ role → AreDistinct e f → pair_of e ≢ pair_of f
+distinct_pairs : (x : Expanded) (role : ℕ) (e f : Event) → IsAdmitted x → (instance_of e).message < length x.messages → role_of x e ≡ role → role_of x f ≡ role → AreDistinctEvents e f → pair_of e ≢ pair_of f
 distinct_pairs x role (Emit i) (Emit j) admitted within own other distinct = λ same. distinct (ap (λ (p : Pair). p.0) same) (ap (λ (p : Pair). p.1) same)
 distinct_pairs x role (Receive i) (Receive j) admitted within own other distinct = λ same. distinct (ap (λ (p : Pair). p.0) same) (ap (λ (p : Pair). p.1) same)
 distinct_pairs x role (Emit i) (Receive j) admitted within own other distinct = λ same.

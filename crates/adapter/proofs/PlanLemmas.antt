@@ -22,7 +22,7 @@ use Rattle.bspl_types.specs.KeyAgrees.{KeyAgrees}
 use Rattle.bspl_types.specs.Knowledge.{Knows}
 use Rattle.stamped_history.specs.Local.{KnowsOneValue}
 use Rattle.agent_scripts.specs.Job.{Job}
-use Rattle.agent_scripts.specs.Script.{rule_of, Script, value_at, values_of}
+use Rattle.agent_scripts.specs.Script.{rule_of, Script, value_at, message_values}
 use Rattle.local_store.specs.Emission.{chosen_values}
 use Rattle.local_store.specs.State.{StoreState, acts_of}
 use Rattle.reorder_net.specs.Losses.{copies_of}
@@ -78,7 +78,7 @@ key_value keys key c v w among one other =
 record Determines (x : Expanded) (s : StoreState) (script : Script) (n : ℕ) (i : Instance) : Type 0 where
   fits : Fits x i
   ins : (p : ℕ) (v : Value) → Carries x i In p v → Knows x (acts_of s) i.key p v
-  given : chosen_values x i ≡ values_of x script i.message n
+  given : chosen_values x i ≡ message_values x script i.message n
 
 -- are the same in two of one message and one key
 one_value : (x : Expanded) (s : StoreState) (script : Script) (n : ℕ) (i j : Instance) → KnowsOneValue x (acts_of s) → Determines x s script n i → Determines x s script n j → i.message ≡ j.message → i.key ≡ j.key → (c : Carried) (v w : Value) → Contains (pairs x i) (c, v) → Contains (pairs x j) (c, w) → v ≡ w
@@ -121,7 +121,7 @@ determined job d role n e kept plan =
       fits = subst (λ (x : Expanded). Fits x i) kept.protocol_is plan.emission.fits;
       ins = λ p v carries. subst (λ (key : List Value). Knows job.protocol (acts_of d.store) key p v) (sym plan.emission.key_is)
           (subst (λ (x : Expanded). Carries x i In p v → Knows x (acts_of d.store) (key_of job n) p v) kept.protocol_is (plan.emission.ins p v) carries);
-      given = subst (λ (x : Expanded). chosen_values x i ≡ values_of job.protocol job.script i.message n) kept.protocol_is plan.emission.outs_are;
+      given = subst (λ (x : Expanded). chosen_values x i ≡ message_values job.protocol job.script i.message n) kept.protocol_is plan.emission.outs_are;
     }
 
 -- and two planned envelopes are one

@@ -24,7 +24,7 @@ use Rattle.bspl_types.specs.Instance.{Fits}
 use Rattle.bspl_types.specs.Knowledge.{CanEmit, Knows}
 use Rattle.bspl_types.specs.Value.{EqualValuesAreOne}
 use Rattle.agent_scripts.specs.Job.{Job}
-use Rattle.agent_scripts.specs.Script.{is_declined, rule_of, value_at, values_of}
+use Rattle.agent_scripts.specs.Script.{is_declined, rule_of, value_at, message_values}
 use Rattle.agent_scripts.specs.Statement.{IsSentBy}
 use Rattle.enactment_model.specs.Liveness.{IsEmitted}
 use Rattle.local_store.specs.Consistent.{IsConsistent}
@@ -145,8 +145,8 @@ chosen job d n t m orderly kept number step emission =
     let key_is : i.key ≡ key_of job n = emission.key_is ∙ step.key_is in
     let same = λ (k : ℕ) (is : IsNumber (rules_of job) k i.key). same_number job n k i.key orderly number key_is is in
     let next : IsNext job d.store n (Some i.message) = subst (λ k. IsNext job d.store n (Some k)) (sym emission.message_is) step.next in
-    let given : chosen_values d.store.protocol i ≡ values_of job.protocol job.script i.message n = emission.outs_are ∙ step.outs_are ∙ ap (λ k. values_of job.protocol job.script k n) (sym emission.message_is) in
-    let given_there = subst (λ (x : Expanded). chosen_values x i ≡ values_of job.protocol job.script i.message n) kept.protocol_is given in
+    let given : chosen_values d.store.protocol i ≡ message_values job.protocol job.script i.message n = emission.outs_are ∙ step.outs_are ∙ ap (λ k. message_values job.protocol job.script k n) (sym emission.message_is) in
+    let given_there = subst (λ (x : Expanded). chosen_values x i ≡ message_values job.protocol job.script i.message n) kept.protocol_is given in
     let own : IsSentBy d.store.protocol d.store.role i.message = sent job d i.message orderly kept (in_order job d n i.message next) in
     let sender_is : (message_of job.protocol i.message).sender ≡ d.store.role = subst (λ (x : Expanded). (message_of x i.message).sender ≡ d.store.role) kept.protocol_is own.1 in
     record {
@@ -172,7 +172,7 @@ planned job d n t m orderly kept number step emission =
         message_is = refl;
         key_is = emission.key_is ∙ step.key_is;
         ins = λ p v carries. subst (λ (key : List Value). Knows d.store.protocol (acts_of d.store) key p v) step.key_is (emission.ins p v carries);
-        outs_are = emission.outs_are ∙ step.outs_are ∙ ap (λ k. values_of job.protocol job.script k n) (sym emission.message_is);
+        outs_are = emission.outs_are ∙ step.outs_are ∙ ap (λ k. message_values job.protocol job.script k n) (sym emission.message_is);
         stamp_is = emission.stamp_is;
         number_is = emission.number_is;
       };
@@ -241,7 +241,7 @@ plan_is job d n role t m e orderly kept number step emission role_is is =
 pub plan_kept : PlayedGrows → EqualValuesAreOne → (job : Job) (d new : DeskState) (n : ℕ) (p : Planned) → IsOrderly job → IsAtWork job d n → IsPlan job d.store n p → new ≡ with_emission d p.envelope.message → IsConsistent new.store → IsKept job d.store.role new
 plan_kept grows equal job d new n p orderly work plan changed consistent =
     let m = p.envelope.message in
-    let step : Step = record { message = m.instance.message; row = p.row; key = key_of job n; outs = values_of job.protocol job.script m.instance.message n } in
+    let step : Step = record { message = m.instance.message; row = p.row; key = key_of job n; outs = message_values job.protocol job.script m.instance.message n } in
     let is : IsNextStep job d.store n step = record {
       clock = plan.next.clock;
       next = plan.next.next;

@@ -23,7 +23,7 @@ use Rattle.agent_scripts.specs.Job.{Job}
 use Rattle.local_store.specs.declared.receipt.Receipt.{Receipt}
 use Rattle.local_store.specs.declared.receipt.Receipt.TheVariants.{Fresh, Repeat, Differs}
 use Rattle.local_store.specs.Consistent.{IsConsistent}
-use Rattle.local_store.specs.Reception.{Agrees, AllAgree, IsReceipt, received}
+use Rattle.local_store.specs.Reception.{Agrees, AllAgree, IsReceipt, with_receipt}
 use Rattle.local_store.specs.State.{StoreState, acts_of}
 use Rattle.stamped_history.specs.PlayedLaws.{PlayedGrows}
 use Rattle.reorder_net.specs.Inbox.{Inbox, after_spending}
@@ -85,7 +85,7 @@ none_received s i consistent fits own agree never (Receive j) among under is =
     never (subst (Contains (acts_of s)) (λ k. Receive (record { message = is k; key = under k; values = values k })) among)
 
 -- a message that the store received leaves the desk kept
-pub with_message : PlayedGrows → EqualValuesAreOne → (job : Job) (role : ℕ) (d : DeskState) (e : Envelope) → IsKept job role d → IsFor job role e → ¬ Contains (acts_of d.store) (Receive e.message.instance) → AllAgree d.store.protocol (acts_of d.store) e.message.instance → IsConsistent (received d.store e.message) → IsKept job role (record d { store = received d.store e.message })
+pub with_message : PlayedGrows → EqualValuesAreOne → (job : Job) (role : ℕ) (d : DeskState) (e : Envelope) → IsKept job role d → IsFor job role e → ¬ Contains (acts_of d.store) (Receive e.message.instance) → AllAgree d.store.protocol (acts_of d.store) e.message.instance → IsConsistent (with_receipt d.store e.message) → IsKept job role (record d { store = with_receipt d.store e.message })
 with_message grows equal job role d e kept is never agree consistent =
     let i = e.message.instance in
     let fits : Fits d.store.protocol i = subst (λ (x : Expanded). Fits x i) (sym kept.protocol_is) is.fits in

@@ -16,7 +16,7 @@ use Rattle.bspl_types.specs.Adornment.{has_value, valued}
 use Rattle.bspl_types.specs.Choice.{chosen_params, is_chosen, is_out}
 use Rattle.bspl_types.specs.Expansion.{message_of}
 use Rattle.bspl_types.specs.Instance.{Carries}
-use Rattle.agent_scripts.specs.Script.{rule_of, Script, value_at, values_of}
+use Rattle.agent_scripts.specs.Script.{rule_of, Script, value_at, message_values}
 use Rattle.local_store.specs.Emission.{chosen_values}
 
 -- a chosen parameter has a value
@@ -84,7 +84,7 @@ is_among (key ∷ keys) p = ⊎_elim
     (cases_Bool (key == p))
 
 -- an `out` parameter that is no key has the script's value
-pub given_value : (x : Expanded) (script : Script) (i : Instance) (n p : ℕ) (v : Value) → chosen_values x i ≡ values_of x script i.message n → Carries x i Out p v → ¬ Contains x.keys p → v ≡ value_at (rule_of script.rules i.message p) n
+pub given_value : (x : Expanded) (script : Script) (i : Instance) (n p : ℕ) (v : Value) → chosen_values x i ≡ message_values x script i.message n → Carries x i Out p v → ¬ Contains x.keys p → v ≡ value_at (rule_of script.rules i.message p) n
 given_value x script i n p v given carries free =
     let carried = (message_of x i.message).carried in
     let test = is_chosen x.keys in

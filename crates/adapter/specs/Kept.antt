@@ -28,11 +28,11 @@ pub record IsFor (job : Job) (role : ℕ) (e : Envelope) : Type 0 where
   pub some : 0 < e.copies
 
 -- not both are emissions, or receipts, of one message under one key
-abbrev pub AreDistinct : Event → Event → Type 0
-AreDistinct (Emit i) (Emit j) = i.key ≡ j.key → i.message ≢ j.message
-AreDistinct (Receive i) (Receive j) = i.key ≡ j.key → i.message ≢ j.message
-AreDistinct (Emit _) (Receive _) = Unit {0}
-AreDistinct (Receive _) (Emit _) = Unit {0}
+abbrev pub AreDistinctEvents : Event → Event → Type 0
+AreDistinctEvents (Emit i) (Emit j) = i.key ≡ j.key → i.message ≢ j.message
+AreDistinctEvents (Receive i) (Receive j) = i.key ≡ j.key → i.message ≢ j.message
+AreDistinctEvents (Emit _) (Receive _) = Unit {0}
+AreDistinctEvents (Receive _) (Emit _) = Unit {0}
 
 -- the store is one of the job's protocol and of the role, with a local history; each message has at
 -- most one emission and one receipt under a key; all workload keys are held; there is room for more
@@ -43,7 +43,7 @@ pub record IsKept (job : Job) (role : ℕ) (d : DeskState) : Type 0 where
   pub protocol_is : d.store.protocol ≡ job.protocol
   pub role_is : d.store.role ≡ role
   pub consistent : IsConsistent d.store
-  pub once : AllPairs AreDistinct (acts_of d.store)
+  pub once : AllPairs AreDistinctEvents (acts_of d.store)
   pub held : All (Contains d.store.keys) job.script.keys
   pub room : length (pending (acts_of d.store)
       (pairs_of job.script.keys (messages_of job.protocol role))) < d.store.spare

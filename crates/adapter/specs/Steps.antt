@@ -9,7 +9,7 @@ use Rattle.bspl_types.specs.declared.event.Event.TheVariants.{Emit}
 use Rattle.bspl_types.specs.Expansion.{message_of}
 use Rattle.stamped_history.specs.Entries.{clock_limit, last_stamp}
 use Rattle.agent_scripts.specs.Job.{Job}
-use Rattle.agent_scripts.specs.Script.{values_of}
+use Rattle.agent_scripts.specs.Script.{message_values}
 use Rattle.local_store.specs.declared.receipt.Receipt.{Receipt}
 use Rattle.local_store.specs.declared.receipt.Receipt.TheVariants.{Fresh, Repeat, Differs}
 use Rattle.local_store.specs.Emission.{IsEmission}
@@ -29,7 +29,7 @@ pub record IsPlanned (job : Job) (s : StoreState) (n : ℕ) (e : Envelope) : Typ
   pub clock : last_stamp s.entries < clock_limit
   pub next : IsNext job s n (Some e.message.instance.message)
   pub emission : IsEmission s e.message.instance.message (key_of job n)
-      (values_of job.protocol job.script e.message.instance.message n) e.message
+      (message_values job.protocol job.script e.message.instance.message n) e.message
   pub played : IsPlayed job.protocol (rules_of job) (acts_of s) (Emit e.message.instance)
   pub from : e.from ≡ s.role
   pub to : e.to ≡ (message_of job.protocol e.message.instance.message).receiver
@@ -90,7 +90,7 @@ IsTaking g old None new = TakesNone g old × (new ≡ old)
 IsTaking g old (Some r) new = IsTaken (picked_index g old.inbox) old r new
 
 -- the envelope comes last in the desk's inbox, unless it has no copies; it takes one place at most
-pub record Accepts (old : DeskState) (e : Envelope) (new : DeskState) : Type 0 where
+pub record AcceptsEnvelope (old : DeskState) (e : Envelope) (new : DeskState) : Type 0 where
   pub store : new.store ≡ old.store
   pub envelopes : new.inbox.envelopes ≡ put_last old.inbox.envelopes e
   pub spare : old.inbox.spare ≤ new.inbox.spare + 1

@@ -1,6 +1,6 @@
 ghost use Rattle.std.specs.Prelude.{◌≡◌, ◌<◌, IsOk, OnOk, OnErr};
 ghost use Rattle.adapter.specs.Kept.{IsFor, IsKept};
-ghost use Rattle.adapter.specs.Steps.{Accepts};
+ghost use Rattle.adapter.specs.Steps.{AcceptsEnvelope};
 
 use super::desk::Desk;
 use agent_scripts::Job;
@@ -13,7 +13,7 @@ pub fn deliver(desk: &mut Desk, job: &Job, e: Envelope) -> Result<(), NoMemory>
     requires kept { IsKept job.now desk.old.store.role desk.old }
     requires own { 0 < e.copies → IsFor job.now desk.old.store.role e }
     ensures kept { IsKept job.now desk.old.store.role desk.new }
-    ensures ok { OnOk result (Accepts desk.old e desk.new) }
+    ensures ok { OnOk result (AcceptsEnvelope desk.old e desk.new) }
     ensures room { 0 < desk.old.inbox.spare → IsOk result }
     ensures err { OnErr result (desk.new ≡ desk.old) }
 {
@@ -25,7 +25,7 @@ pub(crate) fn deliver_lent(desk: &mut Desk, job: &Job, e: &Envelope) -> Result<(
     requires kept { IsKept job.now desk.old.store.role desk.old }
     requires own { 0 < e.now.copies → IsFor job.now desk.old.store.role e.now }
     ensures kept { IsKept job.now desk.old.store.role desk.new }
-    ensures ok { OnOk result (Accepts desk.old e.now desk.new) }
+    ensures ok { OnOk result (AcceptsEnvelope desk.old e.now desk.new) }
     ensures room { 0 < desk.old.inbox.spare → IsOk result }
     ensures err { OnErr result (desk.new ≡ desk.old) }
 {

@@ -8,7 +8,7 @@ use Rattle.report.specs.Summary.{generated_text}
 use Rattle.tool_frame.specs.Answer.{IsRightAnswer}
 use Rattle.tool_input.specs.declared.status.Status.{Status}
 use Rattle.verdict.specs.declared.outcome.Verdicts.{Verdicts}
-use Rattle.verdict.specs.Verdicts.{AreRight}
+use Rattle.verdict.specs.Verdicts.{AreRightAnswers}
 use Rattle.agent_commands.specs.declared.answer.Answer.{Answer}
 use Rattle.agent_commands.specs.declared.play_mode.PlayMode.TheVariants.{InThreads}
 use Rattle.agent_commands.specs.declared.world_report.WorldReport.TheVariants.{Summary}
@@ -28,7 +28,7 @@ given_answer stages budget threads x part job out status given answer = record {
 }
 
 -- so is what begins with the lines of right verdicts
-pub generate_answer : (stages budget threads : ℕ) (x : Expanded) (part : List ℕ) (job : Job) (v : Verdicts) (reply : Reply Status) (a : Answer) → IsGivenJob x part job → AreRight job.protocol budget v → reply.text ≡ generated_text stages job.protocol v → reply.status ≡ verdict_status v.safety v.liveness → IsRightAnswer Completes (PlaysIfSafe job (InThreads threads Summary) v.safety reply) a → IsRightAnswer Completes (IsGenerateAnswer stages budget threads x part) a
+pub generate_answer : (stages budget threads : ℕ) (x : Expanded) (part : List ℕ) (job : Job) (v : Verdicts) (reply : Reply Status) (a : Answer) → IsGivenJob x part job → AreRightAnswers job.protocol budget v → reply.text ≡ generated_text stages job.protocol v → reply.status ≡ verdict_status v.safety v.liveness → IsRightAnswer Completes (PlaysIfSafe job (InThreads threads Summary) v.safety reply) a → IsRightAnswer Completes (IsGenerateAnswer stages budget threads x part) a
 generate_answer stages budget threads x part job v reply a given right lines ends plays = λ out status completes.
     let said = plays out status completes in
     given_answer stages budget threads x part job out status given (record {

@@ -7,7 +7,7 @@ use Rattle.std.specs.List.{list_any}
 use Rattle.bspl_io.specs.Faults.{HasCounted, last_count}
 use Rattle.bspl_types.specs.declared.expanded.Expanded.{Expanded}
 use Rattle.bspl_types.specs.Limits.{input_limit}
-use Rattle.history_audit.specs.HistoryText.{role_name}
+use Rattle.bspl_types.specs.Expansion.{role_name}
 use Rattle.local_store.specs.State.{StoreState}
 use Rattle.role_server.specs.declared.refusal.ServeRefusal.TheVariants.{TooLong}
 use Rattle.role_server.specs.Served.{Served}

@@ -8,7 +8,7 @@ use Rattle.bspl_types.specs.declared.expanded.Expanded.{Expanded}
 use Rattle.report.specs.ExitStatus.{verdict_status}
 use Rattle.report.specs.Summary.{generated_text}
 use Rattle.verdict.specs.declared.outcome.Verdicts.{Verdicts}
-use Rattle.verdict.specs.Verdicts.{AreRight}
+use Rattle.verdict.specs.Verdicts.{AreRightAnswers}
 use Rattle.tool_frame.specs.declared.need.Need.TheVariants.{Part}
 use Rattle.tool_frame.specs.Rules.{CommandRules}
 use Rattle.tool_input.specs.declared.parts.Part.TheVariants as part
@@ -22,7 +22,7 @@ use Rattle.agent_commands.specs.RunAnswer.{IsRunRefused}
 pub record IsSummedUp (stages budget threads : ℕ) (job : Job) (out : List ℕ)
     (status : Status) : Type 0 where
   pub verdicts : Verdicts
-  pub right : AreRight job.protocol budget verdicts
+  pub right : AreRightAnswers job.protocol budget verdicts
   pub ends : status ≡ verdict_status verdicts.safety verdicts.liveness
   pub agents_text : List ℕ
   pub played : AgentsText (IsPlayedText Summary threads job) verdicts.safety agents_text

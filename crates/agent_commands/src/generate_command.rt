@@ -3,7 +3,7 @@ ghost use Rattle.report.specs.ExitStatus.{verdict_status};
 ghost use Rattle.report.specs.Summary.{generated_text};
 ghost use Rattle.tool_frame.specs.Answer.{IsRightAnswer};
 ghost use Rattle.tool_frame.specs.Error.{RejectsFor};
-ghost use Rattle.verdict.specs.Verdicts.{AreRight};
+ghost use Rattle.verdict.specs.Verdicts.{AreRightAnswers};
 ghost use Rattle.agent_commands.specs.Answer.{Completes, IsPlayable};
 ghost use Rattle.agent_commands.specs.GenerateAnswer.{IsGenerateAnswer};
 ghost use Rattle.agent_commands.specs.RunAnswer.{IsRunRefused};
@@ -52,7 +52,7 @@ fn reply_in_short(
     conflicts: Budget,
     protocol: &Admitted,
 ) -> Result<VerdictReply, NoMemory>
-    ensures right { IfOk result (λ r. AreRight protocol.now conflicts r.verdicts) }
+    ensures right { IfOk result (λ r. AreRightAnswers protocol.now conflicts r.verdicts) }
     ensures text { IfOk result (λ r.
         r.reply.text ≡ generated_text stages protocol.now r.verdicts) }
     ensures ends { IfOk result (λ r.

@@ -24,7 +24,7 @@ use Rattle.agent_scripts.specs.Refusal.{IsScriptFor}
 use Rattle.agent_scripts.specs.Rules.{key_in}
 use Rattle.agent_scripts.specs.Script.{Script}
 use Rattle.agent_scripts.specs.ScriptText.{MeansAt, statements_of}
-use Rattle.agent_scripts.specs.Statement.{IsSentBy, IsKnown, Means}
+use Rattle.agent_scripts.specs.Statement.{IsSentBy, IsDeclaredIn, Means}
 
 -- these messages are those of the protocol from number k on
 pub record AreFrom (x : Expanded) (k : ℕ) (messages : List Message) : Type 0 where
@@ -61,7 +61,7 @@ all_sent x role = numbered x role 0 x.messages (record {
 })
 
 -- the messages that a known statement orders for the role are sent by it
-of_statement : (x : Expanded) (role : ℕ) (s : Statement) → IsKnown x s → All (IsSentBy x role) (order_in role s)
+of_statement : (x : Expanded) (role : ℕ) (s : Statement) → IsDeclaredIn x s → All (IsSentBy x role) (order_in role s)
 of_statement x role (Order other messages) known = ⊎_elim
     (λ yes. rw yes (subst (λ r. All (IsSentBy x r) messages) (equal_test other role yes) known.1))
     (λ none. rw none (All-nil (IsSentBy x role)))

@@ -1,11 +1,7 @@
 -- The lines of a text, and the fields of a line.
-use Rattle.std.specs.Prelude.{ℕ, ◌-◌, not, ◌==◌, ◌||◌, if◌then◌else◌, List, [], ◌∷◌, length, take}
+use Rattle.std.specs.Prelude.{ℕ, ◌-◌, ◌==◌, if◌then◌else◌, List, [], ◌∷◌, length, take}
 use Rattle.std.specs.Prelude.{slice_index_or}
-use Rattle.std.specs.List.{slice_split, filter}
-
--- the bytes of a field
-abbrev pub Field : Type 0
-Field = List ℕ
+use Rattle.std.specs.List.{slice_split}
 
 -- a line that LF ends, without a CR at its end
 abbrev pub without_return : List ℕ → List ℕ
@@ -19,10 +15,5 @@ ended_lines (last ∷ []) = last ∷ []
 ended_lines (line ∷ next ∷ lines) = without_return line ∷ ended_lines (next ∷ lines)
 
 -- the lines of a text, each without its end: LF, or CR and LF
-abbrev pub lines_of : List ℕ → List (List ℕ)
-lines_of text = ended_lines (slice_split (λ b. b == 10) text)
-
--- the fields of a line: what stands between spaces and tabs
-abbrev pub fields_of : List ℕ → List Field
-fields_of line =
-    filter (λ field. not (length field == 0)) (slice_split (λ b. b == 32 || b == 9) line)
+abbrev pub script_lines : List ℕ → List (List ℕ)
+script_lines text = ended_lines (slice_split (λ b. b == 10) text)

@@ -8,14 +8,14 @@ use Rattle.agent_scripts.specs.declared.refusal.ScriptRefusal.TheVariants.{Form}
 use Rattle.agent_scripts.specs.declared.statement.Stated.{Stated}
 use Rattle.agent_scripts.specs.StatedScript.{IsGivenScript, IsGivenPlan}
 use Rattle.agent_scripts.specs.Script.{Script}
-use Rattle.agent_scripts.specs.ScriptText.{IsReadTo, IsRefusedNext, IsInRange, statements_of}
+use Rattle.agent_scripts.specs.ScriptText.{IsReadTo, IsRefusedNext, HasValueInRange, statements_of}
 
 -- no line of the text is bad, and its statements give the script and the plan
 pub record IsScriptText (x : Expanded) (text : List ℕ) (script : Script) (plan : Plan)
     : Type 0 where
   pub stated : List Stated
   pub read : IsReadTo x text stated []
-  pub in_range : All (IsInRange x stated) stated
+  pub in_range : All (HasValueInRange x stated) stated
   pub script_given : IsGivenScript x (statements_of stated) script
   pub plan_given : IsGivenPlan (statements_of stated) plan
 
@@ -31,8 +31,8 @@ pub record IsFirstOutOfRange (x : Expanded) (stated : List Stated) (n : ℕ) : T
   pub after : List Stated
   pub s : Stated
   pub parts : stated ≡ before ++ s ∷ after
-  pub in_range : All (IsInRange x stated) before
-  pub out : ¬ IsInRange x stated s
+  pub in_range : All (HasValueInRange x stated) before
+  pub out : ¬ HasValueInRange x stated s
   pub number : n ≡ s.line
 
 -- the refusal names the first bad line: one with a value out of range, or else the line after
@@ -42,4 +42,4 @@ pub record IsRefusedScript (x : Expanded) (text : List ℕ) (refusal : ScriptRef
   pub rest : List (ℕ × List ℕ)
   pub read : IsReadTo x text stated rest
   pub bad : ((n : ℕ) × (refusal ≡ Form n) × IsFirstOutOfRange x stated n)
-      ⊎ (All (IsInRange x stated) stated × IsRefusedNext x stated rest refusal)
+      ⊎ (All (HasValueInRange x stated) stated × IsRefusedNext x stated rest refusal)

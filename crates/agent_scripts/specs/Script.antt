@@ -39,5 +39,5 @@ abbrev pub given_values : Expanded → List ValueRule → ℕ → ℕ → List V
 given_values x rules m n = map (λ c. value_at (rule_of rules m c.param) n) (chosen_params x m)
 
 -- and by those of the script
-abbrev pub values_of : Expanded → Script → ℕ → ℕ → List Value
-values_of x script m n = given_values x script.rules m n
+abbrev pub message_values : Expanded → Script → ℕ → ℕ → List Value
+message_values x script m n = given_values x script.rules m n

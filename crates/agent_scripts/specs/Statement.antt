@@ -3,19 +3,15 @@ use Rattle.std.specs.Prelude.{◌≡◌, ℕ, ◌<◌, List, [], length, map, sl
 use Rattle.std.specs.List.{All, Contains}
 use Rattle.bspl_types.specs.declared.expanded.Expanded.{Expanded}
 use Rattle.bspl_types.specs.declared.protocol.Adornment.TheVariants.{Out}
-use Rattle.bspl_types.specs.Expansion.{message_of, Adorns, message_name}
+use Rattle.bspl_types.specs.Expansion.{message_of, Adorns, message_name, role_name}
 use Rattle.agent_scripts.specs.declared.statement.Statement.{Statement}
 use Rattle.agent_scripts.specs.declared.statement.Statement.TheVariants as says
-use Rattle.agent_scripts.specs.Lines.{Field}
 use Rattle.agent_scripts.specs.Table.{LineForm, Set, Key, Order, Decline, Bind, written, IsInTable}
-
--- the name of a role
-abbrev pub role_name : Expanded → ℕ → Field
-role_name x role = slice_index_or x.roles role []
+use Rattle.text_lines.specs.Fields.{Field}
 
 -- the name of a parameter
-abbrev pub param_name : Expanded → ℕ → Field
-param_name x p = slice_index_or (map (λ info. info.name) x.params) p []
+abbrev pub param_field : Expanded → ℕ → Field
+param_field x p = slice_index_or (map (λ info. info.name) x.params) p []
 
 -- what the statement says, in names
 abbrev pub line_form : Expanded → Statement → LineForm
@@ -23,7 +19,7 @@ line_form x (says.Set setting n) = Set setting n
 line_form x (says.Key values) = Key values
 line_form x (says.Order role messages) = Order (role_name x role) (map (message_name x) messages)
 line_form x (says.Decline m every) = Decline (message_name x m) every
-line_form x (says.Bind m p rule) = Bind (message_name x m) (param_name x p) rule
+line_form x (says.Bind m p rule) = Bind (message_name x m) (param_field x p) rule
 
 -- the message exists, and that role sends it
 abbrev pub IsSentBy : Expanded → ℕ → ℕ → Type 0
@@ -35,20 +31,20 @@ IsFreeOut x m p = Adorns x m Out p × ¬ Contains x.keys p
 
 -- its role, its messages and its parameter are declared, the messages of an order are sent by its
 -- role, and the parameter is one whose value the message gives
-abbrev pub IsKnown : Expanded → Statement → Type 0
-IsKnown x (says.Set setting n) = Unit {0}
-IsKnown x (says.Key values) = Unit {0}
-IsKnown x (says.Order role messages) = (role < length x.roles) × All (IsSentBy x role) messages
-IsKnown x (says.Decline m every) = m < length x.messages
-IsKnown x (says.Bind m p rule) = (m < length x.messages) × IsFreeOut x m p
+abbrev pub IsDeclaredIn : Expanded → Statement → Type 0
+IsDeclaredIn x (says.Set setting n) = Unit {0}
+IsDeclaredIn x (says.Key values) = Unit {0}
+IsDeclaredIn x (says.Order role messages) = (role < length x.roles) × All (IsSentBy x role) messages
+IsDeclaredIn x (says.Decline m every) = m < length x.messages
+IsDeclaredIn x (says.Bind m p rule) = (m < length x.messages) × IsFreeOut x m p
 
 -- the fields have the form of a line of the table
-abbrev pub HasForm : Expanded → List Field → Type 0
-HasForm x fields =
+abbrev pub HasLineForm : Expanded → List Field → Type 0
+HasLineForm x fields =
     (form : LineForm) × IsInTable (length x.keys) form × (fields ≡ written form)
 
 -- the fields mean the statement
 pub record Means (x : Expanded) (fields : List Field) (s : Statement) : Type 0 where
-  pub known : IsKnown x s
+  pub known : IsDeclaredIn x s
   pub in_table : IsInTable (length x.keys) (line_form x s)
   pub fields_are : fields ≡ written (line_form x s)

@@ -11,7 +11,7 @@ use Rattle.agent_scripts.specs.declared.statement.Setting.{Setting}
 use Rattle.agent_scripts.specs.declared.statement.Setting.TheVariants as settings
 use Rattle.agent_scripts.specs.declared.statement.Rule.{Rule}
 use Rattle.agent_scripts.specs.declared.statement.Rule.TheVariants.{Linear, Fixed}
-use Rattle.agent_scripts.specs.Lines.{Field}
+use Rattle.text_lines.specs.Fields.{Field}
 
 -- what a line says: a setting; a workload key; a role's order; a message that is declined,
 -- always or at some numbers; the rule of a value

@@ -1,6 +1,6 @@
 ghost use Rattle.std.specs.Prelude.{◌≡◌, ◌-◌, ◌<◌, ◌≤◌, length, slice_get, Some, MatchOption};
 ghost use Rattle.std.specs.List.{Contains};
-ghost use Rattle.agent_scripts.specs.Script.{is_declined, values_of};
+ghost use Rattle.agent_scripts.specs.Script.{is_declined, message_values};
 
 use super::rules::{Declined, ValueRule};
 use super::values::values_of;
@@ -110,7 +110,7 @@ impl Script {
     pub fn values(&self, a: &Admitted, message: u32, n: u64) -> Values
         requires known { message < length a.now.messages }
         requires within { n ≤ length self.now.keys }
-        ensures { result ≡ values_of a.now self.now message n }
+        ensures { result ≡ message_values a.now self.now message n }
     {
         values_of(a.expanded(), self.rules.as_slice(), message, n)
     }

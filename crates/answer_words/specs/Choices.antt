@@ -16,16 +16,16 @@ pub record IsRefusedWithin (text : List ℕ) : Type 0 where
   pub refused : IsBadByte text offset ⊎ IsBadSyntax text offset
 
 -- with the sign after the text, in a line of its own, nothing is refused: some document begins so
-abbrev pub MayStand : List ℕ → List ℕ → Type 0
-MayStand before sign = ¬ IsRefusedWithin (before ++ 10 ∷ sign)
+abbrev pub MayComeNext : List ℕ → List ℕ → Type 0
+MayComeNext before sign = ¬ IsRefusedWithin (before ++ 10 ∷ sign)
 
 -- the text lists those of the signs that may stand there, each after a space
 pub data ListsChoices (before : List ℕ) : List (List ℕ) → List ℕ → Type 0 where
   none : ListsChoices before [] []
-  may : (sign : List ℕ) (more : List (List ℕ)) (text : List ℕ) → MayStand before sign
+  may : (sign : List ℕ) (more : List (List ℕ)) (text : List ℕ) → MayComeNext before sign
       → ListsChoices before more text
       → ListsChoices before (sign ∷ more) (32 ∷ (sign ++ text))
-  may_not : (sign : List ℕ) (more : List (List ℕ)) (text : List ℕ) → ¬ MayStand before sign
+  may_not : (sign : List ℕ) (more : List (List ℕ)) (text : List ℕ) → ¬ MayComeNext before sign
       → ListsChoices before more text → ListsChoices before (sign ∷ more) text
 
 -- the line that lists them all

@@ -1,20 +1,15 @@
 -- Messages in words, and the messages of a run.
 use Rattle.std.specs.Prelude.{ℕ, ◌-◌, List, [], ◌++◌, Option, None, Some, slice_get}
-use Rattle.std.specs.Prelude.{slice_index_or}
 use Rattle.bspl_types.specs.declared.event.Event.{Event}
 use Rattle.bspl_types.specs.declared.expanded.Expanded.{Expanded}
 use Rattle.bspl_types.specs.declared.protocol.Message.{Message}
-use Rattle.bspl_types.specs.Expansion.{message_of, no_message}
+use Rattle.bspl_types.specs.Expansion.{message_of, no_message, role_name}
 use Rattle.bspl_types.specs.History.{instance_of}
 use Rattle.answer_words.specs.declared.wording.verdicts.TheConstants as verdicts
 
--- the name of the role with that number; past the last one there is none
-abbrev pub role_name : Expanded → ℕ → List ℕ
-role_name x role = slice_index_or x.roles role []
-
 -- a message, its sender and its receiver
-abbrev pub message_words : Expanded → Message → List ℕ
-message_words x m =
+abbrev pub message_phrase : Expanded → Message → List ℕ
+message_phrase x m =
     m.name ++ verdicts.FROM.now ++ role_name x m.sender ++ verdicts.TO.now ++ role_name x m.receiver
 
 -- the message of an event; without an event, none

@@ -4,7 +4,7 @@ use Rattle.bspl_types.specs.declared.event.Event.{Event}
 use Rattle.bspl_types.specs.declared.expanded.Expanded.{Expanded}
 use Rattle.bspl_types.specs.declared.protocol.Adornment.TheVariants.{Out}
 use Rattle.bspl_types.specs.declared.protocol.Message.{Message}
-use Rattle.bspl_types.specs.Expansion.{Adorns, IsAdorned, param_name}
+use Rattle.bspl_types.specs.Expansion.{Adorns, IsAdorned, param_name, role_name}
 use Rattle.bspl_types.specs.History.{history_of, sender_history}
 use Rattle.bspl_types.specs.Knowledge.{CanEmit}
 use Rattle.bspl_types.specs.ValueSpelling.{value_spelling}
@@ -12,7 +12,7 @@ use Rattle.role_knowledge.specs.declared.block.Block.{Block}
 use Rattle.role_knowledge.specs.declared.block.Block.TheVariants.{Bound, Missing}
 use Rattle.role_knowledge.specs.Blocked.{IsFirstBlock}
 use Rattle.witness_replay.specs.Witness.{key_of_ones}
-use Rattle.answer_words.specs.Messages.{message_words, role_name}
+use Rattle.answer_words.specs.Messages.{message_phrase}
 use Rattle.answer_words.specs.declared.wording.TheConstants as wording
 use Rattle.answer_words.specs.declared.wording.verdicts.TheConstants as verdicts
 
@@ -25,7 +25,7 @@ block_words x (Bound p kept) =
 -- the line of a message and of what blocks it
 abbrev pub blocked_line : Expanded → Message → Block → List ℕ
 blocked_line x m block =
-    message_words x m ++ verdicts.WOULD_PRODUCE.now ++ role_name x m.sender ++
+    message_phrase x m ++ verdicts.WOULD_PRODUCE.now ++ role_name x m.sender ++
     block_words x block ++ wording.FULL_STOP.now
 
 -- the line has what first blocks the message after the run, under the key of all ones

@@ -21,7 +21,7 @@ use Rattle.answer_words.specs.Fault.{fault_of}
 use Rattle.answer_words.specs.LimitText.{limit_text}
 use Rattle.answer_words.specs.Nearest.{nearest_line}
 use Rattle.answer_words.specs.Place.{Spot, line_in, place_of, spot_text}
-use Rattle.answer_words.specs.ScriptRule.{names_of, rule_of, word_of}
+use Rattle.answer_words.specs.ScriptRule.{naming_words, line_rule, word_of}
 use Rattle.answer_words.specs.Sentences.{line_advice, wrong}
 use Rattle.answer_words.specs.Uses.{asked_text, unknown_text}
 use Rattle.answer_words.specs.declared.wording.TheConstants as wording
@@ -96,8 +96,8 @@ shown_line (Some spot) = spot.shown
 -- what to do
 abbrev pub advice_at : List ℕ → Fault → ℕ → Option Spot → List ℕ
 advice_at input fault.BadByte offset place = byte_advice (drop offset input)
-advice_at input fault.ScriptForm n place = rule_of (word_of (fields_of (shown_line place)))
-advice_at input fault.ScriptName n place = names_of (word_of (fields_of (shown_line place)))
+advice_at input fault.ScriptForm n place = line_rule (word_of (fields_of (shown_line place)))
+advice_at input fault.ScriptName n place = naming_words (word_of (fields_of (shown_line place)))
 advice_at input fault n place = line_advice fault n
 
 -- a sentence in its line

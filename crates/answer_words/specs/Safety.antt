@@ -2,11 +2,11 @@
 use Rattle.std.specs.Prelude.{ℕ, List, ◌++◌, length}
 use Rattle.bspl_types.specs.declared.event.Event.{Event}
 use Rattle.bspl_types.specs.declared.expanded.Expanded.{Expanded}
-use Rattle.bspl_types.specs.Expansion.{param_name}
+use Rattle.bspl_types.specs.Expansion.{param_name, role_name}
 use Rattle.list_base.specs.Numeral.{numeral}
 use Rattle.verdict.specs.declared.outcome.Safety.{Safety}
 use Rattle.verdict.specs.declared.outcome.Safety.TheVariants.{Safe, Undecided, Unsafe}
-use Rattle.answer_words.specs.Messages.{message_words, nth_message, role_name}
+use Rattle.answer_words.specs.Messages.{message_phrase, nth_message}
 use Rattle.answer_words.specs.declared.wording.TheConstants as wording
 use Rattle.answer_words.specs.declared.wording.verdicts.TheConstants as verdicts
 
@@ -14,7 +14,7 @@ use Rattle.answer_words.specs.declared.wording.verdicts.TheConstants as verdicts
 abbrev pub event_words : Expanded → List Event → ℕ → List ℕ
 event_words x run n =
     verdicts.EVENT.now ++ numeral n ++ verdicts.EVENT_IS.now ++
-    message_words x (nth_message x run n)
+    message_phrase x (nth_message x run n)
 
 -- the second producer, whose sender does not know what the first one decided
 abbrev pub second_words : Expanded → List Event → ℕ → ℕ → List ℕ

@@ -4,8 +4,8 @@ use Rattle.std.specs.Str.{bytes_eq}
 use Rattle.answer_words.specs.declared.wording.refusals.TheConstants as refusals
 
 -- the form of the lines that begin with the word, and their rules
-abbrev pub rule_of : List ℕ → List ℕ
-rule_of word =
+abbrev pub line_rule : List ℕ → List ℕ
+line_rule word =
     if bytes_eq word (codes "keys")
     then refusals.KEYS_RULE.now
     else if bytes_eq word (codes "key")
@@ -25,8 +25,8 @@ rule_of word =
     else refusals.OTHER_RULE.now
 
 -- what those that name something of the protocol name
-abbrev pub names_of : List ℕ → List ℕ
-names_of word =
+abbrev pub naming_words : List ℕ → List ℕ
+naming_words word =
     if bytes_eq word (codes "order")
     then refusals.ORDER_NAMES.now
     else if bytes_eq word (codes "value")

@@ -34,22 +34,23 @@ word_at kind offset w =
     cond (w.offset == offset) (Some (record { kind = kind; name = w.text })) None
 
 -- the first such use among roles
-abbrev pub role_at : ℕ → List Word → Option NameUse
-role_at offset [] = None
-role_at offset (w ∷ more) = first_of (word_at Role offset w) (role_at offset more)
+abbrev pub role_use_at : ℕ → List Word → Option NameUse
+role_use_at offset [] = None
+role_use_at offset (w ∷ more) = first_of (word_at Role offset w) (role_use_at offset more)
 
 -- among adorned parameters
-abbrev pub param_at : ℕ → List Formal → Option NameUse
-param_at offset [] = None
-param_at offset (f ∷ more) = first_of (word_at Parameter offset f.name) (param_at offset more)
+abbrev pub param_use_at : ℕ → List Formal → Option NameUse
+param_use_at offset [] = None
+param_use_at offset (f ∷ more) =
+    first_of (word_at Parameter offset f.name) (param_use_at offset more)
 
 -- in a message, which names two roles and parameters, or in a reference, which names a protocol too
 abbrev pub item_use : ℕ → Item → Option NameUse
 item_use offset (Message m) =
-    first_of (role_at offset (m.sender ∷ m.receiver ∷ [])) (param_at offset m.params)
+    first_of (role_use_at offset (m.sender ∷ m.receiver ∷ [])) (param_use_at offset m.params)
 item_use offset (Reference r) =
     first_of (word_at Protocol offset r.protocol)
-    (first_of (role_at offset r.roles) (param_at offset r.params))
+    (first_of (role_use_at offset r.roles) (param_use_at offset r.params))
 
 -- in a body
 abbrev pub body_use : ℕ → List Item → Option NameUse

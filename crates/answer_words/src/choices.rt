@@ -1,5 +1,5 @@
 ghost use Rattle.std.specs.Prelude.{◌↔◌, IfOk, IsTrue, OnOk};
-ghost use Rattle.answer_words.specs.Choices.{IsChoiceLine, IsRefusedWithin, ListsChoices, MayStand, signs};
+ghost use Rattle.answer_words.specs.Choices.{IsChoiceLine, IsRefusedWithin, ListsChoices, MayComeNext, signs};
 ghost use Rattle.answer_words.specs.inner.Added.{Adds};
 ghost use Rattle.answer_words.specs.inner.Choice.{IsChoice};
 
@@ -45,7 +45,7 @@ fn push_choice(alloc: Global, text: &mut Bytes, before: &[u8], sign: &[u8]) -> R
 
 /// Whether the sign may stand after the text.
 fn may_stand(alloc: Global, before: &[u8], sign: &[u8]) -> Result<bool, NoMemory>
-    ensures { IfOk result (λ may. IsTrue may ↔ MayStand before.now sign.now) }
+    ensures { IfOk result (λ may. IsTrue may ↔ MayComeNext before.now sign.now) }
 {
     let mut text = Bytes::from_slice(alloc, before)?;
     text.push(b'\n')?;

@@ -1,7 +1,7 @@
 ghost use Rattle.std.specs.Prelude.{◌≡◌, ◌≤◌, ◌++◌, OnOk, length};
-ghost use Rattle.bspl_types.specs.Expansion.{param_name};
+ghost use Rattle.bspl_types.specs.Expansion.{param_name, role_name};
 ghost use Rattle.bspl_types.specs.History.{IsRun};
-ghost use Rattle.answer_words.specs.Messages.{message_words, nth_message, role_name};
+ghost use Rattle.answer_words.specs.Messages.{message_phrase, nth_message};
 
 use super::wording::verdicts;
 use bspl_types::{Event, Expanded, Message};
@@ -33,7 +33,7 @@ pub(crate) fn push_message(
     x: &Expanded,
     message: &Message,
 ) -> Result<(), NoMemory>
-    ensures { OnOk result (text.new ≡ text.old ++ message_words x.now message.now) }
+    ensures { OnOk result (text.new ≡ text.old ++ message_phrase x.now message.now) }
 {
     text.append(message.name.as_slice())?;
     text.append(verdicts::FROM)?;

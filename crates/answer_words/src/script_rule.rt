@@ -1,6 +1,6 @@
 ghost use Rattle.std.specs.Prelude.{◌≡◌};
 ghost use Rattle.text_lines.specs.Fields.{fields_of};
-ghost use Rattle.answer_words.specs.ScriptRule.{names_of, rule_of, word_of};
+ghost use Rattle.answer_words.specs.ScriptRule.{naming_words, line_rule, word_of};
 
 use super::wording::refusals;
 use text_lines::first_field;
@@ -17,7 +17,7 @@ pub(crate) fn word_of(line: &[u8]) -> &[u8]
 
 /// The form of the lines of a script that begin with the word, and their rules.
 pub(crate) fn rule_of(word: &[u8]) -> &'static [u8]
-    ensures { result.now ≡ rule_of word.now }
+    ensures { result.now ≡ line_rule word.now }
 {
     if word == b"keys".as_slice() {
         refusals::KEYS_RULE
@@ -42,7 +42,7 @@ pub(crate) fn rule_of(word: &[u8]) -> &'static [u8]
 
 /// What the lines of a script name that begin with the word.
 pub(crate) fn names_of(word: &[u8]) -> &'static [u8]
-    ensures { result.now ≡ names_of word.now }
+    ensures { result.now ≡ naming_words word.now }
 {
     if word == b"order".as_slice() {
         refusals::ORDER_NAMES

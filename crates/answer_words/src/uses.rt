@@ -1,7 +1,7 @@
 ghost use Rattle.std.specs.Prelude.{◌≡◌, ◌++◌, OnOk};
 ghost use Rattle.std.specs.Option.{option_map};
 ghost use Rattle.answer_words.specs.Uses.{asked_text, body_use, first_of, item_use, kind_word};
-ghost use Rattle.answer_words.specs.Uses.{near_text, param_at, role_at, unknown_text, use_of};
+ghost use Rattle.answer_words.specs.Uses.{near_text, param_use_at, role_use_at, unknown_text, use_of};
 ghost use Rattle.answer_words.specs.Uses.{use_text, word_at};
 
 use super::names::{declared_as, protocol_names};
@@ -43,7 +43,7 @@ fn word_at<'d>(kind: Kind, offset: u64, word: &'d Word<'_>) -> Option<Use<'d>>
 
 /// The first use among roles.
 fn role_at<'d>(offset: u64, words: &'d [Word<'_>]) -> Option<Use<'d>>
-    ensures { option_map use_of result ≡ role_at offset words.now }
+    ensures { option_map use_of result ≡ role_use_at offset words.now }
 {
     for word in words {
         if let Some(found) = word_at(Kind::Role, offset, word) {
@@ -55,7 +55,7 @@ fn role_at<'d>(offset: u64, words: &'d [Word<'_>]) -> Option<Use<'d>>
 
 /// The first use among adorned parameters.
 fn param_at<'d>(offset: u64, params: &'d [Formal<'_>]) -> Option<Use<'d>>
-    ensures { option_map use_of result ≡ param_at offset params.now }
+    ensures { option_map use_of result ≡ param_use_at offset params.now }
 {
     for param in params {
         if let Some(found) = word_at(Kind::Parameter, offset, &param.name) {

@@ -7,11 +7,11 @@ use Rattle.std.proofs.lemmas.Bool.{or_from}
 use Rattle.bspl_types.specs.declared.event.Event.{Event}
 use Rattle.bspl_types.specs.declared.expanded.Expanded.{Expanded}
 use Rattle.bspl_types.specs.Admission.{IsAdmitted}
+use Rattle.bspl_types.specs.Expansion.{role_name}
 use Rattle.enactment_model.specs.declared.bad_event.Why.{Why}
 use Rattle.history_audit.specs.declared.audit_no.Point.{Point}
 use Rattle.history_audit.specs.declared.refusal.HistoryRefusal.{HistoryRefusal}
 use Rattle.history_audit.specs.declared.refusal.HistoryRefusal.TheVariants.{Form, NoMemory}
-use Rattle.history_audit.specs.HistoryText.{role_name}
 use Rattle.history_audit.specs.TextLaws.{HistoriesAreRefusedOnce, ReadHistoriesAreNotRefused}
 use Rattle.report.specs.AuditText.{bad_place_line, consistent_text, cycle_line, point_fields}
 use Rattle.report.specs.ReplayLines.{reason_fields}

@@ -10,7 +10,7 @@ use Rattle.bspl_types.specs.declared.expanded.Expanded.{Expanded}
 use Rattle.bspl_types.specs.Expansion.{message_name}
 use Rattle.enactability.specs.declared.outcome.Enact.{Enact}
 use Rattle.enactability.specs.declared.outcome.Enact.TheVariants.{Dead, Enacted, Undecided}
-use Rattle.enactability.specs.Answer.{IsAnswered}
+use Rattle.enactability.specs.Answer.{IsRightEnact}
 use Rattle.enactability.specs.DeadText.{dead_text, dead_title}
 use Rattle.refutation_log.specs.declared.refutation.Log.{Log}
 use Rattle.refutation_log.specs.declared.refutation.Version.{Version}
@@ -20,7 +20,7 @@ use Rattle.refutation_log.specs.LogText.{entry_line, least_version}
 use Rattle.tool_input.specs.declared.status.Status.{Status}
 use Rattle.tool_input.specs.Lines.{line}
 use Rattle.bspl_tool.specs.Claims.{IsTrueOfMessage, MessageClaim, SaysDead, SaysEnacted, message_claim_line}
-use Rattle.verdict_commands.specs.DeadAnswer.{IsDeadAnswer, dead_rules, message_evidence, message_line, message_part, message_text, messages_text}
+use Rattle.verdict_commands.specs.DeadAnswer.{IsDeadAnswer, dead_rules, message_evidence, enact_line, message_part, message_text, messages_text}
 use Rattle.bspl_tool.specs.Texts.{SaysLine}
 use Rattle.verdict_commands.specs.MessageLines.{dead_line, enacted_line}
 use Rattle.bspl_tool.proofs.ClaimsNothing.{IsBlock, IsBlockWithout, IsField, block_joined, claim_lines, joined_without, no_lines, says_no_claim, says_none, starts, starts_itself, whole_line_without, without_claim, without_claims, without_message}
@@ -37,22 +37,22 @@ named_has_no_lf x m before after none none_after =
     joined_has_none 10 (before ++ message_name x m) after (joined_has_none 10 before (message_name x m) none (message_has_no_lf x m)) none_after
 
 -- the line of the answer on a message has no LF in it
-message_line_has_no_lf : (x : Expanded) (m : ℕ) (answer : Enact) → has_lf (message_line (message_name x m) answer) ≡ false
+message_line_has_no_lf : (x : Expanded) (m : ℕ) (answer : Enact) → has_lf (enact_line (message_name x m) answer) ≡ false
 message_line_has_no_lf x m (Enacted run) = named_has_no_lf x m (codes "message ") (codes " enacted") refl refl
 message_line_has_no_lf x m (Dead log) = named_has_no_lf x m (codes "message ") (codes " dead") refl refl
 message_line_has_no_lf x m (Undecided log) =
     joined_has_none 10 (codes "message " ++ message_name x m ++ codes " undecided ") (decimal (length log.steps)) (named_has_no_lf x m (codes "message ") (codes " undecided ") refl refl) (decimal_has_no_lf (length log.steps))
 
 -- it claims nothing of the protocol
-line_without_claims : (x : Expanded) (m : ℕ) (answer : Enact) → IsBlockWithout claim_lines (line (message_line (message_name x m) answer))
-line_without_claims x m (Enacted run) = whole_line_without claim_lines (message_line (message_name x m) (Enacted run)) refl (message_line_has_no_lf x m (Enacted run)) refl
-line_without_claims x m (Dead log) = whole_line_without claim_lines (message_line (message_name x m) (Dead log)) refl (message_line_has_no_lf x m (Dead log)) refl
-line_without_claims x m (Undecided log) = whole_line_without claim_lines (message_line (message_name x m) (Undecided log)) refl (message_line_has_no_lf x m (Undecided log)) refl
+line_without_claims : (x : Expanded) (m : ℕ) (answer : Enact) → IsBlockWithout claim_lines (line (enact_line (message_name x m) answer))
+line_without_claims x m (Enacted run) = whole_line_without claim_lines (enact_line (message_name x m) (Enacted run)) refl (message_line_has_no_lf x m (Enacted run)) refl
+line_without_claims x m (Dead log) = whole_line_without claim_lines (enact_line (message_name x m) (Dead log)) refl (message_line_has_no_lf x m (Dead log)) refl
+line_without_claims x m (Undecided log) = whole_line_without claim_lines (enact_line (message_name x m) (Undecided log)) refl (message_line_has_no_lf x m (Undecided log)) refl
 
 -- a line that does not begin as the line of a claim on the message of that name
-is_other : (claim : MessageClaim) (name : List ℕ) (x : Expanded) (m : ℕ) (answer : Enact) → starts (message_claim_line claim name) (line (message_line (message_name x m) answer)) ≡ false → IsBlockWithout (message_claim_line claim name ∷ []) (line (message_line (message_name x m) answer))
-is_other SaysDead name x m answer none = whole_line_without (dead_line name ∷ []) (message_line (message_name x m) answer) refl (message_line_has_no_lf x m answer) (or_from _ false none refl)
-is_other SaysEnacted name x m answer none = whole_line_without (enacted_line name ∷ []) (message_line (message_name x m) answer) refl (message_line_has_no_lf x m answer) (or_from _ false none refl)
+is_other : (claim : MessageClaim) (name : List ℕ) (x : Expanded) (m : ℕ) (answer : Enact) → starts (message_claim_line claim name) (line (enact_line (message_name x m) answer)) ≡ false → IsBlockWithout (message_claim_line claim name ∷ []) (line (enact_line (message_name x m) answer))
+is_other SaysDead name x m answer none = whole_line_without (dead_line name ∷ []) (enact_line (message_name x m) answer) refl (message_line_has_no_lf x m answer) (or_from _ false none refl)
+is_other SaysEnacted name x m answer none = whole_line_without (enacted_line name ∷ []) (enact_line (message_name x m) answer) refl (message_line_has_no_lf x m answer) (or_from _ false none refl)
 
 -- as one that has another word after the name
 has_other_word : (x : Expanded) (m : ℕ) (name : List ℕ) → IsField name → (b c : ℕ) (rest end more : List ℕ) → eqb c b ≡ false → starts (codes "message " ++ name ++ 32 ∷ c ∷ more) (codes "message " ++ (message_name x m ++ 32 ∷ b ∷ rest) ++ end) ≡ false
@@ -64,7 +64,7 @@ has_other_name x m name word field differ =
     same_word (message_name x m) name word (codes "\n") (message_is_field x m).no_space field.no_space (λ same. both_ways (bytes_eq (message_name x m) name) differ ((bytes_eq-Decides (message_name x m) name).1 same))
 
 -- what the line claims is true, or it does not claim it
-line_is_true : (claim : MessageClaim) (x : Expanded) (name : List ℕ) → IsField name → (m budget : ℕ) → m < length x.messages → (answer : Enact) → IsAnswered x m budget answer → IsTrueOfMessage claim x name ⊎ IsBlockWithout (message_claim_line claim name ∷ []) (line (message_line (message_name x m) answer))
+line_is_true : (claim : MessageClaim) (x : Expanded) (name : List ℕ) → IsField name → (m budget : ℕ) → m < length x.messages → (answer : Enact) → IsRightEnact x m budget answer → IsTrueOfMessage claim x name ⊎ IsBlockWithout (message_claim_line claim name ∷ []) (line (enact_line (message_name x m) answer))
 line_is_true SaysDead x name field m budget known (Dead log) right =
     elim (cases_Bool (bytes_eq (message_name x m) name)) [
       | inl same ↦ inl (record { message = m; known = known; named = (bytes_eq-Decides (message_name x m) name).0 same; holds = right.dead })
@@ -125,21 +125,21 @@ claim_has_no_lf SaysDead name field = joined_has_none 10 (codes "message " ++ na
 claim_has_no_lf SaysEnacted name field = joined_has_none 10 (codes "message " ++ name) (codes " enacted") (joined_has_none 10 (codes "message ") name refl field.no_lf) refl
 
 -- what right answers claim is true, or they do not claim it
-answers_are_true : (claim : MessageClaim) (x : Expanded) (name : List ℕ) → IsField name → (brief : Bool) (budget m : ℕ) (answers : List Enact) → m + length answers ≤ length x.messages → All (λ (one : ℕ × Enact). IsAnswered x one.0 budget one.1) (enumerate_from m answers) → IsTrueOfMessage claim x name ⊎ IsBlockWithout (message_claim_line claim name ∷ []) (answers_from x brief m answers)
+answers_are_true : (claim : MessageClaim) (x : Expanded) (name : List ℕ) → IsField name → (brief : Bool) (budget m : ℕ) (answers : List Enact) → m + length answers ≤ length x.messages → All (λ (one : ℕ × Enact). IsRightEnact x one.0 budget one.1) (enumerate_from m answers) → IsTrueOfMessage claim x name ⊎ IsBlockWithout (message_claim_line claim name ∷ []) (answers_from x brief m answers)
 answers_are_true claim x name field brief budget m [] within right = inr (without_claim claim name (without_message no_lines name field))
 answers_are_true claim x name field brief budget m (answer ∷ answers) within right =
     let bare = or_from (has_lf (message_claim_line claim name)) false (claim_has_no_lf claim name field) refl in
     let evidence = without_claim claim name (without_message (part_is_block x brief m answer) name field) in
-    elim (line_is_true claim x name field m budget (omega arith) answer (All-head (λ (one : ℕ × Enact). IsAnswered x one.0 budget one.1) (m, answer) (enumerate_from (m + 1) answers) right)) [
+    elim (line_is_true claim x name field m budget (omega arith) answer (All-head (λ (one : ℕ × Enact). IsRightEnact x one.0 budget one.1) (m, answer) (enumerate_from (m + 1) answers) right)) [
       | inl holds ↦ inl holds
-      | inr other ↦ elim (answers_are_true claim x name field brief budget (m + 1) answers (omega arith) (All-tail (λ (one : ℕ × Enact). IsAnswered x one.0 budget one.1) (m, answer) (enumerate_from (m + 1) answers) right)) [
+      | inr other ↦ elim (answers_are_true claim x name field brief budget (m + 1) answers (omega arith) (All-tail (λ (one : ℕ × Enact). IsRightEnact x one.0 budget one.1) (m, answer) (enumerate_from (m + 1) answers) right)) [
         | inl holds ↦ inl holds
         | inr others ↦ inr (joined_without (message_claim_line claim name ∷ []) bare (joined_without (message_claim_line claim name ∷ []) bare other evidence) others)
       ]
     ]
 
 -- what a prefix of the text of right answers says of a message is true
-said_truly : (brief : Bool) (budget : ℕ) (x : Expanded) (answers : List Enact) (n : ℕ) → length answers ≡ length x.messages → All (λ (one : ℕ × Enact). IsAnswered x one.0 budget one.1) (enumerate_from 0 answers) → (claim : MessageClaim) (name : List ℕ) → IsField name → SaysLine (take n (messages_text x brief answers)) (message_claim_line claim name) → IsTrueOfMessage claim x name
+said_truly : (brief : Bool) (budget : ℕ) (x : Expanded) (answers : List Enact) (n : ℕ) → length answers ≡ length x.messages → All (λ (one : ℕ × Enact). IsRightEnact x one.0 budget one.1) (enumerate_from 0 answers) → (claim : MessageClaim) (name : List ℕ) → IsField name → SaysLine (take n (messages_text x brief answers)) (message_claim_line claim name) → IsTrueOfMessage claim x name
 said_truly brief budget x answers n one_each right claim name field says =
     let said = message_claim_line claim name in
     let bare = or_from (has_lf said) false (claim_has_no_lf claim name field) refl in

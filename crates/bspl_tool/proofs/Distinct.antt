@@ -23,7 +23,7 @@ use Rattle.tool_frame.specs.Interface.{HasTask, RequestsInput, task_bytes}
 use Rattle.bspl_tool.specs.Interface.{tool_interface}
 use Rattle.bspl_tool.specs.Request.{HasCommandLine, Requests}
 use Rattle.tool_input.specs.Parts.{protocol_text}
-use Rattle.bspl_tool.specs.Task.{rules_of}
+use Rattle.bspl_tool.specs.Task.{task_rules}
 use Rattle.bspl_tool.specs.Texts.{usage_text}
 use Rattle.bspl_tool.proofs.OneRequest.{one_name, one_task}
 use Rattle.bspl_tool.proofs.TaskLaws.{OneEvidence, laws_of}
@@ -53,7 +53,7 @@ one_part (need.Part part) input one other is again = ap part_bytes (sym is ∙ a
 one_part need.Input input one other is again = is ∙ sym again
 
 -- a part that is there is not missing
-part_or_missing : (task : Task) (input bytes : List ℕ) (part : Part) → HasGiven (rules_of task).needs input bytes → LacksGiven (rules_of task).needs input part → ⊥
+part_or_missing : (task : Task) (input bytes : List ℕ) (part : Part) → HasGiven (task_rules task).needs input bytes → LacksGiven (task_rules task).needs input part → ⊥
 part_or_missing task input bytes part has lacks = lacks.missing bytes (subst (λ (needs : Need). HasGiven needs input bytes) lacks.is_needed has)
 
 -- an input has one judged protocol for a name
@@ -69,18 +69,18 @@ same_rejection : (q p : Refusal) (r s : Rejection) → q ≡ p → text_rejectio
 same_rejection q p r s same one other = let is : Some r ≡ Some s = sym one ∙ ap text_rejection same ∙ other in cc
 
 -- two parts that are needed are one
-same_part : (task : Task) (input : List ℕ) (p q : Part) → LacksGiven (rules_of task).needs input p → LacksGiven (rules_of task).needs input q → p ≡ q
+same_part : (task : Task) (input : List ℕ) (p q : Part) → LacksGiven (task_rules task).needs input p → LacksGiven (task_rules task).needs input q → p ≡ q
 same_part task input p q one other = let is : need.Part p ≡ need.Part q = sym one.is_needed ∙ other.is_needed in cc
 
 -- a command's refusals of an input are one
-same_part_refusal : OneEach → (task : Task) (name input : List ℕ) (part bytes : List ℕ) (x y : Expanded) (r s : Rejection) → HasGiven (rules_of task).needs input part → HasGiven (rules_of task).needs input bytes → Declares name (protocol_text input) x → Declares name (protocol_text input) y → (rules_of task).refuses x part r → (rules_of task).refuses y bytes s → r ≡ s
+same_part_refusal : OneEach → (task : Task) (name input : List ℕ) (part bytes : List ℕ) (x y : Expanded) (r s : Rejection) → HasGiven (task_rules task).needs input part → HasGiven (task_rules task).needs input bytes → Declares name (protocol_text input) x → Declares name (protocol_text input) y → (task_rules task).refuses x part r → (task_rules task).refuses y bytes s → r ≡ s
 same_part_refusal law task name input part bytes x y r s has has_too judged judged_too one other =
     let same = judged_once law.reading name input y x judged_too judged in
-    let bytes_same = one_part (rules_of task).needs input bytes part has_too has in
-    (laws_of task).one_refusal law.evidence x part r s judged.admitted one (subst (λ z. (rules_of task).refuses z part s) same (subst (λ b. (rules_of task).refuses y b s) bytes_same other))
+    let bytes_same = one_part (task_rules task).needs input bytes part has_too has in
+    (laws_of task).one_refusal law.evidence x part r s judged.admitted one (subst (λ z. (task_rules task).refuses z part s) same (subst (λ b. (task_rules task).refuses y b s) bytes_same other))
 
 -- an input has one rejection
-one_input_rejection : OneEach → (task : Task) (name input : List ℕ) {r s : Rejection} → RefusesInput (rules_of task) name input r → RefusesInput (rules_of task) name input s → r ≡ s
+one_input_rejection : OneEach → (task : Task) (name input : List ℕ) {r s : Rejection} → RefusesInput (task_rules task) name input r → RefusesInput (task_rules task) name input s → r ≡ s
 one_input_rejection law task name input (RefusesInput.no_part p lacks) (RefusesInput.no_part q lacks_too) = ap lacks_part (same_part task input p q lacks lacks_too)
 one_input_rejection law task name input (RefusesInput.no_part p lacks) (RefusesInput.text bytes q s has reason is) = absurd (part_or_missing task input bytes p has lacks)
 one_input_rejection law task name input (RefusesInput.no_part p lacks) (RefusesInput.command bytes y s has judged reason) = absurd (part_or_missing task input bytes p has lacks)
@@ -109,22 +109,22 @@ one_rejection law args bytes (Refuses.too_long asks long) (Refuses.too_long asks
 one_rejection law args bytes (Refuses.too_long asks long) (Refuses.read other again s read reason) = absurd (long_or_read args bytes other again asks long read)
 one_rejection law args bytes (Refuses.read task name r read reason) (Refuses.too_long asks long) = absurd (long_or_read args bytes task name asks long read)
 one_rejection law args bytes (Refuses.read task name r read reason) (Refuses.read other again s read_too reason_too) =
-    one_input_rejection law task name (task_bytes tool_interface task bytes) reason (as_requested law.line (λ t n. RefusesInput (rules_of t) n (task_bytes tool_interface t bytes) s) args task other name again read.requested read_too.requested reason_too)
+    one_input_rejection law task name (task_bytes tool_interface task bytes) reason (as_requested law.line (λ t n. RefusesInput (task_rules t) n (task_bytes tool_interface t bytes) s) args task other name again read.requested read_too.requested reason_too)
 
 -- an input on which the task is done is not refused
-answered_or_refused : OneEach → (task : Task) (name input out : List ℕ) (status : Status) {r : Rejection} → AnswersInput (rules_of task) name input out status → RefusesInput (rules_of task) name input r → ⊥
+answered_or_refused : OneEach → (task : Task) (name input out : List ℕ) (status : Status) {r : Rejection} → AnswersInput (task_rules task) name input out status → RefusesInput (task_rules task) name input r → ⊥
 answered_or_refused law task name input out status answered (RefusesInput.no_part p lacks) = part_or_missing task input answered.given p answered.has_given lacks
 answered_or_refused law task name input out status answered (RefusesInput.text bytes q s has reason is) = judged_or_refused law.reading name input answered.protocol q answered.judged reason
 answered_or_refused law task name input out status answered (RefusesInput.command bytes y s has judged reason) =
     let same = judged_once law.reading name input y answered.protocol judged answered.judged in
-    let bytes_same = one_part (rules_of task).needs input bytes answered.given has answered.has_given in
-    (laws_of task).distinct law.evidence answered.protocol answered.given out status s answered.judged.admitted answered.answer (subst (λ z. (rules_of task).refuses z answered.given s) same (subst (λ b. (rules_of task).refuses y b s) bytes_same reason))
+    let bytes_same = one_part (task_rules task).needs input bytes answered.given has answered.has_given in
+    (laws_of task).distinct law.evidence answered.protocol answered.given out status s answered.judged.admitted answered.answer (subst (λ z. (task_rules task).refuses z answered.given s) same (subst (λ b. (task_rules task).refuses y b s) bytes_same reason))
 
 -- nor are the arguments
 done_or_refused : OneEach → (args : List (List ℕ)) (bytes out : List ℕ) (status : Status) {r : Rejection} → DoesTask tool_interface args bytes out status → Refuses tool_interface args bytes r → ⊥
 done_or_refused law args bytes out status made (Refuses.too_long asks long) = long_or_read args bytes made.task made.name asks long made.read
 done_or_refused law args bytes out status made (Refuses.read task name r read reason) =
-    answered_or_refused law made.task made.name (task_bytes tool_interface made.task bytes) out status made.answered (as_requested law.line (λ t n. RefusesInput (rules_of t) n (task_bytes tool_interface t bytes) r) args made.task task made.name name made.read.requested read.requested reason)
+    answered_or_refused law made.task made.name (task_bytes tool_interface made.task bytes) out status made.answered (as_requested law.line (λ t n. RefusesInput (task_rules t) n (task_bytes tool_interface t bytes) r) args made.task task made.name name made.read.requested read.requested reason)
 
 -- what is refused is a command line
 refused_line : (args : List (List ℕ)) (bytes : List ℕ) {r : Rejection} → Refuses tool_interface args bytes r → HasCommandLine args
@@ -159,15 +159,15 @@ pub refusal_law : OneEach → RefusalIsAll
 refusal_law law args bytes out r status refuses output = refusal_is_all law args bytes out r status refuses output
 
 -- two answers to a determined task are one
-same_answer : OneEach → (task : Task) (name input out out' : List ℕ) (status status' : Status) → (rules_of task).is_determined → AnswersInput (rules_of task) name input out status → AnswersInput (rules_of task) name input out' status' → IsOutput out status out' status'
+same_answer : OneEach → (task : Task) (name input out out' : List ℕ) (status status' : Status) → (task_rules task).is_determined → AnswersInput (task_rules task) name input out status → AnswersInput (task_rules task) name input out' status' → IsOutput out status out' status'
 same_answer law task name input out out' status status' determined one other =
     let same = judged_once law.reading name input other.protocol one.protocol other.judged one.judged in
-    let bytes_same = one_part (rules_of task).needs input other.given one.given other.has_given one.has_given in
+    let bytes_same = one_part (task_rules task).needs input other.given one.given other.has_given one.has_given in
     (laws_of task).one_answer law.evidence one.protocol one.given out out' status status' one.judged.admitted determined one.answer
-    (subst (λ z. (rules_of task).answers z one.given out' status') same (subst (λ b. (rules_of task).answers other.protocol b out' status') bytes_same other.answer))
+    (subst (λ z. (task_rules task).answers z one.given out' status') same (subst (λ b. (task_rules task).answers other.protocol b out' status') bytes_same other.answer))
 
 -- two outputs of arguments that request a determined task are one
-one_output : OneEach → (args : List (List ℕ)) (bytes : List ℕ) (task : Task) (name out out' : List ℕ) (status status' : Status) → Requests args task name → (rules_of task).is_determined → Output tool_interface args bytes out status → Output tool_interface args bytes out' status' → IsOutput out status out' status'
+one_output : OneEach → (args : List (List ℕ)) (bytes : List ℕ) (task : Task) (name out out' : List ℕ) (status status' : Status) → Requests args task name → (task_rules task).is_determined → Output tool_interface args bytes out status → Output tool_interface args bytes out' status' → IsOutput out status out' status'
 one_output law args bytes task name _ out' _ status' requests determined (usage none) other = absurd (none (task, name, requests))
 one_output law args bytes task name _ out' _ status' requests determined (refused out r made) other =
     let is = refusal_is_all law args bytes out' r status' made.reason other in
@@ -176,8 +176,8 @@ one_output law args bytes task name _ _ _ _ requests determined (done out status
 one_output law args bytes task name _ _ _ _ requests determined (done out status made) (refused out' r refusal) = absurd (done_or_refused law args bytes out status made refusal.reason)
 one_output law args bytes task name _ _ _ _ requests determined (done out status made) (done out' status' made_too) =
     same_answer law task name (task_bytes tool_interface task bytes) out out' status status' determined
-    (as_requested law.line (λ t n. AnswersInput (rules_of t) n (task_bytes tool_interface t bytes) out status) args task made.task name made.name requests made.read.requested made.answered)
-    (as_requested law.line (λ t n. AnswersInput (rules_of t) n (task_bytes tool_interface t bytes) out' status') args task made_too.task name made_too.name requests made_too.read.requested made_too.answered)
+    (as_requested law.line (λ t n. AnswersInput (task_rules t) n (task_bytes tool_interface t bytes) out status) args task made.task name made.name requests made.read.requested made.answered)
+    (as_requested law.line (λ t n. AnswersInput (task_rules t) n (task_bytes tool_interface t bytes) out' status') args task made_too.task name made_too.name requests made_too.read.requested made_too.answered)
 
 pub answer_law : OneEach → OneAnswer
 answer_law law args bytes task name out out' status status' requests determined one other =

@@ -5,7 +5,7 @@ use Rattle.bspl_types.specs.declared.expanded.Expanded.{Expanded}
 use Rattle.report.specs.Summary.{count_line, generated_text}
 use Rattle.report.specs.VerdictText.{liveness_line, safety_line}
 use Rattle.verdict.specs.declared.outcome.Verdicts.{Verdicts}
-use Rattle.verdict.specs.Verdicts.{AreRight}
+use Rattle.verdict.specs.Verdicts.{AreRightAnswers}
 use Rattle.tool_input.specs.declared.status.Status.{Status}
 use Rattle.agent_commands.specs.declared.world_report.WorldReport.TheVariants.{Summary}
 use Rattle.agent_commands.specs.GenerateAnswer.{IsGenerateAnswer, generate_rules}
@@ -16,7 +16,7 @@ use Rattle.bspl_tool.proofs.VerdictLines.{liveness_line_alone, liveness_line_cla
 use Rattle.bspl_tool.proofs.WorldLines.{count_is_block}
 
 -- each prefix of the lines of right verdicts, and lines that claim nothing, claims only what is true
-generated_is_honest : (stages budget : ℕ) (x : Expanded) (v : Verdicts) (more : List ℕ) (n : ℕ) → AreRight x budget v → IsBlock more → IsHonest x (take n (generated_text stages x v ++ more))
+generated_is_honest : (stages budget : ℕ) (x : Expanded) (v : Verdicts) (more : List ℕ) (n : ℕ) → AreRightAnswers x budget v → IsBlock more → IsHonest x (take n (generated_text stages x v ++ more))
 generated_is_honest stages budget x v more n right block =
     let messages = length x.messages in
     let before = count_line (codes "generate") stages ++ count_line (codes "messages") messages in

@@ -21,7 +21,7 @@ use Rattle.tool_frame.specs.Interface.{RequestsInput, task_bytes}
 use Rattle.bspl_tool.specs.Interface.{tool_interface}
 use Rattle.tool_input.specs.Parts.{protocol_text}
 use Rattle.tool_input.specs.Rejection.{rejection_line}
-use Rattle.bspl_tool.specs.Task.{rules_of}
+use Rattle.bspl_tool.specs.Task.{task_rules}
 use Rattle.tool_frame.specs.Refusals.{Refuses, RefusesInput}
 use Rattle.bspl_tool.proofs.ClaimsNothing.{ClaimsNothing, line_claims_nothing, says_no_message, says_nothing}
 use Rattle.bspl_tool.proofs.NameBytes.{name_is_field}
@@ -30,7 +30,7 @@ use Rattle.bspl_tool.proofs.RejectionLines.{rejection_claims_nothing}
 use Rattle.bspl_tool.proofs.TaskLaws.{laws_of}
 
 -- the names in a refusal of an input are names
-input_names : (task : Task) (name input : List ℕ) {r : Rejection} → IsTrue (is_name name) → RefusesInput (rules_of task) name input r → HasNames r
+input_names : (task : Task) (name input : List ℕ) {r : Rejection} → IsTrue (is_name name) → RefusesInput (task_rules task) name input r → HasNames r
 input_names task name input named (RefusesInput.no_part part lacks) = record { first = tt; second = tt }
 input_names task name input named (RefusesInput.text part q r has reason is) = text_rejection_names name (protocol_text input) q r named reason is
 input_names task name input named (RefusesInput.command part x r has judged reason) = (laws_of task).names x part r reason

@@ -9,7 +9,7 @@ use Rattle.agent_commands.specs.GenerateAnswer.{generate_rules}
 use Rattle.evidence_commands.specs.ReplayAnswer.{replay_rules}
 use Rattle.agent_commands.specs.RestartAnswer.{restart_rules}
 use Rattle.agent_commands.specs.RunAnswer.{run_rules}
-use Rattle.bspl_tool.specs.Task.{rules_of}
+use Rattle.bspl_tool.specs.Task.{task_rules}
 use Rattle.bspl_tool.proofs.AuditLaws.{OneAudit, audit_laws}
 use Rattle.bspl_tool.proofs.CheckDeadLaws.{OneCheckDead, check_dead_laws}
 use Rattle.bspl_tool.proofs.CheckLaws.{OneCheck, check_laws}
@@ -34,7 +34,7 @@ pub record OneEvidence : Type 0 where
   pub audit : OneAudit
 
 -- one row for each command
-pub laws_of : (task : Task) → CommandLaws OneEvidence (rules_of task)
+pub laws_of : (task : Task) → CommandLaws OneEvidence (task_rules task)
 laws_of Expand = with_more expand_rules (λ once. once.printing) expand_laws
 laws_of (Verify brief conflicts) = verify_laws brief conflicts
 laws_of Check = with_more check_rules (λ once. once.check) check_laws

@@ -15,7 +15,7 @@ use Rattle.verdict.specs.declared.outcome.Safety.TheVariants.{Safe, Undecided, U
 use Rattle.verdict.specs.declared.outcome.Verdicts.{Verdicts}
 use Rattle.verdict.specs.Right.{IsRight}
 use Rattle.verdict.specs.RightLiveness.{IsRightLiveness}
-use Rattle.verdict.specs.Verdicts.{AreRight}
+use Rattle.verdict.specs.Verdicts.{AreRightAnswers}
 use Rattle.verdict_commands.specs.VerifyAnswer.{verify_rules}
 use Rattle.bspl_tool.proofs.ClaimsNothing.{IsBlock, IsBlockWithout, IsField, block_joined, joined_without, liveness_lines, message_lines, message_lines_whole, no_lines, no_liveness, no_safety, safety_lines, without_message}
 use Rattle.bspl_tool.proofs.CommandLaws.{CommandLaws, IsHonest}
@@ -78,7 +78,7 @@ liveness_of_none : (brief : Bool) (x : Expanded) (l : LivenessVerdict) (name : L
 liveness_of_none brief x l name field = joined_without (message_lines name) (message_lines_whole name field) (liveness_line_of_none x l name field) (without_message (liveness_evidence_is_block brief x l) name field)
 
 -- each prefix of the text of right verdicts, and lines that claim nothing, claims only what is true
-pub verdict_is_honest : (brief : Bool) (budget : ℕ) (x : Expanded) (v : Verdicts) (more : List ℕ) (n : ℕ) → AreRight x budget v → IsBlock more → IsHonest x (take n (verdict_text x v brief ++ more))
+pub verdict_is_honest : (brief : Bool) (budget : ℕ) (x : Expanded) (v : Verdicts) (more : List ℕ) (n : ℕ) → AreRightAnswers x budget v → IsBlock more → IsHonest x (take n (verdict_text x v brief ++ more))
 verdict_is_honest brief budget x v more n right block =
     parts_are_honest x (protocol_line x) (safety_text x brief v.safety) (liveness_text x brief v.liveness) more n (protocol_is_block x)
     (safety_claim brief budget x v.safety right.safety) (safety_alone brief x v.safety) (liveness_claim brief budget x v.liveness right.liveness) (liveness_alone brief x v.liveness) block

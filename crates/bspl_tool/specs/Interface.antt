@@ -7,7 +7,7 @@ use Rattle.tool_input.specs.Rejection.{rejection_line}
 use Rattle.bspl_tool.specs.declared.question.ToolQuestion.{ToolQuestion}
 use Rattle.bspl_tool.specs.declared.task.Task.{Task}
 use Rattle.bspl_tool.specs.Request.{Requests}
-use Rattle.bspl_tool.specs.Task.{own_text, rules_of}
+use Rattle.bspl_tool.specs.Task.{own_text, task_rules}
 use Rattle.bspl_tool.specs.Texts.{usage_text}
 
 -- its tasks, and how arguments request them; a refusal is written as its line
@@ -15,7 +15,7 @@ abbrev pub tool_interface : Interface Task
 tool_interface = record {
   usage = usage_text;
   requests = Requests;
-  rules = rules_of;
+  rules = task_rules;
   own_text = own_text;
   refusal_text = λ task input rejection out. out ≡ rejection_line rejection;
 }

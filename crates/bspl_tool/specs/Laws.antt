@@ -14,7 +14,7 @@ use Rattle.tool_frame.specs.Refusals.{Refuses}
 use Rattle.tool_input.specs.Rejection.{rejection_line}
 use Rattle.bspl_tool.specs.Interface.{tool_interface}
 use Rattle.bspl_tool.specs.Request.{HasCommandLine, Requests}
-use Rattle.bspl_tool.specs.Task.{rules_of}
+use Rattle.bspl_tool.specs.Task.{task_rules}
 use Rattle.bspl_tool.specs.Texts.{usage_text}
 
 -- what a call writes claims only what is true of the protocol that it judges
@@ -49,6 +49,6 @@ RefusalIsAll = (args : List (List ℕ)) (bytes out : List ℕ) (r : Rejection) (
 -- a task that is determined has one output at most
 abbrev pub OneAnswer : Type 0
 OneAnswer = (args : List (List ℕ)) (bytes : List ℕ) (task : Task) (name out out' : List ℕ)
-    (status status' : Status) → Requests args task name → (rules_of task).is_determined
+    (status status' : Status) → Requests args task name → (task_rules task).is_determined
     → Output tool_interface args bytes out status → Output tool_interface args bytes out' status'
     → IsOutput out status out' status'

@@ -19,18 +19,18 @@ use Rattle.agent_commands.specs.ServeAnswer.{serve_rules}
 use Rattle.verdict_commands.specs.VerifyAnswer.{verify_rules}
 
 -- the rules of each task
-abbrev pub rules_of : Task → CommandRules
-rules_of Expand = expand_rules
-rules_of (Verify brief conflicts) = verify_rules brief conflicts
-rules_of Check = check_rules
-rules_of Replay = replay_rules
-rules_of (Run brief conflicts threads) = run_rules brief conflicts threads
-rules_of (Restart brief conflicts) = restart_rules brief conflicts
-rules_of (Dead brief conflicts) = dead_rules brief conflicts
-rules_of CheckDead = check_dead_rules
-rules_of Serve = serve_rules
-rules_of Audit = audit_rules
-rules_of (Generate stages conflicts threads) = generate_rules stages conflicts threads
+abbrev pub task_rules : Task → CommandRules
+task_rules Expand = expand_rules
+task_rules (Verify brief conflicts) = verify_rules brief conflicts
+task_rules Check = check_rules
+task_rules Replay = replay_rules
+task_rules (Run brief conflicts threads) = run_rules brief conflicts threads
+task_rules (Restart brief conflicts) = restart_rules brief conflicts
+task_rules (Dead brief conflicts) = dead_rules brief conflicts
+task_rules CheckDead = check_dead_rules
+task_rules Serve = serve_rules
+task_rules Audit = audit_rules
+task_rules (Generate stages conflicts threads) = generate_rules stages conflicts threads
 
 -- the task of a command on the protocol of a name, with its options; `generate` has none
 abbrev pub task_of : Command → Bool → ℕ → ℕ → Option Task

@@ -3,7 +3,7 @@ ghost use Rattle.bspl_types.specs.Limits.{input_limit};
 ghost use Rattle.agent_commands.specs.Answer.{Completes, IsPlayable};
 ghost use Rattle.tool_frame.specs.Answer.{IsRightAnswer};
 ghost use Rattle.tool_frame.specs.Error.{RejectsFor};
-ghost use Rattle.bspl_tool.specs.Task.{IsAnsweredWhole, own_text, rules_of, task_of, task_threads};
+ghost use Rattle.bspl_tool.specs.Task.{IsAnsweredWhole, own_text, task_rules, task_of, task_threads};
 
 use agent_commands::{Answer, StageCount, generate, restart, run, serve};
 use bspl_types::{Admitted, Bytes, NoMemory};
@@ -94,7 +94,7 @@ pub fn task_of(
 impl Task {
     /// What it needs of the input beside the protocol text.
     pub fn needs(&self) -> Need
-        ensures { result ≡ (rules_of self.now).needs }
+        ensures { result ≡ (task_rules self.now).needs }
     {
         match self {
             Task::Expand | Task::Verify { .. } | Task::Dead { .. } => Need::Nothing,
@@ -160,9 +160,9 @@ impl Task {
     ) -> Result<Answer, AnswerError>
         requires { length given.now ≤ input_limit }
         ensures ok { IfOk result
-            (IsRightAnswer Completes ((rules_of self).answers protocol given.now)) }
+            (IsRightAnswer Completes ((task_rules self).answers protocol given.now)) }
         ensures safe { IfOk result IsPlayable }
-        ensures refused { IfErr result (RejectsFor ((rules_of self).refuses protocol given.now)) }
+        ensures refused { IfErr result (RejectsFor ((task_rules self).refuses protocol given.now)) }
     {
         match self {
             Task::Run {
@@ -192,9 +192,9 @@ impl Task {
         requires whole { IsAnsweredWhole self }
         requires short { length given.now ≤ input_limit }
         ensures ok { IfOk result (λ reply.
-            (rules_of self).answers protocol.now given.now reply.text reply.status) }
+            (task_rules self).answers protocol.now given.now reply.text reply.status) }
         ensures refused { IfErr result
-            (RejectsFor ((rules_of self).refuses protocol.now given.now)) }
+            (RejectsFor ((task_rules self).refuses protocol.now given.now)) }
     {
         match self {
             Task::Expand => Ok(expand(alloc, protocol)?),

@@ -18,6 +18,10 @@ message_of x m = slice_index_or x.messages m no_message
 abbrev pub message_name : Expanded → ℕ → List ℕ
 message_name x m = (message_of x m).name
 
+-- the name of the role of that number; past the last one it is empty
+abbrev pub role_name : Expanded → ℕ → List ℕ
+role_name x role = slice_index_or x.roles role []
+
 -- the parameter of a number past the last one: it has no name
 abbrev pub no_param : ParamInfo
 no_param = record { name = []; adornment = None; key = false }

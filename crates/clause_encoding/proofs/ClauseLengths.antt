@@ -13,7 +13,7 @@ use Rattle.bspl_types.specs.Expansion.{message_of, no_message}
 use Rattle.clause_encoding.specs.declared.variables.Variables.{Variables}
 use Rattle.clause_encoding.specs.Carriers.{binds, carriers, fresh_parameters, in_parameters, is_in, kinds_at, sender_carriers}
 use Rattle.clause_encoding.specs.Families.{delivery_clauses, fresh_clauses_of, freshness_clauses, occurrence_clauses, order_clauses, order_of_three, premise_clause, premise_clauses, shared_clauses}
-use Rattle.clause_encoding.specs.Variables.{kinds_after, message_numbers, received, sent}
+use Rattle.clause_encoding.specs.Variables.{kinds_following, message_numbers, received, sent}
 use Rattle.clause_encoding.specs.inner.Implications.{delivery_clause, fresh_clause}
 use Rattle.clause_encoding.specs.inner.Occurrence.{occurrence_clause}
 use Rattle.clause_encoding.specs.inner.Order.{order_of_one, order_of_two}
@@ -27,25 +27,25 @@ few_added f most count bound xs each few product =
     omega (arith, all, larger, product)
 
 -- few kinds come after one
-few_kinds : (vars : Variables) (kind : ℕ) → vars.kinds ≤ 128 → length (kinds_after vars kind) ≤ 128
+few_kinds : (vars : Variables) (kind : ℕ) → vars.kinds ≤ 128 → length (kinds_following vars kind) ≤ 128
 few_kinds vars kind few = omega (arith, length-range_with_len (kind + 1) (vars.kinds - kind), few)
 
 -- the order clauses are few
 few_order : (vars : Variables) → vars.kinds ≤ 128 → length (order_clauses vars) ≤ 4194304
 few_order vars few =
-    few_added (order_of_one vars) 32768 128 4194304 (kinds_after vars 0)
-    (λ i. few_added (order_of_two vars i) 256 128 32768 (kinds_after vars i)
-    (λ j. few_added (order_of_three vars i j) 2 128 256 (kinds_after vars j) (λ k. omega arith) (few_kinds vars j few) (omega arith))
+    few_added (order_of_one vars) 32768 128 4194304 (kinds_following vars 0)
+    (λ i. few_added (order_of_two vars i) 256 128 32768 (kinds_following vars i)
+    (λ j. few_added (order_of_three vars i j) 2 128 256 (kinds_following vars j) (λ k. omega arith) (few_kinds vars j few) (omega arith))
     (few_kinds vars i few) (omega arith))
     (few_kinds vars 0 few) (omega arith)
 
 -- the occurrence clauses are few
 few_occurrence : (vars : Variables) → vars.kinds ≤ 128 → length (occurrence_clauses vars) ≤ 16384
 few_occurrence vars few =
-    few_added (λ i. map (occurrence_clause vars i) (filter (λ j. not (j == i)) (kinds_after vars 0))) 128 128 16384 (kinds_after vars 0)
+    few_added (λ i. map (occurrence_clause vars i) (filter (λ j. not (j == i)) (kinds_following vars 0))) 128 128 16384 (kinds_following vars 0)
     (λ i.
-    let others = filter (λ (j : ℕ). not (j == i)) (kinds_after vars 0) in
-    let kept = length_filter (λ (j : ℕ). not (j == i)) (kinds_after vars 0) in
+    let others = filter (λ (j : ℕ). not (j == i)) (kinds_following vars 0) in
+    let kept = length_filter (λ (j : ℕ). not (j == i)) (kinds_following vars 0) in
     let kinds = few_kinds vars 0 few in
     omega (arith, length-map others (occurrence_clause vars i), kept, kinds))
     (few_kinds vars 0 few) (omega arith)

@@ -8,7 +8,7 @@ use Rattle.clause_core.specs.declared.literal.Lit.{Lit}
 use Rattle.clause_core.specs.Literal.{negated}
 use Rattle.clause_encoding.specs.declared.variables.Variables.{Variables}
 use Rattle.clause_encoding.specs.Families.{Written, occurrence_clauses, order_clauses, order_of_three}
-use Rattle.clause_encoding.specs.Variables.{IsKind, IsSmall, kinds_after, occurs, stands_before}
+use Rattle.clause_encoding.specs.Variables.{IsKind, IsSmall, kinds_following, occurs, stands_before}
 use Rattle.clause_encoding.specs.inner.Occurrence.{occurrence_clause, occurrence_of_one, occurrence_of_two}
 use Rattle.clause_encoding.specs.inner.Order.{order_of_one, order_of_two}
 use Rattle.clause_encoding.proofs.FilterLemmas.{all_flat_map, all_one}
@@ -41,11 +41,11 @@ abbrev pub IsAfter : Variables → ℕ → ℕ → Type 0
 IsAfter vars i j = (i < j) × (j ≤ vars.kinds)
 
 -- the kinds after one are later kinds
-pub later_kinds : (vars : Variables) (i : ℕ) → All (IsAfter vars i) (kinds_after vars i)
+pub later_kinds : (vars : Variables) (i : ℕ) → All (IsAfter vars i) (kinds_following vars i)
 later_kinds vars i =
     All-weaker (λ j. (i + 1 ≤ j) × (j < i + 1 + (vars.kinds - i))) (IsAfter vars i)
     (λ j within. let from = within.0 in let to = within.1 in (omega (arith, from), omega (arith, from, to)))
-    (kinds_after vars i) (range_members (i + 1) (vars.kinds - i))
+    (kinds_following vars i) (range_members (i + 1) (vars.kinds - i))
 
 -- a kind after one is a kind
 pub kind_after : (vars : Variables) (i j : ℕ) → IsAfter vars i j → IsKind vars j
@@ -73,9 +73,9 @@ order_three_exists vars i j k first second third =
 -- the order clauses
 pub order_exists : (vars : Variables) → All (ClauseExists vars) (order_clauses vars)
 order_exists vars =
-    all_added (IsAfter vars 0) (ClauseExists vars) (order_of_one vars) (kinds_after vars 0)
-    (λ i first. all_added (IsAfter vars i) (ClauseExists vars) (order_of_two vars i) (kinds_after vars i)
-    (λ j second. all_added (IsAfter vars j) (ClauseExists vars) (order_of_three vars i j) (kinds_after vars j)
+    all_added (IsAfter vars 0) (ClauseExists vars) (order_of_one vars) (kinds_following vars 0)
+    (λ i first. all_added (IsAfter vars i) (ClauseExists vars) (order_of_two vars i) (kinds_following vars i)
+    (λ j second. all_added (IsAfter vars j) (ClauseExists vars) (order_of_three vars i j) (kinds_following vars j)
     (λ k third. order_three_exists vars i j k (kind_after vars 0 i first) second third) (later_kinds vars j))
     (later_kinds vars i)) (later_kinds vars 0)
 
@@ -93,7 +93,7 @@ occurrence_two_exists vars i j small first second =
 pub occurrence_exists : (vars : Variables) → IsSmall vars → All (ClauseExists vars) (occurrence_clauses vars)
 occurrence_exists vars small =
     subst (All (ClauseExists vars)) (occurrence_parts vars)
-    (all_added (IsAfter vars 0) (ClauseExists vars) (occurrence_of_one vars) (kinds_after vars 0)
-    (λ i first. all_added (IsAfter vars 0) (ClauseExists vars) (occurrence_of_two vars i) (kinds_after vars 0)
+    (all_added (IsAfter vars 0) (ClauseExists vars) (occurrence_of_one vars) (kinds_following vars 0)
+    (λ i first. all_added (IsAfter vars 0) (ClauseExists vars) (occurrence_of_two vars i) (kinds_following vars 0)
     (λ j second. occurrence_two_exists vars i j small (kind_after vars 0 i first) (kind_after vars 0 j second)) (later_kinds vars 0))
     (later_kinds vars 0))

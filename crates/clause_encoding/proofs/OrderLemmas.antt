@@ -16,7 +16,7 @@ use Rattle.clause_encoding.specs.declared.variables.Variables.{Variables}
 use Rattle.clause_encoding.specs.Families.{Written, delivery_clauses, freshness_clauses, occurrence_clauses, order_clauses, order_of_three, premise_clauses}
 use Rattle.clause_encoding.specs.Formula.{AreClausesOf, clauses_of, own_clauses, variables_of}
 use Rattle.clause_encoding.specs.Ordered.{IsOrderOf}
-use Rattle.clause_encoding.specs.Variables.{IsKind, kinds_after, order_variable, positive, stands_before}
+use Rattle.clause_encoding.specs.Variables.{IsKind, kinds_following, order_variable, positive, stands_before}
 use Rattle.clause_encoding.specs.inner.Appends.{Appends}
 use Rattle.clause_encoding.specs.inner.Order.{clauses_after_order, families_after_order, order_of_one, order_of_two}
 use Rattle.clause_encoding.proofs.AppendsLemmas.{joined}
@@ -91,10 +91,10 @@ joined_all P f g (x ∷ xs) each all =
     joined (f x) (flat_map f xs) (g x) (flat_map g xs) (each x (All-head P x xs all)) (joined_all P f g xs each (All-tail P x xs all))
 
 -- the same over the later kinds
-joined_kinds : (o : Order) (vars : Variables) (i : ℕ) (f : ℕ → List Written) (g : ℕ → List (List Lit)) → IsOrderOf vars o → ((j : ℕ) → IsAfter vars i j → AreClausesOf (f j) (g j)) → AreClausesOf (flat_map f (kinds_after vars i)) (flat_map g (range_with_len (i + 1) (o.kinds - i)))
+joined_kinds : (o : Order) (vars : Variables) (i : ℕ) (f : ℕ → List Written) (g : ℕ → List (List Lit)) → IsOrderOf vars o → ((j : ℕ) → IsAfter vars i j → AreClausesOf (f j) (g j)) → AreClausesOf (flat_map f (kinds_following vars i)) (flat_map g (range_with_len (i + 1) (o.kinds - i)))
 joined_kinds o vars i f g is each =
-    subst (λ (kinds : ℕ). AreClausesOf (flat_map f (kinds_after vars i)) (flat_map g (range_with_len (i + 1) (kinds - i)))) (sym is.kinds)
-    (joined_all (IsAfter vars i) f g (kinds_after vars i) each (later_kinds vars i))
+    subst (λ (kinds : ℕ). AreClausesOf (flat_map f (kinds_following vars i)) (flat_map g (range_with_len (i + 1) (kinds - i)))) (sym is.kinds)
+    (joined_all (IsAfter vars i) f g (kinds_following vars i) each (later_kinds vars i))
 
 -- so the clauses of the order are the order clauses
 pub order_are : CycleClausesAscend → (o : Order) (vars : Variables) → IsOrderOf vars o → AreClausesOf (order_clauses vars) (order_list o)

@@ -7,7 +7,7 @@ use Rattle.clause_core.specs.declared.literal.Lit.{Lit}
 use Rattle.clause_core.specs.Literal.{negated}
 use Rattle.clause_encoding.specs.declared.variables.Variables.{Variables}
 use Rattle.clause_encoding.specs.Carriers.{fresh_parameters, in_parameters, sender_carriers}
-use Rattle.clause_encoding.specs.Variables.{kinds_after, message_numbers, occurs, received, sent, stands_before}
+use Rattle.clause_encoding.specs.Variables.{kinds_following, message_numbers, occurs, received, sent, stands_before}
 
 -- a clause as it is written; its literals are those of a set
 abbrev pub Written : Type 0
@@ -24,14 +24,14 @@ order_of_three vars i j k =
 -- order: one stands before the other, in lexicographic order of i < j < k
 abbrev pub order_clauses : Variables → List Written
 order_clauses vars =
-    flat_map (λ i. flat_map (λ j. flat_map (order_of_three vars i j) (kinds_after vars j))
-    (kinds_after vars i)) (kinds_after vars 0)
+    flat_map (λ i. flat_map (λ j. flat_map (order_of_three vars i j) (kinds_following vars j))
+    (kinds_following vars i)) (kinds_following vars 0)
 
 -- occurrence: a kind that occurs stands before one that does not
 abbrev pub occurrence_clauses : Variables → List Written
 occurrence_clauses vars =
     flat_map (λ i. map (λ j. negated (occurs i) ∷ occurs j ∷ stands_before vars i j ∷ [])
-    (filter (λ j. not (j == i)) (kinds_after vars 0))) (kinds_after vars 0)
+    (filter (λ j. not (j == i)) (kinds_following vars 0))) (kinds_following vars 0)
 
 -- delivery: what is received was sent before
 abbrev pub delivery_clauses : Expanded → Variables → List Written

@@ -23,8 +23,8 @@ abbrev pub message_numbers : Expanded → List ℕ
 message_numbers x = range_with_len 0 (length x.messages)
 
 -- the kinds after one, in order; those after 0 are all
-abbrev pub kinds_after : Variables → ℕ → List ℕ
-kinds_after vars kind = range_with_len (kind + 1) (vars.kinds - kind)
+abbrev pub kinds_following : Variables → ℕ → List ℕ
+kinds_following vars kind = range_with_len (kind + 1) (vars.kinds - kind)
 
 -- the number is that of a kind
 pub record IsKind (vars : Variables) (kind : ℕ) : Type 0 where

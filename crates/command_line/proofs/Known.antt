@@ -18,7 +18,7 @@ use Rattle.list_base.specs.Numeral.{numeral}
 use Rattle.list_base.proofs.Numerals.{tests_digits}
 use Rattle.command_line.specs.Known.{options, is_known}
 use Rattle.command_line.specs.Line.{IsSubject, IsCommandLine}
-use Rattle.command_line.specs.Argument.{Argument, Brief, Conflicts, Threads, Positional, begins_with_dash, IsAlone, brief, conflicts_joined, threads_joined, positional, BeginsWith, alone, conflicts_next, threads_next, ReadsAs, nothing, the_end, next}
+use Rattle.command_line.specs.Argument.{Argument, Brief, Conflicts, Threads, Positional, begins_with_dash, IsAlone, brief, conflicts_joined, threads_joined, positional, BeginsWithArgument, alone, conflicts_next, threads_next, ReadsAs, nothing, the_end, next}
 use Rattle.command_line.specs.ParsedArgs.{ParsedArgs, add, nothing_parsed}
 
 -- the arguments that are known
@@ -121,7 +121,7 @@ rest_known s [] are = refl
 rest_known s (word ∷ rest) are =
     and_from (is_known word) (list_all is_known rest) (plain_known word (plain_positional s (Positional word) (map Positional rest) are word refl)) (rest_known (add s (Positional word)) rest are)
 
-part_known : {args : List (List ℕ)} {part : Argument} {left : List (List ℕ)} → BeginsWith args part left → ((w : List ℕ) → part ≡ Positional w → begins_with_dash w ≡ false) → list_all is_known left ≡ true → list_all is_known args ≡ true
+part_known : {args : List (List ℕ)} {part : Argument} {left : List (List ℕ)} → BeginsWithArgument args part left → ((w : List ℕ) → part ≡ Positional w → begins_with_dash w ≡ false) → list_all is_known left ≡ true → list_all is_known args ≡ true
 part_known (alone word part rest is) bare others = and_from (is_known word) (list_all is_known rest) (alone_known is bare) others
 part_known (conflicts_next value rest is) bare others = and_from (is_known value) (list_all is_known rest) (plain_known value is) others
 part_known (threads_next value rest is) bare others = and_from (is_known value) (list_all is_known rest) (plain_known value is) others

@@ -8,7 +8,7 @@ use Rattle.command_line.specs.declared.line.CommandLine.{CommandLine}
 use Rattle.command_line.specs.declared.line.Subject.{Subject}
 use Rattle.command_line.specs.declared.line.Subject.TheVariants.{Protocol, Size}
 use Rattle.command_line.specs.Command.{command_word, takes_brief, takes_conflicts, takes_threads, takes_size}
-use Rattle.command_line.specs.Line.{IsSubject, IsFlag, IsChosen, IsLineOf, IsCommandLine, IsSameSubject, IsSameLine}
+use Rattle.command_line.specs.Line.{IsSubject, IsFlag, IsOptionValue, IsLineOf, IsCommandLine, IsSameSubject, IsSameLine}
 use Rattle.command_line.specs.ParsedArgs.{ParsedArgs, HasNoRepeats, ParsesTo, nothing_parsed, parsed}
 use Rattle.command_line.proofs.ParseLemmas.{same_reading}
 
@@ -18,7 +18,7 @@ flag_once belongs zero on is = omega arith
 flag_once belongs (suc zero) on is = omega arith
 flag_once belongs (suc (suc n)) on is = absurd is
 
-option_once : (belongs : Bool) (least most default : ℕ) (values : List (List ℕ)) (n : ℕ) → IsChosen belongs least most default values n → length values ≤ 1
+option_once : (belongs : Bool) (least most default : ℕ) (values : List (List ℕ)) (n : ℕ) → IsOptionValue belongs least most default values n → length values ≤ 1
 option_once belongs least most default [] n is = omega arith
 option_once belongs least most default (value ∷ []) n is = omega arith
 option_once belongs least most default (value ∷ other ∷ values) n is = absurd is
@@ -71,7 +71,7 @@ same_flag belongs zero x y one other = one ∙ sym other
 same_flag belongs (suc zero) x y one other = one.0 ∙ sym other.0
 same_flag belongs (suc (suc n)) x y one other = absurd one
 
-same_choice : (belongs : Bool) (least most default : ℕ) (values : List (List ℕ)) (m n : ℕ) → IsChosen belongs least most default values m → IsChosen belongs least most default values n → m ≡ n
+same_choice : (belongs : Bool) (least most default : ℕ) (values : List (List ℕ)) (m n : ℕ) → IsOptionValue belongs least most default values m → IsOptionValue belongs least most default values n → m ≡ n
 same_choice belongs least most default [] m n one other = one ∙ sym other
 same_choice belongs least most default (value ∷ []) m n one other = same_from_numeral m n (sym one.0.written ∙ other.0.written)
 same_choice belongs least most default (value ∷ more ∷ values) m n one other = absurd one
@@ -103,8 +103,8 @@ same_line s a b one other =
       command = command;
       subject = same_subject (takes_size b.command) other.word a.subject b.subject (subst (λ k. IsSubject (takes_size k) other.word a.subject) command subject) other.subject;
       brief = same_flag (takes_brief b.command) s.briefs a.brief b.brief (subst (λ k. IsFlag (takes_brief k) s.briefs a.brief) command one.brief) other.brief;
-      conflicts = same_choice (takes_conflicts b.command) 1 20000 10000 s.conflicts a.conflicts b.conflicts (subst (λ k. IsChosen (takes_conflicts k) 1 20000 10000 s.conflicts a.conflicts) command one.conflicts) other.conflicts;
-      threads = same_choice (takes_threads b.command) 0 8 1 s.threads a.threads b.threads (subst (λ k. IsChosen (takes_threads k) 0 8 1 s.threads a.threads) command one.threads) other.threads;
+      conflicts = same_choice (takes_conflicts b.command) 1 20000 10000 s.conflicts a.conflicts b.conflicts (subst (λ k. IsOptionValue (takes_conflicts k) 1 20000 10000 s.conflicts a.conflicts) command one.conflicts) other.conflicts;
+      threads = same_choice (takes_threads b.command) 0 8 1 s.threads a.threads b.threads (subst (λ k. IsOptionValue (takes_threads k) 0 8 1 s.threads a.threads) command one.threads) other.threads;
     }
 
 -- arguments are one command line at most

@@ -6,7 +6,7 @@ use Rattle.text_lines.specs.Decimal.{IsReadUpTo}
 use Rattle.text_lines.specs.declared.decimal.DecimalError.{DecimalError}
 use Rattle.text_lines.specs.declared.decimal.DecimalError.TheVariants.{Form, TooLarge}
 use Rattle.command_line.specs.Budget.{IsBudget}
-use Rattle.command_line.specs.Line.{IsChosen}
+use Rattle.command_line.specs.Line.{IsOptionValue}
 use Rattle.command_line.specs.Number.{IsNumberIn}
 use Rattle.command_line.specs.ThreadCount.{IsThreadCount}
 
@@ -27,13 +27,13 @@ too_low least most value text read below n is =
     omega (arith, same, below, low)
 
 -- a number of conflicts that is chosen may be allowed
-pub chosen_budget : (belongs : Bool) (values : List (List ℕ)) (n : ℕ) → IsChosen belongs 1 20000 10000 values n → IsBudget n
+pub chosen_budget : (belongs : Bool) (values : List (List ℕ)) (n : ℕ) → IsOptionValue belongs 1 20000 10000 values n → IsBudget n
 chosen_budget belongs [] n is = record { least = omega arith; most = omega arith }
 chosen_budget belongs (value ∷ []) n chosen = record { least = chosen.0.low; most = chosen.0.high }
 chosen_budget belongs (value ∷ other ∷ values) n chosen = absurd chosen
 
 -- a number of threads that is chosen may be given
-pub chosen_threads : (belongs : Bool) (values : List (List ℕ)) (n : ℕ) → IsChosen belongs 0 8 1 values n → IsThreadCount n
+pub chosen_threads : (belongs : Bool) (values : List (List ℕ)) (n : ℕ) → IsOptionValue belongs 0 8 1 values n → IsThreadCount n
 chosen_threads belongs [] n is = omega arith
 chosen_threads belongs (value ∷ []) n chosen = chosen.0.high
 chosen_threads belongs (value ∷ other ∷ values) n chosen = absurd chosen

@@ -1,7 +1,7 @@
 -- What arguments say, step by step from the left.
 use Rattle.std.proofs.Common.{◌≡◌, ◌↔◌, ℕ, List, [], ◌∷◌, map, refl, sym, ap, subst, ◌∙◌, arith, codes, length-append}
 use Rattle.std.specs.List.{fold}
-use Rattle.command_line.specs.Argument.{Argument, Brief, Conflicts, Threads, Positional, BeginsWith, ReadsAs, nothing, the_end, next}
+use Rattle.command_line.specs.Argument.{Argument, Brief, Conflicts, Threads, Positional, BeginsWithArgument, ReadsAs, nothing, the_end, next}
 use Rattle.command_line.specs.ParsedArgs.{ParsedArgs, add, HasNoRepeats, ParsesTo}
 use Rattle.command_line.proofs.Front.{same_front, no_words, no_end}
 
@@ -17,13 +17,13 @@ ReadsOn args before rest after = (s : ParsedArgs) → ParsesTo args before s ↔
 none_read : {args : List (List ℕ)} {parts : List Argument} → ReadsAs args parts → args ≡ [] → parts ≡ []
 none_read nothing e = refl
 none_read (the_end rest) e = absurd (cc)
-none_read (next args part rest parts begins reads) e = absurd (no_words (subst (λ ws. BeginsWith ws part rest) e begins))
+none_read (next args part rest parts begins reads) e = absurd (no_words (subst (λ ws. BeginsWithArgument ws part rest) e begins))
 
 -- after `--` all arguments are positional
 end_read : {args : List (List ℕ)} {parts : List Argument} → ReadsAs args parts → (rest : List (List ℕ)) → args ≡ codes "--" ∷ rest → parts ≡ map Positional rest
 end_read nothing others e = absurd (cc)
 end_read (the_end rest) others e = (let same : rest ≡ others = cc in ap (map Positional) same)
-end_read (next args part rest parts begins reads) others e = absurd (no_end others (subst (λ ws. BeginsWith ws part rest) e begins))
+end_read (next args part rest parts begins reads) others e = absurd (no_end others (subst (λ ws. BeginsWithArgument ws part rest) e begins))
 
 -- the others are read after the first part
 pub record ReadBehind (part : Argument) (left : List (List ℕ)) (parts : List Argument) : Type 0 where
@@ -31,7 +31,7 @@ pub record ReadBehind (part : Argument) (left : List (List ℕ)) (parts : List A
   pub reads : ReadsAs left others
   pub parts_are : parts ≡ part ∷ others
 
-part_read : {args : List (List ℕ)} {parts : List Argument} → ReadsAs args parts → (first : Argument) (left : List (List ℕ)) → BeginsWith args first left → ReadBehind first left parts
+part_read : {args : List (List ℕ)} {parts : List Argument} → ReadsAs args parts → (first : Argument) (left : List (List ℕ)) → BeginsWithArgument args first left → ReadBehind first left parts
 part_read nothing first left begins = absurd (no_words begins)
 part_read (the_end rest) first left begins = absurd (no_end rest begins)
 part_read (next args part rest parts other reads) first left begins =
@@ -54,7 +54,7 @@ pub nothing_more : (before after : ParsedArgs) → ParsesTo [] before after → 
 nothing_more before after says = says.after_is ∙ ap (fold add before) (none_read says.reads refl)
 
 -- after one part, and after `--`, reading goes on
-pub on_part : (args : List (List ℕ)) (part : Argument) (left : List (List ℕ)) (before : ParsedArgs) → BeginsWith args part left → ReadsOn args before left (add before part)
+pub on_part : (args : List (List ℕ)) (part : Argument) (left : List (List ℕ)) (before : ParsedArgs) → BeginsWithArgument args part left → ReadsOn args before left (add before part)
 on_part args part left before begins s = (
   λ says.
       let after = part_read says.reads part left begins in

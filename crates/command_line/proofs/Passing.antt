@@ -4,7 +4,7 @@ use Rattle.std.specs.List.{fold, list_all}
 use Rattle.clap.specs.Walk.{Row, Text, Walk, idle, has_row, with_default, walked}
 use Rattle.clap.specs.Kinds.{Kinds}
 use Rattle.clap.specs.Faults.{turn_fault, defaults_fault, walk_fault}
-use Rattle.command_line.specs.Argument.{Argument, Brief, Conflicts, Threads, Positional, begins_with_dash, is_dashed, IsAlone, BeginsWith, alone, conflicts_next, threads_next, brief, conflicts_joined, threads_joined, positional, ReadsAs, nothing, the_end, next}
+use Rattle.command_line.specs.Argument.{Argument, Brief, Conflicts, Threads, Positional, begins_with_dash, is_dashed, IsAlone, BeginsWithArgument, alone, conflicts_next, threads_next, brief, conflicts_joined, threads_joined, positional, ReadsAs, nothing, the_end, next}
 use Rattle.command_line.specs.Known.{is_known}
 use Rattle.command_line.proofs.Known.{IsKnown, plain, the_dashes, the_flag, conflicts_apart, threads_apart, conflicts_with, threads_with, known_head, known_tail}
 use Rattle.command_line.specs.ParsedArgs.{ParsedArgs, HasNoRepeats, add}
@@ -170,7 +170,7 @@ alone_passes (threads_joined v) known rest parts passing = threads_pass v rest p
 alone_passes (positional word other) known rest parts passing = λ rows pending p s clean lean.
     subst (λ q. whole_fault (walking rows pending idle q) (word ∷ rest) ≡ []) (sym clean.at) (plain_passes word (no_dash known other) rest parts passing rows pending s s.positional refl clean.none clean.are lean)
 
-part_passes : {args : List Text} {part : Argument} {left : List Text} → BeginsWith args part left → list_all is_known args ≡ true → (parts : List Argument) → (list_all is_known left ≡ true → Passing left parts) → Passing args (part ∷ parts)
+part_passes : {args : List Text} {part : Argument} {left : List Text} → BeginsWithArgument args part left → list_all is_known args ≡ true → (parts : List Argument) → (list_all is_known left ≡ true → Passing left parts) → Passing args (part ∷ parts)
 part_passes (alone word part rest is) known parts passing = alone_passes is (known_head word rest known) rest parts (passing (known_tail word rest known))
 part_passes (conflicts_next v rest is) known parts passing = conflicts_apart_pass v is rest parts (passing (known_tail v rest (known_tail (codes "--conflicts") (v ∷ rest) known)))
 part_passes (threads_next v rest is) known parts passing = threads_apart_pass v is rest parts (passing (known_tail v rest (known_tail (codes "--threads") (v ∷ rest) known)))

@@ -3,7 +3,7 @@ use Rattle.std.proofs.Common.{◌≡◌, ◌++◌, ℕ, true, false, List, [], �
 use Rattle.std.specs.List.{fold, list_all}
 use Rattle.clap.specs.Walk.{Held, Row, Text, Walk, Waiting, idle, option, settled, walked}
 use Rattle.clap.specs.Faults.{settle_fault, turn_fault, use_fault}
-use Rattle.command_line.specs.Argument.{Argument, Brief, Conflicts, Threads, Positional, begins_with_dash, BeginsWith, alone, conflicts_next, threads_next, brief, conflicts_joined, threads_joined, positional}
+use Rattle.command_line.specs.Argument.{Argument, Brief, Conflicts, Threads, Positional, begins_with_dash, BeginsWithArgument, alone, conflicts_next, threads_next, brief, conflicts_joined, threads_joined, positional}
 use Rattle.command_line.specs.Known.{is_known}
 use Rattle.command_line.proofs.Known.{IsKnown, plain, the_dashes, the_flag, conflicts_apart, threads_apart, conflicts_with, threads_with, known_head, known_tail}
 use Rattle.command_line.specs.ParsedArgs.{ParsedArgs, add, ParsesTo}
@@ -61,7 +61,7 @@ ends_as : (w after : Walk) (word : Text) (rest args : List Text) (s : ParsedArgs
 ends_as w after word rest args s is taken = subst (λ v. Taken (end_of v rest) args s) (sym is) taken
 
 -- one part more
-taken_part : {end : Held} {args left : List Text} {part : Argument} {s : ParsedArgs} → BeginsWith args part left → Taken end left (add s part) → Taken end args s
+taken_part : {end : Held} {args left : List Text} {part : Argument} {s : ParsedArgs} → BeginsWithArgument args part left → Taken end left (add s part) → Taken end args s
 taken_part {args = args} {left = left} {part = part} {s = s} begins taken = record {
   after = taken.after;
   says = (on_part args part left s begins taken.after).1 taken.says;
@@ -154,7 +154,7 @@ name_holds rows s first word are one = record {
 -- ---- an argument that does not begin with `-`
 
 plain_next : (word : Text) → begins_with_dash word ≡ false → (rest : List Text) → Taking rest → (rows : List Row) (pending : Pending) (s : ParsedArgs) (ws : List Text) → s.positional ≡ ws → (pending_fault rows pending ≡ [] → Rows (settled_by rows pending) s)
-    → whole_fault (walking rows pending idle (place ws)) (word ∷ rest) ≡ [] → BeginsWith (word ∷ rest) (Positional word) rest → Taken (end_of (walking rows pending idle (place ws)) (word ∷ rest)) (word ∷ rest) s
+    → whole_fault (walking rows pending idle (place ws)) (word ∷ rest) ≡ [] → BeginsWithArgument (word ∷ rest) (Positional word) rest → Taken (end_of (walking rows pending idle (place ws)) (word ∷ rest)) (word ∷ rest) s
 plain_next word is rest taking rows pending s [] e fair none begins =
     let plain = plain_word_is word is in
     let walk = Steps.plain_walk rows pending 1 word plain ∙ Steps.command_held rows pending idle word in
@@ -259,7 +259,7 @@ threads_word (threads_with v) rest taking rows p s are at none = absurd (never_n
 -- ---- all arguments
 
 -- an argument that does not begin with `-` is positional
-pub plain_part : (word : Text) → begins_with_dash word ≡ false → (rest : List Text) → BeginsWith (word ∷ rest) (Positional word) rest
+pub plain_part : (word : Text) → begins_with_dash word ≡ false → (rest : List Text) → BeginsWithArgument (word ∷ rest) (Positional word) rest
 plain_part [] is rest = alone [] (Positional []) rest (positional [] refl)
 plain_part (b ∷ []) is rest = alone (b ∷ []) (Positional (b ∷ [])) rest (positional (b ∷ []) refl)
 plain_part (b ∷ c ∷ bs) is rest = alone (b ∷ c ∷ bs) (Positional (b ∷ c ∷ bs)) rest (positional (b ∷ c ∷ bs) is)

@@ -30,15 +30,15 @@ pub data IsAlone : List ℕ → Argument → Type 0 where
   positional : (word : List ℕ) → is_dashed word ≡ false → IsAlone word (Positional word)
 
 -- the arguments begin with the part, and the rest is left
-pub data BeginsWith : List (List ℕ) → Argument → List (List ℕ) → Type 0 where
+pub data BeginsWithArgument : List (List ℕ) → Argument → List (List ℕ) → Type 0 where
   -- an argument that is a part
   alone : (word : List ℕ) (part : Argument) (rest : List (List ℕ)) → IsAlone word part
-      → BeginsWith (word ∷ rest) part rest
+      → BeginsWithArgument (word ∷ rest) part rest
   -- an option whose value is the next argument, which must not begin with `-`
   conflicts_next : (value : List ℕ) (rest : List (List ℕ)) → begins_with_dash value ≡ false
-      → BeginsWith (codes "--conflicts" ∷ value ∷ rest) (Conflicts value) rest
+      → BeginsWithArgument (codes "--conflicts" ∷ value ∷ rest) (Conflicts value) rest
   threads_next : (value : List ℕ) (rest : List (List ℕ)) → begins_with_dash value ≡ false
-      → BeginsWith (codes "--threads" ∷ value ∷ rest) (Threads value) rest
+      → BeginsWithArgument (codes "--threads" ∷ value ∷ rest) (Threads value) rest
 
 -- the arguments are these parts
 pub data ReadsAs : List (List ℕ) → List Argument → Type 0 where
@@ -48,4 +48,4 @@ pub data ReadsAs : List (List ℕ) → List Argument → Type 0 where
   the_end : (rest : List (List ℕ)) → ReadsAs (codes "--" ∷ rest) (map Positional rest)
   -- one part, and then the others
   next : (args : List (List ℕ)) (part : Argument) (rest : List (List ℕ)) (parts : List Argument)
-      → BeginsWith args part rest → ReadsAs rest parts → ReadsAs args (part ∷ parts)
+      → BeginsWithArgument args part rest → ReadsAs rest parts → ReadsAs args (part ∷ parts)

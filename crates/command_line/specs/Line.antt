@@ -24,10 +24,11 @@ IsFlag belongs (suc (suc n)) on = ⊥
 
 -- an option's values: none, and it has its default; or a number in the range, if it belongs to the
 -- command
-abbrev pub IsChosen : Bool → ℕ → ℕ → ℕ → List (List ℕ) → ℕ → Type 0
-IsChosen belongs least most default [] n = n ≡ default
-IsChosen belongs least most default (value ∷ []) n = IsNumberIn least most value n × IsTrue belongs
-IsChosen belongs least most default (value ∷ other ∷ values) n = ⊥
+abbrev pub IsOptionValue : Bool → ℕ → ℕ → ℕ → List (List ℕ) → ℕ → Type 0
+IsOptionValue belongs least most default [] n = n ≡ default
+IsOptionValue belongs least most default (value ∷ []) n =
+    IsNumberIn least most value n × IsTrue belongs
+IsOptionValue belongs least most default (value ∷ other ∷ values) n = ⊥
 
 -- what is parsed is this command line
 pub record IsLineOf (s : ParsedArgs) (line : CommandLine) : Type 0 where
@@ -35,8 +36,9 @@ pub record IsLineOf (s : ParsedArgs) (line : CommandLine) : Type 0 where
   pub positional : s.positional ≡ command_word line.command ∷ word ∷ []
   pub subject : IsSubject (takes_size line.command) word line.subject
   pub brief : IsFlag (takes_brief line.command) s.briefs line.brief
-  pub conflicts : IsChosen (takes_conflicts line.command) 1 20000 10000 s.conflicts line.conflicts
-  pub threads : IsChosen (takes_threads line.command) 0 8 1 s.threads line.threads
+  pub conflicts :
+      IsOptionValue (takes_conflicts line.command) 1 20000 10000 s.conflicts line.conflicts
+  pub threads : IsOptionValue (takes_threads line.command) 0 8 1 s.threads line.threads
 
 -- the arguments are this command line
 pub record IsCommandLine (args : List (List ℕ)) (line : CommandLine) : Type 0 where

@@ -3,7 +3,7 @@ ghost use Rattle.std.specs.Option.{option_copied, option_to_list};
 ghost use Rattle.command_line.specs.declared.line.CommandLine.{CommandLine as Line};
 ghost use Rattle.command_line.specs.declared.line.Subject.{Subject as Aim};
 ghost use Rattle.command_line.specs.RawArgs.{parsed_of};
-ghost use Rattle.command_line.specs.Line.{IsChosen, IsLineOf, IsSubject};
+ghost use Rattle.command_line.specs.Line.{IsOptionValue, IsLineOf, IsSubject};
 
 use super::budget::Budget;
 use super::command::command_of;
@@ -36,9 +36,9 @@ const THREADS: Choice = Choice {
 /// The number that an option has: its value, or the default.
 fn chosen(belongs: bool, choice: Choice, value: Option<&str>) -> Option<u32>
     ensures { MatchOption result
-        ((n : ℕ) → ¬ IsChosen belongs choice.least choice.most choice.default
+        ((n : ℕ) → ¬ IsOptionValue belongs choice.least choice.most choice.default
         (option_to_list (option_copied value.entry)) n)
-        (IsChosen belongs choice.least choice.most choice.default
+        (IsOptionValue belongs choice.least choice.most choice.default
         (option_to_list (option_copied value.entry))) }
 {
     let Some(value) = value else {

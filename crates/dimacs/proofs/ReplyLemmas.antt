@@ -12,12 +12,12 @@ use Rattle.dimacs.specs.Call.{AsksForInput}
 use Rattle.dimacs.specs.Dimacs.{IsNoFormula, text_lines}
 use Rattle.dimacs.specs.RefusedLine.{StopsAt}
 use Rattle.dimacs.specs.Output.{Decides, DimacsOutput, decided, dimacs_input_limit, dimacs_usage, no_formula, read, refused_length, refused_line, too_long, usage}
-use Rattle.dimacs.specs.Status.{status_of}
+use Rattle.dimacs.specs.Status.{solver_status}
 use Rattle.dimacs.specs.Verdict.{IsRightVerdict}
 use Rattle.dimacs.specs.inner.Request.{IsRequest}
 
 -- a verdict is written with its lines and its status
-pub verdict_decides : (options : Options) (input : List ℕ) (verdict : Verdict) (out : List ℕ) (end : Status) → length input ≤ dimacs_input_limit → IsRightVerdict input options verdict → out ≡ answer_text verdict → end ≡ status_of verdict → Decides options input out end
+pub verdict_decides : (options : Options) (input : List ℕ) (verdict : Verdict) (out : List ℕ) (end : Status) → length input ≤ dimacs_input_limit → IsRightVerdict input options verdict → out ≡ answer_text verdict → end ≡ solver_status verdict → Decides options input out end
 verdict_decides options input verdict out end short right text_is status_is =
     rw (text_is, status_is) (decided verdict short right)
 

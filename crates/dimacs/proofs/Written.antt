@@ -9,7 +9,7 @@ use Rattle.refutation_log.specs.declared.refutation.Log.{Log}
 use Rattle.sat_solver.specs.Outcome.{IsModel, Refutes}
 use Rattle.lrat_text.specs.Proof.{IsProofOf}
 use Rattle.dimacs.specs.Dimacs.{IsDimacs, clause_limit}
-use Rattle.dimacs.specs.Verdict.{HaveExactly, IsFormulaOf, IsProved, IsRefuted, IsSatisfied}
+use Rattle.dimacs.specs.Verdict.{HaveExactly, IsFormulaOf, IsProved, IsRefutedText, IsSatisfied}
 use Rattle.dimacs.specs.Refusal.{HasTooMany}
 use Rattle.dimacs.proofs.TokenLemmas.{exactly_as_many}
 
@@ -49,7 +49,7 @@ read_satisfied text f assignment is_formula model = record {
 }
 
 -- a log within the budget refutes the formula, so that nothing satisfies what is written
-pub read_refuted : (text : List ℕ) (f : Formula) (budget : ℕ) (log : Log) (is_formula : IsFormulaOf text f) → Refutes f budget log → IsUnsatisfiable f.clauses → IsRefuted text budget
+pub read_refuted : (text : List ℕ) (f : Formula) (budget : ℕ) (log : Log) (is_formula : IsFormulaOf text f) → Refutes f budget log → IsUnsatisfiable f.clauses → IsRefutedText text budget
 read_refuted text f budget log is_formula refutes none = record {
   formula = f;
   read = is_formula;

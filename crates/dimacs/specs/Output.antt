@@ -9,7 +9,7 @@ use Rattle.dimacs.specs.AnswerText.{answer_text}
 use Rattle.dimacs.specs.Arguments.{HasOptions, IsUsage}
 use Rattle.dimacs.specs.Dimacs.{IsNoFormula, text_lines}
 use Rattle.dimacs.specs.RefusedLine.{StopsAt}
-use Rattle.dimacs.specs.Status.{status_of}
+use Rattle.dimacs.specs.Status.{solver_status}
 use Rattle.dimacs.specs.Verdict.{IsRightVerdict}
 
 -- the most bytes that an input has
@@ -39,7 +39,7 @@ pub data Decides (options : Options) (input : List ℕ) : List ℕ → Status �
   -- it is one, and the verdict on it is right
   decided : (verdict : Verdict) → length input ≤ dimacs_input_limit
       → IsRightVerdict input options verdict
-      → Decides options input (answer_text verdict) (status_of verdict)
+      → Decides options input (answer_text verdict) (solver_status verdict)
 
 -- the output and the status for the arguments and the input
 pub data DimacsOutput (args : List (List ℕ)) (input : List ℕ) : List ℕ → Status → Type 0 where

@@ -6,16 +6,16 @@ use Rattle.dimacs.specs.declared.verdict.Verdict.{Verdict}
 use Rattle.dimacs.specs.declared.verdict.Verdict.TheVariants.{Satisfiable, Unsatisfiable, Proved, Unknown}
 
 -- the status of a verdict
-abbrev pub status_of : Verdict → Status
-status_of (Satisfiable assignment stats) = status.Satisfiable
-status_of (Unsatisfiable stats) = status.Unsatisfiable
-status_of (Proved proof) = status.Unsatisfiable
-status_of (Unknown stats) = status.Unknown
+abbrev pub solver_status : Verdict → Status
+solver_status (Satisfiable assignment stats) = status.Satisfiable
+solver_status (Unsatisfiable stats) = status.Unsatisfiable
+solver_status (Proved proof) = status.Unsatisfiable
+solver_status (Unknown stats) = status.Unknown
 
 -- what the program ends with after an answer: as at the competitions of solvers, and as `bspl` does
-abbrev pub exit_number : Status → ℕ
-exit_number status.Satisfiable = 10
-exit_number status.Unsatisfiable = 20
-exit_number status.Unknown = 0
-exit_number status.Usage = 3
-exit_number status.Refused = 4
+abbrev pub solver_exit_number : Status → ℕ
+solver_exit_number status.Satisfiable = 10
+solver_exit_number status.Unsatisfiable = 20
+solver_exit_number status.Unknown = 0
+solver_exit_number status.Usage = 3
+solver_exit_number status.Refused = 4

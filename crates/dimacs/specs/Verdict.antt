@@ -32,7 +32,7 @@ pub record IsSatisfied (text : List ℕ) (assignment : List Bool) : Type 0 where
   pub satisfies : SatisfiesAll (valuation assignment) written
 
 -- the text is a formula, no assignment satisfies its clauses, and a log within the budget shows it
-pub record IsRefuted (text : List ℕ) (budget : ℕ) : Type 0 where
+pub record IsRefutedText (text : List ℕ) (budget : ℕ) : Type 0 where
   pub formula : Formula
   pub read : IsFormulaOf text formula
   pub log : Log
@@ -41,7 +41,7 @@ pub record IsRefuted (text : List ℕ) (budget : ℕ) : Type 0 where
 
 -- so it is, and the proof is that of the log
 pub record IsProved (text : List ℕ) (budget : ℕ) (proof : List ℕ) : Type 0 where
-  pub refuted : IsRefuted text budget
+  pub refuted : IsRefutedText text budget
   pub proves : IsProofOf refuted.formula refuted.log proof
 
 -- the text is a formula, of which a log of as many new clauses as the budget has no empty one
@@ -55,6 +55,6 @@ pub record IsUndecided (text : List ℕ) (budget : ℕ) : Type 0 where
 -- and a refutation comes with its proof exactly if one is asked for
 abbrev pub IsRightVerdict : List ℕ → Options → Verdict → Type 0
 IsRightVerdict text o (Satisfiable assignment stats) = IsSatisfied text assignment
-IsRightVerdict text o (Unsatisfiable stats) = (o.lrat ≡ false) × IsRefuted text o.budget
+IsRightVerdict text o (Unsatisfiable stats) = (o.lrat ≡ false) × IsRefutedText text o.budget
 IsRightVerdict text o (Proved proof) = (o.lrat ≡ true) × IsProved text o.budget proof
 IsRightVerdict text o (Unknown stats) = IsUndecided text o.budget

@@ -13,9 +13,9 @@ pub enum Status {
 }
 
 impl ExitStatus for Status {
-    ghost use Rattle.dimacs.specs.Status.{exit_number};
+    ghost use Rattle.dimacs.specs.Status.{solver_exit_number};
 
-    ghost exit = { exit_number };
+    ghost exit = { solver_exit_number };
 
     fn number(self) -> u8 {
         match self {

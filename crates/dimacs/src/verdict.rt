@@ -27,11 +27,11 @@ pub enum Verdict {
 
 impl Verdict {
     ghost use Rattle.std.specs.Prelude.{◌≡◌};
-    ghost use Rattle.dimacs.specs.Status.{status_of};
+    ghost use Rattle.dimacs.specs.Status.{solver_status};
 
     /// The status of a call that writes it.
     pub fn status(&self) -> Status
-        ensures { result ≡ status_of self.now }
+        ensures { result ≡ solver_status self.now }
     {
         match self {
             Verdict::Satisfiable { .. } => Status::Satisfiable,

@@ -12,13 +12,13 @@ use Rattle.bspl_types.specs.History.{instance_of}
 use Rattle.bspl_types.specs.Instance.{Fits}
 use Rattle.local_store.specs.State.{StoreState}
 use Rattle.role_journal.specs.Counts.{Counts}
-use Rattle.role_journal.specs.Crash.{LeavesOnly}
+use Rattle.role_journal.specs.Crash.{CrashLeavesOnly}
 use Rattle.role_journal.specs.EntryBody.{IsEntry}
-use Rattle.role_journal.specs.Journal.{IsBeforeOrAfter, Keeps, places}
+use Rattle.role_journal.specs.Journal.{IsBeforeOrAfter, KeepsJournal, places}
 use Rattle.stamped_history.specs.declared.entry.Entry.{Entry}
 use Rattle.stamped_history.specs.Local.{IsLocal}
-use Rattle.durable_store.specs.Calls.{BecomesSpent, Ends, HasRoom, HasWritten, Writes, Acknowledged, appended_as}
-use Rattle.durable_store.specs.State.{DurableState, IsHistoryFor, IsSound}
+use Rattle.durable_store.specs.Calls.{BecomesSpent, Ends, HasRoom, HasWritten, WritesEntry, Acknowledged, appended_as}
+use Rattle.durable_store.specs.State.{DurableState, IsHistoryFor, IsSoundStore}
 
 -- the last entry of a local history fits
 last_fits : (x : Expanded) (role : ℕ) (entries : List Entry) (e : Entry) → IsLocal x role (entries ++ e ∷ []) → Fits x (instance_of e.event)
@@ -43,14 +43,14 @@ history_with s e history next = record {
 module _ {D : Type 0} (seen : D → List ℕ) (may_leave : D → List ℕ → Type 0) (clock : D → ℕ) (left_since : D → ℕ → List ℕ → Type 0) (counts : D → Counts) where
   -- a store, and the disk while an entry is appended, which it reads as the next one
   pub record IsAppending (s : DurableState D) (e : Entry) (new : D) : Type 0 where
-    pub sound : IsSound seen may_leave counts s
+    pub sound : IsSoundStore seen may_leave counts s
     pub room : HasRoom s
     pub next : IsNextEntry s.store e
-    pub crash : (entries : List Entry) → length s.store.entries ≡ length entries → Keeps seen may_leave s.disk entries → LeavesOnly clock left_since s.disk new (IsBeforeOrAfter entries e)
+    pub crash : (entries : List Entry) → length s.store.entries ≡ length entries → KeepsJournal seen may_leave s.disk entries → CrashLeavesOnly clock left_since s.disk new (IsBeforeOrAfter entries e)
     pub size : length (seen new) ≡ length (seen s.disk)
 
   -- what a call that appends writes, however it ends
-  writes : (s t : DurableState D) (e : Entry) → IsAppending s e t.disk → Writes seen clock left_since e s t
+  writes : (s t : DurableState D) (e : Entry) → IsAppending s e t.disk → WritesEntry seen clock left_since e s t
   writes s t e appending = record {
     room = appending.room;
     may_come = history_with s.store e appending.sound.history appending.next;
@@ -59,7 +59,7 @@ module _ {D : Type 0} (seen : D → List ℕ) (may_leave : D → List ℕ → Ty
   }
 
   -- a store that was cut short is sound
-  pub cut_is_sound : (s t : DurableState D) (e : Entry) → ((now : ℕ) (c : List ℕ) → now ≤ clock t.disk → may_leave t.disk c → left_since t.disk now c) → IsAppending s e t.disk → BecomesSpent s t → IsSound seen may_leave counts t
+  pub cut_is_sound : (s t : DurableState D) (e : Entry) → ((now : ℕ) (c : List ℕ) → now ≤ clock t.disk → may_leave t.disk c → left_since t.disk now c) → IsAppending s e t.disk → BecomesSpent s t → IsSoundStore seen may_leave counts t
   cut_is_sound s t e counts_now appending cut =
       let w = writes s t e appending in record {
         history = subst (λ (u : StoreState). IsHistoryFor u u.entries) (sym cut.store) appending.sound.history;
@@ -77,7 +77,7 @@ module _ {D : Type 0} (seen : D → List ℕ) (may_leave : D → List ℕ → Ty
   cut_ends (Err trouble) s t e failed appending cut = (writes s t e appending, cut)
 
   -- a store with one entry more is sound
-  pub done_is_sound : (s t : DurableState D) (e : Entry) → IsAppending s e t.disk → HasWritten seen may_leave e s t → counts t.disk ≡ counts s.disk → IsSound seen may_leave counts t
+  pub done_is_sound : (s t : DurableState D) (e : Entry) → IsAppending s e t.disk → HasWritten seen may_leave e s t → counts t.disk ≡ counts s.disk → IsSoundStore seen may_leave counts t
   done_is_sound s t e appending written still =
       let w = writes s t e appending in
       let ready = appending.sound.ready appending.room.unspent in

@@ -16,7 +16,7 @@ use Rattle.stamped_history.specs.declared.entry.Entry.{Entry}
 use Rattle.stamped_history.specs.Local.{IsLocal}
 use Rattle.durable_store.specs.declared.refusals.StartRefusal.{StartRefusal}
 use Rattle.durable_store.specs.declared.refusals.StartRefusal.TheVariants.{Alien}
-use Rattle.durable_store.specs.Calls.{Ends, Outcome, Unchanged, Acknowledged, Unacknowledged, Writes}
+use Rattle.durable_store.specs.Calls.{Ends, Outcome, Unchanged, Acknowledged, Unacknowledged, WritesEntry}
 use Rattle.durable_store.specs.History.{IsHistory}
 use Rattle.durable_store.specs.Laws.{HistoriesAreNative, JournalsAreOne}
 use Rattle.durable_store.specs.Restored.{AreCalls, CrashIsRestored, Restores, acknowledged, pending_in, unacknowledged}
@@ -180,7 +180,7 @@ module _ {D : Type 0} (seen : D → List ℕ) (may_leave : D → List ℕ → Ty
     ]
 
     -- the event of a call, at some moment of it
-    in_event : (s t : DurableState D) (entries : List Entry) (pending : Option Entry) (e : Entry) (answer : Result (DurableState D) (StartRefusal × D)) → Stands s entries pending → Writes seen clock left_since e s t → left_since t.disk (clock s.disk) image → IsStartAnswer seen may_leave counts x role keys image answer → Restores seen may_leave clock left_since counts entries (Some e) answer
+    in_event : (s t : DurableState D) (entries : List Entry) (pending : Option Entry) (e : Entry) (answer : Result (DurableState D) (StartRefusal × D)) → Stands s entries pending → WritesEntry seen clock left_since e s t → left_since t.disk (clock s.disk) image → IsStartAnswer seen may_leave counts x role keys image answer → Restores seen may_leave clock left_since counts entries (Some e) answer
     in_event s t entries pending e answer stands writes left on =
         let more : IsHistory x role keys (entries ++ e ∷ []) = subst (λ (es : List Entry). IsHistory x role keys (es ++ e ∷ [])) stands.entries_are (wider s.store x role keys (s.store.entries ++ e ∷ []) stands.protocol_is stands.role_is stands.held writes.may_come) in
         from_either entries e (Some e) answer refl stands.history more (subst (λ (es : List Entry). IsBeforeOrAfter es e image) stands.entries_are (writes.crash.each image left)) on

@@ -4,8 +4,8 @@ use Rattle.std.specs.Prelude.{Result, Ok, Err}
 use Rattle.bspl_io.specs.declared.sink.Trouble.{Trouble}
 use Rattle.stamped_history.specs.declared.entry.Entry.{Entry}
 use Rattle.local_store.specs.State.{with_entry}
-use Rattle.role_journal.specs.Crash.{LeavesOnly}
-use Rattle.role_journal.specs.Journal.{IsBeforeOrAfter, Keeps}
+use Rattle.role_journal.specs.Crash.{CrashLeavesOnly}
+use Rattle.role_journal.specs.Journal.{IsBeforeOrAfter, KeepsJournal}
 use Rattle.durable_store.specs.State.{DurableState, IsHistoryFor}
 
 -- no call was cut short, and there is a place for one event more
@@ -27,11 +27,12 @@ appended_as (Err _) e = Unacknowledged e
 
 -- the entry may come next, and a crash at any moment of the call leaves a journal of the store's
 -- entries, or of this one more; the disk keeps its size
-pub record Writes {D : Type 0} (seen : D → List ℕ) (clock : D → ℕ)
+pub record WritesEntry {D : Type 0} (seen : D → List ℕ) (clock : D → ℕ)
     (left_since : D → ℕ → List ℕ → Type 0) (e : Entry) (old new : DurableState D) : Type 0 where
   pub room : HasRoom old
   pub may_come : IsHistoryFor old.store (old.store.entries ++ e ∷ [])
-  pub crash : LeavesOnly clock left_since old.disk new.disk (IsBeforeOrAfter old.store.entries e)
+  pub crash :
+      CrashLeavesOnly clock left_since old.disk new.disk (IsBeforeOrAfter old.store.entries e)
   pub size : length (seen new.disk) ≡ length (seen old.disk)
 
 -- the store has the entry as its last one, and each crash from now on leaves it
@@ -39,7 +40,7 @@ pub record HasWritten {D : Type 0} (seen : D → List ℕ) (may_leave : D → Li
     (e : Entry) (old new : DurableState D) : Type 0 where
   pub store : new.store ≡ with_entry old.store e.event e.stamp e.number
   pub unspent : new.spent ≡ false
-  pub keeps : Keeps seen may_leave new.disk new.store.entries
+  pub keeps : KeepsJournal seen may_leave new.disk new.store.entries
 
 -- the store is as it was, but spent
 pub record BecomesSpent {D : Type 0} (old new : DurableState D) : Type 0 where
@@ -51,9 +52,9 @@ abbrev pub Ends : {D : Type 0} → (D → List ℕ) → (D → List ℕ → Type
     (D → ℕ → List ℕ → Type 0) → Outcome → DurableState D → DurableState D → Type 0
 Ends seen may_leave clock left_since Unchanged old new = new ≡ old
 Ends seen may_leave clock left_since (Acknowledged e) old new =
-    Writes seen clock left_since e old new × HasWritten seen may_leave e old new
+    WritesEntry seen clock left_since e old new × HasWritten seen may_leave e old new
 Ends seen may_leave clock left_since (Unacknowledged e) old new =
-    Writes seen clock left_since e old new × BecomesSpent old new
+    WritesEntry seen clock left_since e old new × BecomesSpent old new
 
 -- the call ends in one of the ways that its answer allows
 pub record EndsWith {D : Type 0} (seen : D → List ℕ) (may_leave : D → List ℕ → Type 0)

@@ -7,7 +7,7 @@ use Rattle.stamped_history.specs.declared.entry.Entry.{Entry}
 use Rattle.bspl_io.specs.declared.sink.Trouble.{Trouble}
 use Rattle.bspl_io.specs.declared.sink.Trouble.TheVariants as troubles
 use Rattle.role_journal.specs.Counts.{Counts, after_fault}
-use Rattle.role_journal.specs.Crash.{LeavesNoMore, LeavesOnly}
+use Rattle.role_journal.specs.Crash.{LeavesNoMore, CrashLeavesOnly}
 use Rattle.durable_store.specs.declared.refusals.StartRefusal.{StartRefusal}
 use Rattle.durable_store.specs.declared.refusals.StartRefusal.TheVariants.{Alien, DiskFault}
 use Rattle.durable_store.specs.declared.refusals.StartRefusal.TheVariants.{NoMemory}
@@ -31,7 +31,7 @@ pub record IsKeptAsItWas {D : Type 0} (seen : D → List ℕ) (may_leave : D →
     (clock : D → ℕ) (left_since : D → ℕ → List ℕ → Type 0) (old new : D) : Type 0 where
   pub same : seen new ≡ seen old
   pub now : LeavesNoMore (may_leave old) (may_leave new)
-  pub meanwhile : LeavesOnly clock left_since old new (may_leave old)
+  pub meanwhile : CrashLeavesOnly clock left_since old new (may_leave old)
 
 -- exactly these keys are held; if none is named twice, in this order
 pub record HoldsKeys (held keys : List (List Value)) : Type 0 where

@@ -4,7 +4,7 @@ use Rattle.stamped_history.specs.declared.entry.Entry.{Entry}
 use Rattle.bspl_io.specs.Faults.{last_count}
 use Rattle.local_store.specs.State.{StoreState}
 use Rattle.role_journal.specs.Counts.{Counts}
-use Rattle.role_journal.specs.Journal.{IsBeforeOrAfter, Keeps, places}
+use Rattle.role_journal.specs.Journal.{IsBeforeOrAfter, KeepsJournal, places}
 use Rattle.durable_store.specs.History.{IsHistory}
 
 -- the store of the acknowledged events; its disk; whether a call was cut short
@@ -21,7 +21,7 @@ IsHistoryFor s entries = IsHistory s.protocol s.role s.keys entries
 -- fault
 pub record IsReady {D : Type 0} (seen : D → List ℕ) (may_leave : D → List ℕ → Type 0)
     (counts : D → Counts) (s : StoreState) (disk : D) : Type 0 where
-  pub keeps : Keeps seen may_leave disk s.entries
+  pub keeps : KeepsJournal seen may_leave disk s.entries
   pub room : length s.entries + s.spare ≡ places (length (seen disk))
   pub countable : (counts disk).faults < last_count
 
@@ -34,7 +34,7 @@ pub record IsCutShort {D : Type 0} (may_leave : D → List ℕ → Type 0) (s : 
   pub leaves : (image : List ℕ) → may_leave disk image → IsBeforeOrAfter s.entries next image
 
 -- the store has a history; it is ready until a call was cut short
-pub record IsSound {D : Type 0} (seen : D → List ℕ) (may_leave : D → List ℕ → Type 0)
+pub record IsSoundStore {D : Type 0} (seen : D → List ℕ) (may_leave : D → List ℕ → Type 0)
     (counts : D → Counts) (s : DurableState D) : Type 0 where
   pub history : IsHistoryFor s.store s.store.entries
   pub ready : s.spent ≡ false → IsReady seen may_leave counts s.store s.disk

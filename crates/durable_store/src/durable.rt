@@ -1,5 +1,5 @@
 ghost use Rattle.std.specs.Prelude.{◌≡◌};
-ghost use Rattle.durable_store.specs.State.{IsSound};
+ghost use Rattle.durable_store.specs.State.{IsSoundStore};
 
 use local_store::Store;
 use role_journal::Disk;
@@ -15,13 +15,13 @@ pub struct DurableStore<D: Disk> {
 }
 
 impl<D: Disk> Model for DurableStore<D> {
-    ghost use Rattle.durable_store.specs.State.{DurableState, IsSound};
+    ghost use Rattle.durable_store.specs.State.{DurableState, IsSoundStore};
 
     ghost Value = { DurableState D };
 
     ghost view = { λ s. record { store = s.store; disk = s.disk; spent = s.spent } };
 
-    ghost invariant = { λ s. IsSound D.seen D.may_leave D.counts
+    ghost invariant = { λ s. IsSoundStore D.seen D.may_leave D.counts
         (record { store = s.store; disk = s.disk; spent = s.spent }) };
 }
 
@@ -35,7 +35,7 @@ impl<D: Disk> DurableStore<D> {
 
     /// A law: each durable store is sound.
     pub fn is_sound(&self)
-        ensures { IsSound D.seen D.may_leave D.counts self.now }
+        ensures { IsSoundStore D.seen D.may_leave D.counts self.now }
     {
         let _store = &self.store;
     }

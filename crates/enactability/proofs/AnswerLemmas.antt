@@ -27,10 +27,10 @@ use Rattle.sat_solver.specs.Outcome.{IsModel}
 use Rattle.verdict.specs.Decision.{IsUndecidedVerdict}
 use Rattle.verdict.specs.Numbers.{NumbersInRange}
 use Rattle.witness_replay.specs.Laws.{RunIsUnderOnes}
-use Rattle.witness_replay.specs.Witness.{IsRunOf, key_of_ones}
+use Rattle.witness_replay.specs.Witness.{IsRunOfAssignment, key_of_ones}
 use Rattle.enactability.specs.declared.outcome.Enact.{Enact}
 use Rattle.enactability.specs.declared.outcome.Enact.TheVariants.{Dead, Enacted, Undecided}
-use Rattle.enactability.specs.Answer.{AreAnswered, AreDead, AreEnacted, HasNumbersInRange, IsAnswered, IsEnacted}
+use Rattle.enactability.specs.Answer.{AreAnswered, AreDead, AreEnacted, HasEnactLogInRange, IsRightEnact, IsEnacted}
 use Rattle.enactability.specs.Enactable.{AreMessages, EmitsAll}
 use Rattle.enactability.specs.EnactFormula.{IsEnactFormula, enact_clauses, sent_clauses}
 use Rattle.enactability.specs.Laws.{EnactClausesAreFew, EnactableAlone, NoModelIsDead}
@@ -75,7 +75,7 @@ all_suffix : {X : Type 0} (P : X → Type 0) (xs ys : List X) → All P (xs ++ y
 all_suffix P xs ys all = All-weaker (Contains ys) P (λ y among. All-contains P (xs ++ ys) y all (Contains-append_right xs ys y among)) ys (All-contains_itself ys)
 
 -- the run of a model emits the messages
-pub model_emits : (x : Expanded) (messages : List ℕ) (v : ℕ → Bool) (run : List Event) → IsRunOf x (safety_variables x) v run → AreMessages x messages → SatisfiesAll v (enact_clauses x messages) → All (HasEmission run) messages
+pub model_emits : (x : Expanded) (messages : List ℕ) (v : ℕ → Bool) (run : List Event) → IsRunOfAssignment x (safety_variables x) v run → AreMessages x messages → SatisfiesAll v (enact_clauses x messages) → All (HasEmission run) messages
 model_emits x messages v run is_run known satisfied =
     all_emitted x v run is_run messages known (all_sent v messages (all_suffix (Satisfies v) (shared_clauses x (safety_variables x)) (sent_clauses messages) satisfied))
 
@@ -115,7 +115,7 @@ one_enacted alone x m run enacted =
     let (before, i, last, message) = ends_at x m enacted.enacting.whole run cut.events cut.cut cut.emitted cut.shortest in
     record { enacted = enacted; before = before; instance = i; last = last; message_is = message; enactable = (alone x m).1 enacted.enactable }
 
-pub one_answered : EnactableAlone → (x : Expanded) (m budget : ℕ) (enact : Enact) → AreAnswered x (m ∷ []) budget enact → IsAnswered x m budget enact
+pub one_answered : EnactableAlone → (x : Expanded) (m budget : ℕ) (enact : Enact) → AreAnswered x (m ∷ []) budget enact → IsRightEnact x m budget enact
 one_answered alone x m budget (Enacted run) right = one_enacted alone x m run right
 one_answered alone x m budget (Dead log) right = record { refuted = right; dead = λ one. right.dead ((alone x m).0 one) }
 one_answered alone x m budget (Undecided log) right = right
@@ -146,7 +146,7 @@ module _ (x : Expanded) (messages : List ℕ) (old : Formula) (budget : ℕ) (sh
       (omega (arith, model.whole, is.vars), (written (valuation assignment) (enact_clauses x messages) f.clauses is.clauses).0 model.satisfies)
 
 -- the log of a right answer has numbers in range, if it is short
-pub numbers_right : NumbersInRange → VariablesAreFew → ClausesAreAsMany → EnactClausesAreFew → (x : Expanded) (messages : List ℕ) (budget : ℕ) (enact : Enact) → length messages + budget ≤ 1000001 → AreAnswered x messages budget enact → HasNumbersInRange enact
+pub numbers_right : NumbersInRange → VariablesAreFew → ClausesAreAsMany → EnactClausesAreFew → (x : Expanded) (messages : List ℕ) (budget : ℕ) (enact : Enact) → length messages + budget ≤ 1000001 → AreAnswered x messages budget enact → HasEnactLogInRange enact
 numbers_right numbers few_variables as_many few x messages budget (Enacted run) small right = tt
 numbers_right numbers few_variables as_many few x messages budget (Dead log) small right =
     let f = right.formula in

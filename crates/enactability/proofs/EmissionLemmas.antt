@@ -17,7 +17,7 @@ use Rattle.clause_encoding.specs.Formula.{safety_variables}
 use Rattle.clause_encoding.specs.Variables.{IsKind, occurs, sent}
 use Rattle.enactment_model.specs.Liveness.{IsEmitted}
 use Rattle.first_occurrences.specs.Occurrence.{kind_of}
-use Rattle.witness_replay.specs.Witness.{IsRunOf, key_of_ones}
+use Rattle.witness_replay.specs.Witness.{IsRunOfAssignment, key_of_ones}
 use Rattle.enactability.specs.Enactable.{AreMessages, EmitsAll}
 use Rattle.enactability.specs.EnactFormula.{sent_clauses}
 use Rattle.enactability.specs.inner.Emission.{HasEmission, emits}
@@ -93,7 +93,7 @@ emission_of : (run : List Event) (m : ℕ) (e : Event) → Contains run e → ki
 emission_of run m (Emit i) among is = has_emission run i m among (omega (arith, is))
 emission_of run m (Receive i) among is = absurd (omega (arith, is))
 
-module _ (x : Expanded) (v : ℕ → Bool) (run : List Event) (is_run : IsRunOf x (safety_variables x) v run) where
+module _ (x : Expanded) (v : ℕ → Bool) (run : List Event) (is_run : IsRunOfAssignment x (safety_variables x) v run) where
   -- what is sent is emitted in the run of the assignment
   sent_emitted : (m : ℕ) → m < length x.messages → IsSent v m → HasEmission run m
   sent_emitted m known holds =

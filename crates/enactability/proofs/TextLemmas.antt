@@ -22,7 +22,7 @@ use Rattle.refutation_log.specs.LogText.{IsTextOf, LogInRange, entry_line, heade
 use Rattle.refutation_log.specs.Refusal.{IsRefusedLog}
 use Rattle.refutation_log.specs.TextLaws.{LogIsNotRefused, StepsAreFewerThanLineBytes, TextHasOneLog, TextHasOneRefusal}
 use Rattle.run_text.specs.Names.{NamesAreFields}
-use Rattle.enactability.specs.DeadText.{IsDeadText, dead_title, versioned_text}
+use Rattle.enactability.specs.DeadText.{IsDeadText, dead_title, versioned_dead_text}
 use Rattle.enactability.specs.Enactable.{AreMessages}
 use Rattle.enactability.specs.Laws.{DeadLogIsNotRefused, DeadStepsAreFewerThanBytes, TextHasOneDeadLog, TextHasOneDeadRefusal, WrittenIsDeadText}
 use Rattle.enactability.specs.Refusal.{HasTitle, IsOneMessage, IsRefusedAfter, IsRefusedDead}
@@ -238,7 +238,7 @@ title_written x One messages = sym (ap (λ (rest : List ℕ). codes "log 1 " ++ 
 title_written x Two messages = sym (ap (λ (rest : List ℕ). codes "log 2 " ++ rest) (joined_spaced x (codes "dead") messages))
 
 -- with what follows them the text of the log
-pub all_written : (x : Expanded) (version : Version) (messages : List ℕ) (log : Log) → ((written_title x version messages ++ 10 ∷ []) ++ flat_map entry_line (entries log)) ++ end_line ≡ versioned_text x version messages log
+pub all_written : (x : Expanded) (version : Version) (messages : List ℕ) (log : Log) → ((written_title x version messages ++ 10 ∷ []) ++ flat_map entry_line (entries log)) ++ end_line ≡ versioned_dead_text x version messages log
 all_written x version messages log = ap (λ (title : List ℕ). ((title ++ 10 ∷ []) ++ flat_map entry_line (entries log)) ++ end_line) (title_written x version messages)
 
 -- a line that is no first line begins no text

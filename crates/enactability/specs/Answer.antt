@@ -14,7 +14,7 @@ use Rattle.refutation_log.specs.declared.refutation.Log.{Log}
 use Rattle.refutation_log.specs.LogText.{LogInRange}
 use Rattle.refutation_log.specs.Resolution.{Accepts, IsNew}
 use Rattle.verdict.specs.Decision.{IsUndecidedVerdict}
-use Rattle.witness_replay.specs.Witness.{IsRunOf, key_of_ones}
+use Rattle.witness_replay.specs.Witness.{IsRunOfAssignment, key_of_ones}
 use Rattle.enactability.specs.declared.outcome.Enact.{Enact}
 use Rattle.enactability.specs.declared.outcome.Enact.TheVariants.{Dead, Enacted, Undecided}
 use Rattle.enactability.specs.Enactable.{AreEnactable, EmitsAll, Enactable}
@@ -34,7 +34,7 @@ pub record IsCutAfterAll (x : Expanded) (messages : List ℕ) (whole run : List 
 pub record IsEnactingRun (x : Expanded) (messages : List ℕ) (v : ℕ → Bool) (run : List Event)
     : Type 0 where
   pub whole : List Event
-  pub run_of : IsRunOf x (safety_variables x) v whole
+  pub run_of : IsRunOfAssignment x (safety_variables x) v whole
   pub cut : IsCutAfterAll x messages whole run
   pub ones : All (λ e. (instance_of e).key ≡ key_of_ones x) run
 
@@ -78,13 +78,13 @@ pub record IsDead (x : Expanded) (m : ℕ) (budget : ℕ) (log : Log) : Type 0 w
   pub dead : ¬ Enactable x m
 
 -- the answer on the message is right
-abbrev pub IsAnswered : Expanded → ℕ → ℕ → Enact → Type 0
-IsAnswered x m budget (Enacted run) = IsEnacted x m run
-IsAnswered x m budget (Dead log) = IsDead x m budget log
-IsAnswered x m budget (Undecided log) = IsUndecidedVerdict (IsEnactFormula x (m ∷ [])) budget log
+abbrev pub IsRightEnact : Expanded → ℕ → ℕ → Enact → Type 0
+IsRightEnact x m budget (Enacted run) = IsEnacted x m run
+IsRightEnact x m budget (Dead log) = IsDead x m budget log
+IsRightEnact x m budget (Undecided log) = IsUndecidedVerdict (IsEnactFormula x (m ∷ [])) budget log
 
 -- the numbers of the answer's log, if it has one, are in range
-abbrev pub HasNumbersInRange : Enact → Type 0
-HasNumbersInRange (Enacted run) = Unit {0}
-HasNumbersInRange (Dead log) = LogInRange log
-HasNumbersInRange (Undecided log) = LogInRange log
+abbrev pub HasEnactLogInRange : Enact → Type 0
+HasEnactLogInRange (Enacted run) = Unit {0}
+HasEnactLogInRange (Dead log) = LogInRange log
+HasEnactLogInRange (Undecided log) = LogInRange log

@@ -17,13 +17,13 @@ dead_title x version messages =
     line_of (codes "log" ∷ version_name version ∷ codes "dead" ∷ map (message_name x) messages)
 
 -- the text of this version
-abbrev pub versioned_text : Expanded → Version → List ℕ → Log → List ℕ
-versioned_text x version messages log =
+abbrev pub versioned_dead_text : Expanded → Version → List ℕ → Log → List ℕ
+versioned_dead_text x version messages log =
     dead_title x version messages ++ flat_map entry_line (entries log) ++ end_line
 
 -- the text that is written: of version 1 exactly if nothing is removed
 abbrev pub dead_text : Expanded → List ℕ → Log → List ℕ
-dead_text x messages log = versioned_text x (least_version log.removals) messages log
+dead_text x messages log = versioned_dead_text x (least_version log.removals) messages log
 
 -- the bytes are a text of the log on messages of the protocol; in version 1 nothing is removed
 pub record IsDeadText (x : Expanded) (bytes messages : List ℕ) (log : Log) : Type 0 where
@@ -31,4 +31,4 @@ pub record IsDeadText (x : Expanded) (bytes messages : List ℕ) (log : Log) : T
   pub numbers : LogInRange log
   pub version : Version
   pub allowed : version ≡ One → log.removals ≡ []
-  pub text : bytes ≡ versioned_text x version messages log
+  pub text : bytes ≡ versioned_dead_text x version messages log

@@ -38,5 +38,5 @@ IsRefusedDead x May bytes (Number line) = IsRefusedAfter x May bytes (Number lin
 IsRefusedDead x May bytes NoMemory = Unit {0}
 
 -- the result is this answer, unless memory ran out
-abbrev pub Answers : {A : Type 0} → Result A LogRefusal → Result A LogRefusal → Type 0
-Answers result answer = (result ≡ answer) ⊎ (result ≡ Err NoMemory)
+abbrev pub GivesOrNoMemory : {A : Type 0} → Result A LogRefusal → Result A LogRefusal → Type 0
+GivesOrNoMemory result answer = (result ≡ answer) ⊎ (result ≡ Err NoMemory)

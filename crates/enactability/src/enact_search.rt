@@ -5,8 +5,8 @@ ghost use Rattle.clause_encoding.specs.Families.{shared_clauses};
 ghost use Rattle.clause_encoding.specs.Formula.{safety_variables};
 ghost use Rattle.clause_encoding.specs.Variables.{variable_count};
 ghost use Rattle.enactment_model.specs.Legal.{IsLegalRun};
-ghost use Rattle.witness_replay.specs.Witness.{IsRunOf};
-ghost use Rattle.enactability.specs.Answer.{HasNumbersInRange, IsAnswered};
+ghost use Rattle.witness_replay.specs.Witness.{IsRunOfAssignment};
+ghost use Rattle.enactability.specs.Answer.{HasEnactLogInRange, IsRightEnact};
 
 use super::cut::{cut_of, known_cut};
 use super::laws::{cut_enacts, enact_clauses_are_few, enactable_alone, no_model_is_dead};
@@ -53,7 +53,7 @@ impl<'a> EnactSearch<'a> {
     ghost use Rattle.clause_core.specs.Clause.{SatisfiesAll};
     ghost use Rattle.clause_encoding.specs.Formula.{safety_variables};
     ghost use Rattle.clause_encoding.specs.Variables.{variable_count};
-    ghost use Rattle.enactability.specs.Answer.{AreAnswered, HasNumbersInRange, IsAnswered};
+    ghost use Rattle.enactability.specs.Answer.{AreAnswered, HasEnactLogInRange, IsRightEnact};
     ghost use Rattle.enactability.specs.EnactFormula.{enact_clauses};
     ghost use Rattle.enactability.specs.Enactable.{AreMessages};
     ghost use Rattle.enactability.specs.inner.Search.{HasRightRun};
@@ -76,8 +76,8 @@ impl<'a> EnactSearch<'a> {
         requires known { message < length self.old.messages }
         requires some { 1 ≤ budget }
         requires few { budget ≤ 2147483647 }
-        ensures right { IfOk result (IsAnswered self.old message budget) }
-        ensures numbers { budget ≤ 1000000 → IfOk result HasNumbersInRange }
+        ensures right { IfOk result (IsRightEnact self.old message budget) }
+        ensures numbers { budget ≤ 1000000 → IfOk result HasEnactLogInRange }
         ensures same { self.new ≡ self.old }
     {
         // law: a message can be enacted exactly if the list of it alone can
@@ -97,7 +97,7 @@ impl<'a> EnactSearch<'a> {
         requires few { length messages.now + budget ≤ 2147483648 }
         ensures right { IfOk result (AreAnswered self.old messages.now budget) }
         ensures numbers { length messages.now + budget ≤ 1000001 →
-            IfOk result HasNumbersInRange }
+            IfOk result HasEnactLogInRange }
         ensures same { self.new ≡ self.old }
     {
         // law: a run that was found is the evidence if it is cut so
@@ -115,7 +115,7 @@ impl<'a> EnactSearch<'a> {
         requires few { length messages.now + budget ≤ 2147483648 }
         ensures right { IfOk result (AreAnswered self.old messages.now budget) }
         ensures numbers { length messages.now + budget ≤ 1000001 →
-            IfOk result HasNumbersInRange }
+            IfOk result HasEnactLogInRange }
         ensures same { self.new ≡ self.old }
     {
         // law: a formula without a model says that no legal run emits the messages
@@ -163,8 +163,8 @@ pub fn enactable(alloc: Global, a: &Admitted, message: u32, budget: u32) -> Resu
     requires known { message < length a.now.messages }
     requires some { 1 ≤ budget }
     requires few { budget ≤ 2147483647 }
-    ensures right { IfOk result (IsAnswered a.now message budget) }
-    ensures numbers { budget ≤ 1000000 → IfOk result HasNumbersInRange }
+    ensures right { IfOk result (IsRightEnact a.now message budget) }
+    ensures numbers { budget ≤ 1000000 → IfOk result HasEnactLogInRange }
 {
     let mut search = EnactSearch::new(alloc, a)?;
     search.enactable(alloc, message, budget)
@@ -176,7 +176,7 @@ fn model_run(alloc: Global, a: &Admitted, assignment: &Assignment) -> Result<Run
     requires satisfied { SatisfiesAll (valuation assignment.now)
         (shared_clauses a.now (safety_variables a.now)) }
     ensures run { IfOk result
-        (IsRunOf a.now (safety_variables a.now) (valuation assignment.now)) }
+        (IsRunOfAssignment a.now (safety_variables a.now) (valuation assignment.now)) }
     ensures legal { IfOk result (IsLegalRun a.now) }
 {
     let vars = safety_variables(alloc, a)?;

@@ -3,7 +3,7 @@ ghost use Rattle.refutation_log.specs.declared.refusal.LogRefusal.{LogRefusal};
 ghost use Rattle.refutation_log.specs.declared.refutation.Log.{Log};
 ghost use Rattle.enactability.specs.DeadText.{IsDeadText};
 ghost use Rattle.enactability.specs.Enactable.{AreMessages};
-ghost use Rattle.enactability.specs.Refusal.{Answers, IsOneMessage, IsRefusedDead};
+ghost use Rattle.enactability.specs.Refusal.{GivesOrNoMemory, IsOneMessage, IsRefusedDead};
 
 use super::laws::{dead_texts_read_once, texts_on_messages_read_once};
 use super::title::{one_title, title_of};
@@ -23,9 +23,9 @@ pub fn read_dead(alloc: Global, a: &Admitted, text: &[u8]) -> Result<(u32, Log),
 
     // What has a text is read, and each refusal is given where it is due.
     ensures reads { (m : ℕ) (log : Log) →
-        IsDeadText a.now text.now (m ∷ []) log → Answers result (Ok (m, log)) }
+        IsDeadText a.now text.now (m ∷ []) log → GivesOrNoMemory result (Ok (m, log)) }
     ensures refuses { (refusal : LogRefusal) → refusal ≢ LogRefusal.NoMemory →
-        IsRefusedDead a.now (IsOneMessage a.now) text.now refusal → Answers result (Err refusal) }
+        IsRefusedDead a.now (IsOneMessage a.now) text.now refusal → GivesOrNoMemory result (Err refusal) }
 {
     // law: a text is that of one log on one message, or refused for one thing
     dead_texts_read_once();
@@ -43,9 +43,9 @@ pub fn read_dead_together(
 
     // What has a text is read, and each refusal is given where it is due.
     ensures reads { (messages : List ℕ) (log : Log) →
-        IsDeadText a.now text.now messages log → Answers result (Ok (messages, log)) }
+        IsDeadText a.now text.now messages log → GivesOrNoMemory result (Ok (messages, log)) }
     ensures refuses { (refusal : LogRefusal) → refusal ≢ LogRefusal.NoMemory →
-        IsRefusedDead a.now (AreMessages a.now) text.now refusal → Answers result (Err refusal) }
+        IsRefusedDead a.now (AreMessages a.now) text.now refusal → GivesOrNoMemory result (Err refusal) }
 {
     // law: a text is that of one log on one list of messages, or refused for one thing
     texts_on_messages_read_once();

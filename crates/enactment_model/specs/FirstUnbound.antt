@@ -6,8 +6,8 @@ use Rattle.bspl_types.specs.declared.value.Value.{Value}
 use Rattle.enactment_model.specs.Liveness.{Bound, HasPublicValue}
 
 -- what is public and has a value is bound
-abbrev pub IsComplete : Expanded → List Event → List Value → Type 0
-IsComplete x run key = (p : ℕ) → HasPublicValue x p → Bound x run key p
+abbrev pub BindsPublic : Expanded → List Event → List Value → Type 0
+BindsPublic x run key = (p : ℕ) → HasPublicValue x p → Bound x run key p
 
 -- the parameter is public, has a value and is not bound; those before it are
 pub record IsFirstUnbound (x : Expanded) (run : List Event) (key : List Value) (p : ℕ)

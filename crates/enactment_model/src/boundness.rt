@@ -1,6 +1,6 @@
 ghost use Rattle.std.specs.Prelude.{◌≡◌, ◌↔◌, ◌<◌, IfSome, IsNone, IsTrue, length};
 ghost use Rattle.bspl_types.specs.History.{IsRun};
-ghost use Rattle.enactment_model.specs.FirstUnbound.{IsComplete, IsFirstUnbound};
+ghost use Rattle.enactment_model.specs.FirstUnbound.{BindsPublic, IsFirstUnbound};
 ghost use Rattle.enactment_model.specs.Liveness.{Bound, HasPublicValue};
 
 use bspl_types::{Event, Expanded, Key};
@@ -13,7 +13,7 @@ use role_knowledge::knows;
 pub fn unbound(x: &Expanded, run: &[Event], key: &Key) -> Option<u32>
     requires fits { IsRun x.now run.now }
     requires key { length key.now ≡ length x.now.keys }
-    ensures none { IsNone result ↔ IsComplete x.now run.now key.now }
+    ensures none { IsNone result ↔ BindsPublic x.now run.now key.now }
     ensures first { IfSome result (IsFirstUnbound x.now run.now key.now) }
 {
     for param in 0..x.public {

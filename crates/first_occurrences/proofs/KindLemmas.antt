@@ -4,7 +4,7 @@ use Rattle.std.specs.List.{Any, range_with_len}
 use Rattle.std.proofs.lemmas.List.FromFn.{get_or-range_with_len, length-range_with_len}
 use Rattle.bspl_types.specs.declared.expanded.Expanded.{Expanded}
 use Rattle.clause_encoding.specs.declared.variables.Variables.{Variables}
-use Rattle.clause_encoding.specs.Variables.{IsKind, kinds_after, message_numbers, received, sent}
+use Rattle.clause_encoding.specs.Variables.{IsKind, kinds_following, message_numbers, received, sent}
 use Rattle.first_occurrences.specs.Report.{AreVariablesOf}
 use Rattle.first_occurrences.proofs.ListedLemmas.{range_bound}
 
@@ -23,13 +23,13 @@ range_has from count n from_first below =
     (n - from, omega (arith, length-range_with_len from count), get_or-range_with_len from count (n - from) n within ∙ same)
 
 -- each kind after another one is a kind, and after it
-pub kind_after : (vars : Variables) (kind i : ℕ) → Contains (kinds_after vars kind) i → (kind < i) × IsKind vars i
+pub kind_after : (vars : Variables) (kind i : ℕ) → Contains (kinds_following vars kind) i → (kind < i) × IsKind vars i
 kind_after vars kind i among =
     let (from_first, below) = range_bounds (kind + 1) (vars.kinds - kind) i among in
     (omega (arith, from_first), record { from_one = omega (arith, from_first); up_to = omega (arith, from_first, below) })
 
 -- a kind after another one is among those
-pub among_after : (vars : Variables) (kind i : ℕ) → kind < i → IsKind vars i → Contains (kinds_after vars kind) i
+pub among_after : (vars : Variables) (kind i : ℕ) → kind < i → IsKind vars i → Contains (kinds_following vars kind) i
 among_after vars kind i after is_kind =
     let up_to = is_kind.up_to in
     range_has (kind + 1) (vars.kinds - kind) i (omega arith) (omega (arith, up_to))

@@ -11,7 +11,7 @@ use Rattle.clause_core.specs.Clause.{Satisfies, SatisfiesAll}
 use Rattle.clause_core.specs.Literal.{MakesTrue, negated}
 use Rattle.clause_encoding.specs.declared.variables.Variables.{Variables}
 use Rattle.clause_encoding.specs.Families.{occurrence_clauses, order_clauses, order_of_three}
-use Rattle.clause_encoding.specs.Variables.{IsKind, kinds_after, occurs, stands_before}
+use Rattle.clause_encoding.specs.Variables.{IsKind, kinds_following, occurs, stands_before}
 use Rattle.first_occurrences.specs.Occurrence.{comes_first, first_position, is_occurring}
 use Rattle.first_occurrences.specs.Report.{Reports}
 use Rattle.first_occurrences.proofs.BeforeLemmas.{before_is_false, before_is_true, first_from_order, InOrder, occurs_is_false, occurs_is_true, opposite_first, order_from_first}
@@ -73,13 +73,13 @@ module _ (vars : Variables) (run : List Event) (key : List Value) (v : ℕ → B
   -- the clauses of order
   pub satisfies_order : SatisfiesAll v (order_clauses vars)
   satisfies_order =
-      each_joined (Satisfies v) (λ i. flat_map (λ j. flat_map (order_of_three vars i j) (kinds_after vars j)) (kinds_after vars i)) (kinds_after vars 0)
+      each_joined (Satisfies v) (λ i. flat_map (λ j. flat_map (order_of_three vars i j) (kinds_following vars j)) (kinds_following vars i)) (kinds_following vars 0)
       (λ i among_i.
       let (after_zero, kind_i) = kind_after vars 0 i among_i in
-      each_joined (Satisfies v) (λ j. flat_map (order_of_three vars i j) (kinds_after vars j)) (kinds_after vars i)
+      each_joined (Satisfies v) (λ j. flat_map (order_of_three vars i j) (kinds_following vars j)) (kinds_following vars i)
       (λ j among_j.
       let (less, kind_j) = kind_after vars i j among_j in
-      each_joined (Satisfies v) (order_of_three vars i j) (kinds_after vars j)
+      each_joined (Satisfies v) (order_of_three vars i j) (kinds_following vars j)
       (λ k among_k.
       let (more, kind_k) = kind_after vars j k among_k in
       satisfies_three i j k kind_i kind_j kind_k less more)))
@@ -102,12 +102,12 @@ module _ (vars : Variables) (run : List Event) (key : List Value) (v : ℕ → B
   -- the clauses of occurrence
   pub satisfies_occurrence : SatisfiesAll v (occurrence_clauses vars)
   satisfies_occurrence =
-      each_joined (Satisfies v) (λ i. map (λ j. negated (occurs i) ∷ occurs j ∷ stands_before vars i j ∷ []) (filter (λ j. not (j == i)) (kinds_after vars 0))) (kinds_after vars 0)
+      each_joined (Satisfies v) (λ i. map (λ j. negated (occurs i) ∷ occurs j ∷ stands_before vars i j ∷ []) (filter (λ j. not (j == i)) (kinds_following vars 0))) (kinds_following vars 0)
       (λ i among_i.
       let (after_zero, kind_i) = kind_after vars 0 i among_i in
-      each_mapped (Satisfies v) (λ j. negated (occurs i) ∷ occurs j ∷ stands_before vars i j ∷ []) (filter (λ j. not (j == i)) (kinds_after vars 0))
+      each_mapped (Satisfies v) (λ j. negated (occurs i) ∷ occurs j ∷ stands_before vars i j ∷ []) (filter (λ j. not (j == i)) (kinds_following vars 0))
       (λ j among_j.
-      let (kept, passes) = filtered_member (λ n. not (n == i)) (kinds_after vars 0) j among_j in
+      let (kept, passes) = filtered_member (λ n. not (n == i)) (kinds_following vars 0) j among_j in
       let (also_after_zero, kind_j) = kind_after vars 0 j kept in
       let differs = eqb-false j i (not-true (j == i) passes) in
       any_of_three (MakesTrue v) (negated (occurs i)) (occurs j) (stands_before vars i j) (occurring_first i j kind_i kind_j (λ same. differs (sym same)))))

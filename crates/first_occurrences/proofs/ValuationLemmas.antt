@@ -6,7 +6,7 @@ use Rattle.std.proofs.lemmas.Bool.Decides.{same_from_decides}
 use Rattle.bspl_types.specs.declared.event.Event.{Event}
 use Rattle.bspl_types.specs.declared.value.Value.{Value}
 use Rattle.clause_encoding.specs.declared.variables.Variables.{Variables}
-use Rattle.clause_encoding.specs.Variables.{IsKind, kinds_after, order_variable}
+use Rattle.clause_encoding.specs.Variables.{IsKind, kinds_following, order_variable}
 use Rattle.first_occurrences.specs.Occurrence.{comes_first, is_occurring}
 use Rattle.first_occurrences.specs.Report.{HasBetween, Reports}
 use Rattle.first_occurrences.proofs.KindLemmas.{among_after, kind_after}
@@ -19,11 +19,11 @@ reports_pair vars run key variable i j = eqb (order_variable vars i j) variable 
 
 -- with some second kind
 abbrev reports_first : Variables → List Event → List Value → ℕ → ℕ → Bool
-reports_first vars run key variable i = list_any (reports_pair vars run key variable i) (kinds_after vars i)
+reports_first vars run key variable i = list_any (reports_pair vars run key variable i) (kinds_following vars i)
 
 -- the value of a variable of order
 abbrev order_value : Variables → List Event → List Value → ℕ → Bool
-order_value vars run key variable = list_any (reports_first vars run key variable) (kinds_after vars 0)
+order_value vars run key variable = list_any (reports_first vars run key variable) (kinds_following vars 0)
 
 -- the value of each variable
 abbrev valuation : Variables → List Event → List Value → (ℕ → Bool) → ℕ → Bool
@@ -36,15 +36,15 @@ true_if_first : (vars : Variables) (run : List Event) (key : List Value) (i j : 
 true_if_first vars run key i j kind_i kind_j less first =
     let variable = order_variable vars i j in
     let pair = and_from (eqb variable variable) (comes_first run key i j) (eq-eqb variable variable refl) first in
-    let second = passes_by (reports_pair vars run key variable i) (kinds_after vars i) j (among_after vars i j less kind_j) pair in
-    passes_by (reports_first vars run key variable) (kinds_after vars 0) i (among_after vars 0 i kind_i.from_one kind_i) second
+    let second = passes_by (reports_pair vars run key variable i) (kinds_following vars i) j (among_after vars i j less kind_j) pair in
+    passes_by (reports_first vars run key variable) (kinds_following vars 0) i (among_after vars 0 i kind_i.from_one kind_i) second
 
 -- and of no others
 first_if_true : (vars : Variables) (run : List Event) (key : List Value) (i j : ℕ) → IsKind vars i → IsKind vars j → i < j → order_value vars run key (order_variable vars i j) ≡ true → comes_first run key i j ≡ true
 first_if_true vars run key i j kind_i kind_j less holds =
     let variable = order_variable vars i j in
-    let first = passed (reports_first vars run key variable) (kinds_after vars 0) holds in
-    let second = passed (reports_pair vars run key variable first.item) (kinds_after vars first.item) first.passes in
+    let first = passed (reports_first vars run key variable) (kinds_following vars 0) holds in
+    let second = passed (reports_pair vars run key variable first.item) (kinds_following vars first.item) first.passes in
     let (after_zero, kind_k) = kind_after vars 0 first.item first.among in
     let (more, kind_l) = kind_after vars first.item second.item second.among in
     let (same, comes) = and_parts (eqb (order_variable vars first.item second.item) variable) (comes_first run key first.item second.item) second.passes in

@@ -17,7 +17,7 @@ accepted_line = codes "accepted unsatisfiable\n"
 
 -- the log is accepted on the formula of the text, so no assignment satisfies the clauses that are
 -- written there, and the output says so
-pub record SaysAccepted (text : List ℕ) (log : Log) (out : List ℕ) (status : Status)
+pub record SaysRefuted (text : List ℕ) (log : Log) (out : List ℕ) (status : Status)
     : Type 0 where
   pub formula : Formula
   pub read : IsFormulaOf text formula
@@ -27,7 +27,7 @@ pub record SaysAccepted (text : List ℕ) (log : Log) (out : List ℕ) (status :
   pub done : status ≡ Done
 
 -- it is not accepted, and the output names its first failure
-pub record SaysRejected (text : List ℕ) (log : Log) (out : List ℕ) (status : Status)
+pub record SaysNotRefuted (text : List ℕ) (log : Log) (out : List ℕ) (status : Status)
     : Type 0 where
   pub formula : Formula
   pub read : IsFormulaOf text formula
@@ -39,4 +39,4 @@ pub record SaysRejected (text : List ℕ) (log : Log) (out : List ℕ) (status :
 -- it is one or the other
 abbrev pub IsLogAnswer : List ℕ → Log → List ℕ → Status → Type 0
 IsLogAnswer text log out status =
-    SaysAccepted text log out status ⊎ SaysRejected text log out status
+    SaysRefuted text log out status ⊎ SaysNotRefuted text log out status

@@ -21,7 +21,7 @@ use Rattle.tool_input.specs.NeededPart.{HasPart, LacksPart}
 use Rattle.tool_input.specs.Parts.{protocol_text}
 use Rattle.tool_input.specs.Rejection.{lacks_part, over_limit, rejection_line}
 use Rattle.formula_check.specs.Answer.{IsLogAnswer}
-use Rattle.formula_check.specs.Request.{AsksForInput}
+use Rattle.formula_check.specs.Request.{HasNoArgument}
 
 -- the line for invalid arguments
 abbrev pub check_usage : List ℕ
@@ -32,22 +32,23 @@ abbrev pub formula_part : List ℕ → List ℕ
 formula_part input = protocol_text input
 
 -- the line for an input that is refused, in the order in which the reasons are judged
-pub data RefusesInput (input : List ℕ) : List ℕ → Type 0 where
+pub data RefusesFormulaInput (input : List ℕ) : List ℕ → Type 0 where
   -- the input is too long
   too_long : input_limit < length input
-      → RefusesInput input (rejection_line (over_limit input_limit))
+      → RefusesFormulaInput input (rejection_line (over_limit input_limit))
   -- the part of the log is missing
   no_part : (part : Part) → length input ≤ input_limit → LacksPart (Some Log) input part
-      → RefusesInput input (rejection_line (lacks_part part))
+      → RefusesFormulaInput input (rejection_line (lacks_part part))
   -- the text before it is no formula
   no_formula : (part : List ℕ) (line : ℕ) → length input ≤ input_limit
       → HasPart (Some Log) input part → IsNoFormula (formula_part input)
-      → StopsAt (text_lines (formula_part input)) line → RefusesInput input (refused_line line)
+      → StopsAt (text_lines (formula_part input)) line
+      → RefusesFormulaInput input (refused_line line)
   -- the part is the text of no log
   no_log : (part : List ℕ) (f : Formula) (refusal : LogRefusal) (r : Rejection)
       → length input ≤ input_limit → HasPart (Some Log) input part
       → IsFormulaOf (formula_part input) f → IsRefusedLog part refusal
-      → log_rejection refusal ≡ Some r → RefusesInput input (rejection_line r)
+      → log_rejection refusal ≡ Some r → RefusesFormulaInput input (rejection_line r)
 
 -- the output answers the log of the input, whose kind says nothing, on the formula of the input
 pub record AnswersLog (input out : List ℕ) (status : Status) : Type 0 where
@@ -62,10 +63,10 @@ pub record AnswersLog (input out : List ℕ) (status : Status) : Type 0 where
 -- the output and the status for the arguments and the bytes of the input
 pub data CheckOutput (args : List (List ℕ)) (input : List ℕ) : List ℕ → Status → Type 0 where
   -- the arguments are invalid
-  usage : ¬ AsksForInput args → CheckOutput args input check_usage Usage
+  usage : ¬ HasNoArgument args → CheckOutput args input check_usage Usage
   -- there is a reason to refuse the input
-  refused : (out : List ℕ) → AsksForInput args → RefusesInput input out
+  refused : (out : List ℕ) → HasNoArgument args → RefusesFormulaInput input out
       → CheckOutput args input out Refused
   -- the log is answered
-  answered : (out : List ℕ) (status : Status) → AsksForInput args → AnswersLog input out status
+  answered : (out : List ℕ) (status : Status) → HasNoArgument args → AnswersLog input out status
       → CheckOutput args input out status

@@ -5,7 +5,7 @@ ghost use Rattle.dimacs.specs.Verdict.{IsFormulaOf};
 ghost use Rattle.tool_input.specs.Rejection.{over_limit, rejection_line};
 ghost use Rattle.tool_input.specs.declared.status.Status.TheVariants.{Refused, Usage};
 ghost use Rattle.formula_check.specs.Output.{CheckOutput, check_usage};
-ghost use Rattle.formula_check.specs.Request.{AsksForInput};
+ghost use Rattle.formula_check.specs.Request.{HasNoArgument};
 ghost use Rattle.formula_check.specs.inner.Reply.{IsPartReply, IsRefusal, IsReply};
 
 use super::answer::log_answer;
@@ -43,7 +43,7 @@ pub(crate) fn too_long(alloc: Global) -> Result<Reply<Status>, NoMemory>
 /// and then the log's text.
 pub(crate) fn check_reply(alloc: Global, input: &[u8]) -> Result<Reply<Status>, NoMemory>
     requires { length input.now ≤ input_limit }
-    ensures { (args : List (List ℕ)) → AsksForInput args →
+    ensures { (args : List (List ℕ)) → HasNoArgument args →
         IfOk result (λ reply. CheckOutput args input.now reply.text reply.status) }
 {
     // law: the formula of a text has few clauses

@@ -1,5 +1,5 @@
 ghost use Rattle.bspl_types.specs.Limits.{input_limit};
-ghost use Rattle.formula_check.specs.Request.{AsksForInput};
+ghost use Rattle.formula_check.specs.Request.{HasNoArgument};
 ghost use Rattle.formula_check.specs.Output.{CheckOutput};
 ghost use Rattle.formula_check.specs.inner.Request.{IsRequest};
 
@@ -20,7 +20,7 @@ impl<'a> Program<'a> for Request {
 
     ghost requests = { λ args request. IsRequest args request.is_valid };
 
-    ghost asks = { AsksForInput };
+    ghost asks = { HasNoArgument };
 
     ghost answers = { CheckOutput };
 

@@ -10,11 +10,11 @@ use Rattle.bspl_types.specs.declared.protocol.ParamInfo.{ParamInfo}
 use Rattle.bspl_types.specs.Expansion.{no_message, message_name, no_param, param_name}
 use Rattle.clause_encoding.specs.Rest.{unbound_variables, want_variables}
 use Rattle.clause_encoding.specs.Rivals.{selectors}
-use Rattle.clause_encoding.specs.Variables.{kinds_after, sent}
+use Rattle.clause_encoding.specs.Variables.{kinds_following, sent}
 use Rattle.list_base.specs.Numeral.{numeral}
 use Rattle.bspl_types.specs.declared.property.Property.{Property}
 use Rattle.bspl_types.specs.declared.property.Property.TheVariants.{Liveness, Safety}
-use Rattle.formula_text.specs.Legend.{Meaning, act_word, kind_words, lack, legend, message_of_kind, occurrence, occurrences, order, orders, orders_of, own_meanings, selection, unbound}
+use Rattle.formula_text.specs.Legend.{Meaning, direction_word, kind_words, lack, legend, message_of_kind, occurrence, occurrences, order, orders, orders_of, own_meanings, selection, unbound}
 use Rattle.clause_encoding.specs.Formula.{variables_of}
 use Rattle.formula_text.proofs.Names.{empty_lacks, name_lacks}
 use Rattle.formula_text.proofs.Numbers.{numeral_printed}
@@ -67,7 +67,7 @@ sent_lacks = All-from_recursion (λ byte. eqb byte 10 ≡ false) (codes "sent") 
 received_lacks : LacksLf (codes "received")
 received_lacks = All-from_recursion (λ byte. eqb byte 10 ≡ false) (codes "received") (refl, (refl, (refl, (refl, (refl, (refl, (refl, (refl, tt))))))))
 
-act_lacks : (is_sent : Bool) → LacksLf (act_word is_sent)
+act_lacks : (is_sent : Bool) → LacksLf (direction_word is_sent)
 act_lacks true = sent_lacks
 act_lacks false = received_lacks
 
@@ -113,6 +113,6 @@ own_lack Liveness x =
 pub legend_lacks : (property : Property) (x : Expanded) → AllByRecursion IsOneLine (legend property x)
 legend_lacks property x =
     let vars = variables_of property x in
-    let kinds = all_mapped IsOneLine (occurrence x) (λ kind. one_line kind (kind_words x kind) (kind_lacks x kind)) (kinds_after vars 0) in
-    let pairs = all_joined IsOneLine (orders_of x vars) (λ i. all_mapped IsOneLine (order x vars i) (λ j. one_line (order x vars i j).0 (order x vars i j).1 (all_both LacksLf (kind_words x i) (codes "before" ∷ kind_words x j) (kind_lacks x i) (before_lacks, kind_lacks x j))) (kinds_after vars i)) (kinds_after vars 0) in
+    let kinds = all_mapped IsOneLine (occurrence x) (λ kind. one_line kind (kind_words x kind) (kind_lacks x kind)) (kinds_following vars 0) in
+    let pairs = all_joined IsOneLine (orders_of x vars) (λ i. all_mapped IsOneLine (order x vars i) (λ j. one_line (order x vars i j).0 (order x vars i j).1 (all_both LacksLf (kind_words x i) (codes "before" ∷ kind_words x j) (kind_lacks x i) (before_lacks, kind_lacks x j))) (kinds_following vars i)) (kinds_following vars 0) in
     all_both IsOneLine (occurrences x vars ++ own_meanings property x) (orders x vars) (all_both IsOneLine (occurrences x vars) (own_meanings property x) kinds (own_lack property x)) pairs

@@ -8,7 +8,7 @@ use Rattle.clause_encoding.specs.declared.variables.Variables.{Variables}
 use Rattle.clause_encoding.specs.declared.wants.Want.{Want}
 use Rattle.clause_encoding.specs.Rest.{unbound_variables, want_variables}
 use Rattle.clause_encoding.specs.Rivals.{selectors}
-use Rattle.clause_encoding.specs.Variables.{kinds_after, occurs, sent, stands_before}
+use Rattle.clause_encoding.specs.Variables.{kinds_following, occurs, sent, stands_before}
 use Rattle.bspl_types.specs.declared.property.Property.{Property}
 use Rattle.bspl_types.specs.declared.property.Property.TheVariants.{Liveness, Safety}
 use Rattle.clause_encoding.specs.Formula.{variables_of}
@@ -22,13 +22,13 @@ abbrev pub message_of_kind : ℕ → ℕ
 message_of_kind kind = (kind - 1) / 2
 
 -- the word for what is done with a message
-abbrev pub act_word : Bool → List ℕ
-act_word is_sent = if is_sent then codes "sent" else codes "received"
+abbrev pub direction_word : Bool → List ℕ
+direction_word is_sent = if is_sent then codes "sent" else codes "received"
 
 -- an event kind: its message is sent, or received
 abbrev pub kind_words : Expanded → ℕ → List (List ℕ)
 kind_words x kind =
-    let m = message_of_kind kind in act_word (kind == sent m) ∷ message_name x m ∷ []
+    let m = message_of_kind kind in direction_word (kind == sent m) ∷ message_name x m ∷ []
 
 -- the kind occurs
 abbrev pub occurrence : Expanded → ℕ → Meaning
@@ -60,7 +60,7 @@ order x vars i j =
 
 -- each kind
 abbrev pub occurrences : Expanded → Variables → List Meaning
-occurrences x vars = map (occurrence x) (kinds_after vars 0)
+occurrences x vars = map (occurrence x) (kinds_following vars 0)
 
 -- those that only the formulas of a property have
 abbrev pub own_meanings : Property → Expanded → List Meaning
@@ -70,11 +70,11 @@ own_meanings Liveness x =
 
 -- a kind with each later one
 abbrev pub orders_of : Expanded → Variables → ℕ → List Meaning
-orders_of x vars i = map (order x vars i) (kinds_after vars i)
+orders_of x vars i = map (order x vars i) (kinds_following vars i)
 
 -- each kind with each later one
 abbrev pub orders : Expanded → Variables → List Meaning
-orders x vars = flat_map (orders_of x vars) (kinds_after vars 0)
+orders x vars = flat_map (orders_of x vars) (kinds_following vars 0)
 
 -- the meanings of all variables
 abbrev pub legend : Property → Expanded → List Meaning

@@ -1,5 +1,5 @@
 ghost use Rattle.std.specs.Prelude.{◌≡◌, ◌<◌, ◌∷◌, []};
-ghost use Rattle.formula_text.specs.Legend.{kind_words, act_word};
+ghost use Rattle.formula_text.specs.Legend.{kind_words, direction_word};
 ghost use Rattle.bspl_types.specs.Expansion.{message_name, param_name};
 
 use bspl_types::Expanded;
@@ -36,7 +36,7 @@ pub(crate) fn words_of_kind(x: &Expanded, kind: u32) -> (&[u8], &[u8])
 
 /// The word for what is done with a message.
 fn act_word(is_sent: bool) -> &'static [u8]
-    ensures { result.now ≡ act_word is_sent }
+    ensures { result.now ≡ direction_word is_sent }
 {
     if is_sent { b"sent" } else { b"received" }
 }

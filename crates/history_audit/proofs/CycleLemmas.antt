@@ -22,7 +22,7 @@ use Rattle.run_index.specs.FirstEmission.{IsFirstEmission}
 use Rattle.history_audit.specs.declared.audit_no.Point.{Point}
 use Rattle.history_audit.specs.BadPlace.{AllMayHappen}
 use Rattle.history_audit.specs.Cycle.{WaitInTurn, WaitsBehind}
-use Rattle.history_audit.specs.Histories.{AreHistories, history_at}
+use Rattle.history_audit.specs.Histories.{AreHistories, events_at}
 use Rattle.history_audit.specs.inner.Merging.{cursor_at, IsHeldBack, IsStuck, IsUnfinished}
 use Rattle.history_audit.specs.inner.Rings.{HasRoleAt, IsRing}
 use Rattle.history_audit.proofs.PlaceLemmas.{fits_at, own_at, role_within}
@@ -70,8 +70,8 @@ module _ (x : Expanded) (histories : List (List Event)) (cursors : List ℕ) (ad
       }
 
   -- an unfinished role has a next event
-  pub next_event : (role : ℕ) → IsUnfinished histories cursors role → (e : Event) × (slice_get (history_at histories role) (cursor_at cursors role) ≡ Some e)
-  next_event role unfinished = some (history_at histories role) (cursor_at cursors role) unfinished.left
+  pub next_event : (role : ℕ) → IsUnfinished histories cursors role → (e : Event) × (slice_get (events_at histories role) (cursor_at cursors role) ≡ Some e)
+  next_event role unfinished = some (events_at histories role) (cursor_at cursors role) unfinished.left
     where
       some : (events : List Event) (k : ℕ) → k < length events → (e : Event) × (slice_get events k ≡ Some e)
       some [] k within = absurd (omega (arith, within))
@@ -90,20 +90,20 @@ module _ (x : Expanded) (histories : List (List Event)) (cursors : List ℕ) (ad
       emission_is_none j k is = absurd (cc)
 
   -- it waits for an unfinished role
-  pub waits_for : (role sender : ℕ) (e : Event) → slice_get (history_at histories role) (cursor_at cursors role) ≡ Some e → sender ≡ (message_of x (instance_of e).message).sender → WaitsFor x histories cursors role sender
+  pub waits_for : (role sender : ℕ) (e : Event) → slice_get (events_at histories role) (cursor_at cursors role) ≡ Some e → sender ≡ (message_of x (instance_of e).message).sender → WaitsFor x histories cursors role sender
   waits_for role sender e at sender_is =
       let held = stuck role e at in
       let i : Instance = held.instance in
-      let receipt : slice_get (history_at histories role) (cursor_at cursors role) ≡ Some (Receive i) = at ∙ ap Some held.receipt in
+      let receipt : slice_get (events_at histories role) (cursor_at cursors role) ≡ Some (Receive i) = at ∙ ap Some held.receipt in
       let is : (message_of x i.message).sender ≡ sender = sym (sender_is ∙ ap (λ f. (message_of x (instance_of f).message).sender) held.receipt) in
-      let first = subst (λ s. IsFirstEmission (history_at histories s) i held.awaited) is held.first in
-      let among : Contains (history_at histories sender) (Emit i) = subst (λ s. Contains (history_at histories s) (Emit i)) is (sent role (cursor_at cursors role) (Receive i) receipt) in
-      let within : held.awaited < length (history_at histories sender) = emitted_within (history_at histories sender) i held.awaited first among in
+      let first = subst (λ s. IsFirstEmission (events_at histories s) i held.awaited) is held.first in
+      let among : Contains (events_at histories sender) (Emit i) = subst (λ s. Contains (events_at histories s) (Emit i)) is (sent role (cursor_at cursors role) (Receive i) receipt) in
+      let within : held.awaited < length (events_at histories sender) = emitted_within (events_at histories sender) i held.awaited first among in
       let later : cursor_at cursors sender ≤ held.awaited = subst (λ s. cursor_at cursors s ≤ held.awaited) is held.later in
       let unfinished : IsUnfinished histories cursors sender = record { left = omega (arith, later, within) } in
       let before : cursor_at cursors sender < held.awaited = elim (cases_lt (cursor_at cursors sender) held.awaited) [
         | inl less ↦ less
-        | inr not ↦ absurd (never_held i (stuck sender (Emit i) (ap (slice_get (history_at histories sender)) (omega (arith, later, not)) ∙ first.emitted within)))
+        | inr not ↦ absurd (never_held i (stuck sender (Emit i) (ap (slice_get (events_at histories sender)) (omega (arith, later, not)) ∙ first.emitted within)))
       ] in
       record {
         behind = record {

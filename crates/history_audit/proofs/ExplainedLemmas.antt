@@ -20,12 +20,12 @@ use Rattle.enactment_model.specs.declared.bad_event.Why.{Why}
 use Rattle.enactment_model.specs.Laws.{LegalByPositions}
 use Rattle.enactment_model.specs.Legal.{MayFollow}
 use Rattle.history_audit.specs.declared.audit_no.Point.{Point}
-use Rattle.history_audit.specs.Audit.{BadPlaceIsNotExplained, CycleIsNotExplained, HasNoExplanation, IsFault}
+use Rattle.history_audit.specs.Audit.{BadPlaceIsNotExplained, CycleIsNotExplained, HasNoExplanation, IsAuditFault}
 use Rattle.history_audit.specs.declared.audit_no.AuditNo.{AuditNo}
 use Rattle.history_audit.specs.declared.audit_no.AuditNo.TheVariants.{Bad, Cycle, NoMemory}
 use Rattle.history_audit.specs.BadPlace.{IsFirstBadPlace, MayHappen}
 use Rattle.history_audit.specs.Cycle.{IsCycle, WaitInTurn, WaitsBehind}
-use Rattle.history_audit.specs.Histories.{Explains, history_at}
+use Rattle.history_audit.specs.Histories.{Explains, events_at}
 
 -- the events of a prefix that pass a test come first among all that pass
 filter_front : {X : Type 0} (test : X → Bool) (xs : List X) (n : ℕ) → filter test (take n xs) ≡ take (length (filter test (take n xs))) (filter test xs)
@@ -50,11 +50,11 @@ record IsPosition (x : Expanded) (run : List Event) (p : Point) (t : ℕ) : Type
 
 module _ (law : LegalByPositions) (x : Expanded) (histories : List (List Event)) (run : List Event) (explains : Explains x run histories) where
   -- where the event of a place is in the run
-  found_at : (role k : ℕ) (e : Event) → slice_get (history_at histories role) k ≡ Some e → FoundAt (is_of x role) run k e
+  found_at : (role k : ℕ) (e : Event) → slice_get (events_at histories role) k ≡ Some e → FoundAt (is_of x role) run k e
   found_at role k e at = unfiltered_index (is_of x role) run k e (ap (λ (es : List Event). slice_get es k) (explains.each role) ∙ at)
 
   -- the place of an event of the run
-  place_of : (role s : ℕ) (e : Event) → slice_get run s ≡ Some e → role_of x e ≡ role → slice_get (history_at histories role) (length (history_of x role (take s run))) ≡ Some e
+  place_of : (role s : ℕ) (e : Event) → slice_get run s ≡ Some e → role_of x e ≡ role → slice_get (events_at histories role) (length (history_of x role (take s run))) ≡ Some e
   place_of role s e at own = sym (ap (λ (es : List Event). slice_get es (length (history_of x role (take s run)))) (explains.each role)) ∙ filtered_index (is_of x role) run s e at (passes_own x role e own)
 
   -- it may follow those before it
@@ -62,18 +62,18 @@ module _ (law : LegalByPositions) (x : Expanded) (histories : List (List Event))
   follows s e at = (law x run).0 explains.legal.legal s e at
 
   -- what may follow may happen
-  happens : (role k : ℕ) (e : Event) → (found : FoundAt (is_of x role) run k e) → role_of x e ≡ role → MayFollow x (take found.index run) e → MayHappen x histories (take k (history_at histories role)) e
+  happens : (role k : ℕ) (e : Event) → (found : FoundAt (is_of x role) run k e) → role_of x e ≡ role → MayFollow x (take found.index run) e → MayHappen x histories (take k (events_at histories role)) e
   happens role k (Emit i) found own enabled =
-      let front : history_of x role (take found.index run) ≡ take k (history_at histories role) =
+      let front : history_of x role (take found.index run) ≡ take k (events_at histories role) =
       filter_front (is_of x role) run found.index ∙ ap (λ n. take n (history_of x role run)) found.count ∙ ap (take k) (explains.each role) in
       subst (λ es. IsEnabled x es i) front (subst (λ r. IsEnabled x (history_of x r (take found.index run)) i) own enabled)
   happens role k (Receive i) found own emitted =
       let sender : ℕ = (message_of x i.message).sender in
       let (s, before, at) = early_index run found.index (Emit i) emitted in
-      member_at (history_at histories sender) (length (history_of x sender (take s run))) (Emit i) (place_of sender s (Emit i) at refl)
+      member_at (events_at histories sender) (length (history_of x sender (take s run))) (Emit i) (place_of sender s (Emit i) at refl)
 
   -- each event of each history may happen
-  pub explained_may : (role k : ℕ) (e : Event) → slice_get (history_at histories role) k ≡ Some e → MayHappen x histories (take k (history_at histories role)) e
+  pub explained_may : (role k : ℕ) (e : Event) → slice_get (events_at histories role) k ≡ Some e → MayHappen x histories (take k (events_at histories role)) e
   explained_may role k e at =
       let found = found_at role k e at in
       happens role k e found ((Decides-eqb (role_of x e) role).0 found.passes) (follows found.index e found.at)
@@ -88,13 +88,13 @@ module _ (law : LegalByPositions) (x : Expanded) (histories : List (List Event))
     -- it comes later than that of the next point
     earlier : (p q : Point) (t : ℕ) → WaitsBehind x histories p q → IsPosition x run p t → (r : Point) → WaitsBehind x histories q r → (s : ℕ) × (s < t) × IsPosition x run q s
     earlier p q t waits position r after =
-        let place : slice_get (history_at histories p.role) waits.receipt.index ≡ Some position.event =
-        subst (λ n. slice_get (history_at histories p.role) n ≡ Some position.event) (omega (arith, position.count, waits.receipt.place_is)) (place_of p.role t position.event position.at position.own) in
+        let place : slice_get (events_at histories p.role) waits.receipt.index ≡ Some position.event =
+        subst (λ n. slice_get (events_at histories p.role) n ≡ Some position.event) (omega (arith, position.count, waits.receipt.place_is)) (place_of p.role t position.event position.at position.own) in
         let is_receipt : position.event ≡ Receive waits.instance = same_Some position.event (Receive waits.instance) (sym place ∙ waits.receipt.at) in
         let emitted : Contains (take t run) (Emit waits.instance) = subst (MayFollow x (take t run)) is_receipt (follows t position.event position.at) in
         let (s, before, at) = early_index run t (Emit waits.instance) emitted in
         let m : ℕ = length (history_of x q.role (take s run)) in
-        let there_at : slice_get (history_at histories q.role) m ≡ Some (Emit waits.instance) = place_of q.role s (Emit waits.instance) at waits.sender in
+        let there_at : slice_get (events_at histories q.role) m ≡ Some (Emit waits.instance) = place_of q.role s (Emit waits.instance) at waits.sender in
         let late : waits.awaited ≤ m = elim (cases_lt m waits.awaited) [ inl early ↦ absurd (waits.first.none_before m early there_at) | inr more ↦ omega (arith, more) ] in
         let own_place = found_at q.role after.receipt.index (Receive after.instance) after.receipt.at in
         let emission : FoundAt (is_of x q.role) run m (Emit waits.instance) = record { index = s; at = at; passes = passes_own x q.role (Emit waits.instance) waits.sender; count = refl } in
@@ -146,7 +146,7 @@ cycle_unexplained law x histories points cycle run explains =
     cycle.first among
 
 -- so it is with each fault
-pub fault_unexplained : BadPlaceIsNotExplained → CycleIsNotExplained → (x : Expanded) (histories : List (List Event)) (no : AuditNo) → IsFault x histories no → no ≢ NoMemory → HasNoExplanation x histories
+pub fault_unexplained : BadPlaceIsNotExplained → CycleIsNotExplained → (x : Expanded) (histories : List (List Event)) (no : AuditNo) → IsAuditFault x histories no → no ≢ NoMemory → HasNoExplanation x histories
 fault_unexplained bad cycle x histories (Bad role place why) fault some = bad x histories role place why fault
 fault_unexplained bad cycle x histories (Cycle points) fault some = cycle x histories points fault.cycle
 fault_unexplained bad cycle x histories NoMemory fault some = absurd (some refl)

@@ -19,7 +19,7 @@ use Rattle.bspl_types.specs.Knowledge.{IsEnabled}
 use Rattle.enactment_model.specs.Laws.{LegalByPositions}
 use Rattle.enactment_model.specs.Legal.{IsLegalRun, MayFollow}
 use Rattle.history_audit.specs.BadPlace.{AllMayHappen, MayHappen}
-use Rattle.history_audit.specs.Histories.{AreHistories, Explains, history_at}
+use Rattle.history_audit.specs.Histories.{AreHistories, Explains, events_at}
 use Rattle.history_audit.specs.inner.Merging.{AreWithin, cursor_at, IsHeldBack, IsMerging, IsReady, IsStuck, IsUnfinished, MayCome}
 use Rattle.history_audit.specs.inner.Waits.{IsWait}
 use Rattle.history_audit.proofs.PlaceLemmas.{fits_at, own_at, role_within}
@@ -56,14 +56,14 @@ legal_push law x run e legal fits may =
     }
 
 -- the next event of a role may follow the run that is merged
-may_follow_merged : (x : Expanded) (histories : List (List Event)) (cursors : List ℕ) (run : List Event) (role : ℕ) (e : Event) → IsMerging x histories cursors run → role_of x e ≡ role → MayHappen x histories (take (cursor_at cursors role) (history_at histories role)) e → MayCome x histories cursors e → MayFollow x run e
+may_follow_merged : (x : Expanded) (histories : List (List Event)) (cursors : List ℕ) (run : List Event) (role : ℕ) (e : Event) → IsMerging x histories cursors run → role_of x e ≡ role → MayHappen x histories (take (cursor_at cursors role) (events_at histories role)) e → MayCome x histories cursors e → MayFollow x run e
 may_follow_merged x histories cursors run role (Emit i) merging own may come =
     subst (λ r. IsEnabled x (history_of x r run) i) (sym own) (subst (λ es. IsEnabled x es i) (sym (merging.each role)) may)
 may_follow_merged x histories cursors run role (Receive i) merging own may come =
     let sender : ℕ = (message_of x i.message).sender in
     (filtered_member (λ f. role_of x f == sender) run (Emit i) (subst (λ es. Contains es (Emit i)) (sym (merging.each sender)) come)).0
 
-module _ (x : Expanded) (histories : List (List Event)) (cursors : List ℕ) (run : List Event) (role : ℕ) (e : Event) (are : AreHistories x histories) (merging : IsMerging x histories cursors run) (at : slice_get (history_at histories role) (cursor_at cursors role) ≡ Some e) where
+module _ (x : Expanded) (histories : List (List Event)) (cursors : List ℕ) (run : List Event) (role : ℕ) (e : Event) (are : AreHistories x histories) (merging : IsMerging x histories cursors run) (at : slice_get (events_at histories role) (cursor_at cursors role) ≡ Some e) where
   -- the role's cursor one event on
   abbrev pub advanced : List ℕ
   advanced = set cursors role (cursor_at cursors role + 1)
@@ -83,22 +83,22 @@ module _ (x : Expanded) (histories : List (List Event)) (cursors : List ℕ) (ru
   pub merged_more : LegalByPositions → AllMayHappen x histories → MayCome x histories cursors e → IsMerging x histories advanced (run ++ e ∷ [])
   merged_more law all come =
       let own : role_of x e ≡ role = own_at x histories role (cursor_at cursors role) e are at in
-      let within : cursor_at cursors role < length (history_at histories role) = slice_get_within (history_at histories role) (cursor_at cursors role) e at in
+      let within : cursor_at cursors role < length (events_at histories role) = slice_get_within (events_at histories role) (cursor_at cursors role) e at in
       record {
         count = length-set cursors role (cursor_at cursors role + 1) ∙ merging.count;
         legal = legal_push law x run e merging.legal (fits_at x histories role (cursor_at cursors role) e are at)
             (may_follow_merged x histories cursors run role e merging own (all role (cursor_at cursors role) e at) come);
         each = λ other. elim (moved other) [
           | inl same ↦
-              let one : history_of x role (run ++ e ∷ []) ≡ take (cursor_at cursors role + 1) (history_at histories role) =
+              let one : history_of x role (run ++ e ∷ []) ≡ take (cursor_at cursors role + 1) (events_at histories role) =
               push_own x role run e own ∙ ap (λ es. es ++ e ∷ []) (merging.each role)
-              ∙ sym (take_more (history_at histories role) (cursor_at cursors role) e within ∙ ap (λ f. take (cursor_at cursors role) (history_at histories role) ++ f ∷ []) (get_or_from_slice_get (history_at histories role) (cursor_at cursors role) e e at)) in
-              subst (λ r. history_of x r (run ++ e ∷ []) ≡ take (cursor_at cursors role + 1) (history_at histories r)) same.0 one ∙ ap (λ n. take n (history_at histories other)) (sym same.1)
-          | inr still ↦ push_other x other run e (λ is. still.0 (sym own ∙ is)) ∙ merging.each other ∙ ap (λ n. take n (history_at histories other)) (sym still.1)
+              ∙ sym (take_more (events_at histories role) (cursor_at cursors role) e within ∙ ap (λ f. take (cursor_at cursors role) (events_at histories role) ++ f ∷ []) (get_or_from_slice_get (events_at histories role) (cursor_at cursors role) e e at)) in
+              subst (λ r. history_of x r (run ++ e ∷ []) ≡ take (cursor_at cursors role + 1) (events_at histories r)) same.0 one ∙ ap (λ n. take n (events_at histories other)) (sym same.1)
+          | inr still ↦ push_other x other run e (λ is. still.0 (sym own ∙ is)) ∙ merging.each other ∙ ap (λ n. take n (events_at histories other)) (sym still.1)
         ];
         within = λ other. elim (moved other) [
-          | inl same ↦ subst (λ n. n ≤ length (history_at histories other)) (sym same.1) (subst (λ r. cursor_at cursors role + 1 ≤ length (history_at histories r)) same.0 (omega (arith, within)))
-          | inr still ↦ subst (λ n. n ≤ length (history_at histories other)) (sym still.1) (merging.within other)
+          | inl same ↦ subst (λ n. n ≤ length (events_at histories other)) (sym same.1) (subst (λ r. cursor_at cursors role + 1 ≤ length (events_at histories r)) same.0 (omega (arith, within)))
+          | inr still ↦ subst (λ n. n ≤ length (events_at histories other)) (sym still.1) (merging.within other)
         ];
       }
 
@@ -107,7 +107,7 @@ pub merged_all : (x : Expanded) (histories : List (List Event)) (cursors : List 
 merged_all x histories cursors run merging finished =
     record {
       legal = merging.legal;
-      each = λ role. merging.each role ∙ take_all (cursor_at cursors role) (history_at histories role) (elim (cases_lt (cursor_at cursors role) (length (history_at histories role))) [
+      each = λ role. merging.each role ∙ take_all (cursor_at cursors role) (events_at histories role) (elim (cases_lt (cursor_at cursors role) (length (events_at histories role))) [
         | inl left ↦ absurd (finished role (record { left = left }))
         | inr ended ↦ ended
       ]);
@@ -120,7 +120,7 @@ merged_none x histories cursors run start empty =
     record {
       count = ap length start ∙ count_zeros (length histories);
       legal = subst (IsLegalRun x) (sym empty) (record { fits = λ k d within. absurd (omega (arith, within)); legal = tt });
-      each = λ role. ap (history_of x role) empty ∙ ap (λ n. take n (history_at histories role)) (sym (zero_at role));
+      each = λ role. ap (history_of x role) empty ∙ ap (λ n. take n (events_at histories role)) (sym (zero_at role));
       within = λ role. omega (arith, zero_at role);
     }
   where
@@ -140,7 +140,7 @@ events_left (history ∷ histories) [] = 0
 events_left (history ∷ histories) (c ∷ cursors) = (length history - c) + events_left histories cursors
 
 -- one less with a cursor one event on
-pub one_less : (histories : List (List Event)) (cursors : List ℕ) (role : ℕ) → role < length cursors → cursor_at cursors role < length (history_at histories role) → events_left histories (set cursors role (cursor_at cursors role + 1)) < events_left histories cursors
+pub one_less : (histories : List (List Event)) (cursors : List ℕ) (role : ℕ) → role < length cursors → cursor_at cursors role < length (events_at histories role) → events_left histories (set cursors role (cursor_at cursors role + 1)) < events_left histories cursors
 unfolding events_left
 one_less [] cursors role within more = absurd (omega (arith, more))
 one_less (history ∷ histories) [] role within more = absurd (omega (arith, within))
@@ -153,34 +153,34 @@ pub come_or_held : (x : Expanded) (histories : List (List Event)) (cursors : Lis
     → MatchBool (nat_lt wait cursor) (MayCome x histories cursors (Receive i)) (IsHeldBack x histories cursors (Receive i))
 come_or_held x histories cursors i wait cursor is first within =
     let sender : ℕ = (message_of x i.message).sender in
-    let most : cursor_at cursors sender ≤ length (history_at histories sender) = within sender in
+    let most : cursor_at cursors sender ≤ length (events_at histories sender) = within sender in
     elim (cases_Bool (nat_lt wait cursor)) [
       | inl below ↦
           let less : wait < cursor_at cursors sender = subst (λ n. wait < n) is (ltb-true wait cursor below) in
-          rw below (early_member (history_at histories sender) wait (cursor_at cursors sender) (Emit i) (first.emitted (omega (arith, most, less))) less)
+          rw below (early_member (events_at histories sender) wait (cursor_at cursors sender) (Emit i) (first.emitted (omega (arith, most, less))) less)
       | inr above ↦
           let later : cursor_at cursors sender ≤ wait = subst (λ n. n ≤ wait) is (ltb-false wait cursor above) in
           rw above (record { instance = i; receipt = refl; awaited = wait; first = first; later = later })
     ]
 
 -- a role whose next event may come is ready, and else it is stuck
-pub ready_or_stuck : (x : Expanded) (histories : List (List Event)) (cursors : List ℕ) (role : ℕ) (e : Event) (b : Bool) → slice_get (history_at histories role) (cursor_at cursors role) ≡ Some e → MatchBool b (MayCome x histories cursors e) (IsHeldBack x histories cursors e) → MatchBool b (IsReady x histories cursors role) (IsStuck x histories cursors role)
+pub ready_or_stuck : (x : Expanded) (histories : List (List Event)) (cursors : List ℕ) (role : ℕ) (e : Event) (b : Bool) → slice_get (events_at histories role) (cursor_at cursors role) ≡ Some e → MatchBool b (MayCome x histories cursors e) (IsHeldBack x histories cursors e) → MatchBool b (IsReady x histories cursors role) (IsStuck x histories cursors role)
 ready_or_stuck x histories cursors role e true at may = record { event = e; next = at; may = may }
 ready_or_stuck x histories cursors role e false at held = λ f there. subst (IsHeldBack x histories cursors) (same_Some e f (sym at ∙ there)) held
 
 -- a role at its end is stuck
-pub stuck_at_end : (x : Expanded) (histories : List (List Event)) (cursors : List ℕ) (role : ℕ) → length (history_at histories role) ≤ cursor_at cursors role → IsStuck x histories cursors role
-stuck_at_end x histories cursors role is_end e at = absurd (omega (arith, is_end, slice_get_within (history_at histories role) (cursor_at cursors role) e at))
+pub stuck_at_end : (x : Expanded) (histories : List (List Event)) (cursors : List ℕ) (role : ℕ) → length (events_at histories role) ≤ cursor_at cursors role → IsStuck x histories cursors role
+stuck_at_end x histories cursors role is_end e at = absurd (omega (arith, is_end, slice_get_within (events_at histories role) (cursor_at cursors role) e at))
 
 -- a step of the merge, as the code takes it
-module _ (x : Expanded) (histories : List (List Event)) (cursors : List ℕ) (run : List Event) (role index : ℕ) (history : List Event) (e : Event) (are : AreHistories x histories) (merging : IsMerging x histories cursors run) (ready : IsReady x histories cursors role) (is_index : slice_get cursors role ≡ Some index) (is_history : history ≡ history_at histories role) (at : slice_get history index ≡ Some e) where
+module _ (x : Expanded) (histories : List (List Event)) (cursors : List ℕ) (run : List Event) (role index : ℕ) (history : List Event) (e : Event) (are : AreHistories x histories) (merging : IsMerging x histories cursors run) (ready : IsReady x histories cursors role) (is_index : slice_get cursors role ≡ Some index) (is_history : history ≡ events_at histories role) (at : slice_get history index ≡ Some e) where
   -- the index is the cursor
   index_is : cursor_at cursors role ≡ index
   index_is = get_or_from_slice_get cursors role index 0 is_index
 
   -- and the event the next one
-  next_is : slice_get (history_at histories role) (cursor_at cursors role) ≡ Some e
-  next_is = ap (slice_get (history_at histories role)) index_is ∙ ap (λ (es : List Event). slice_get es index) (sym is_history) ∙ at
+  next_is : slice_get (events_at histories role) (cursor_at cursors role) ≡ Some e
+  next_is = ap (slice_get (events_at histories role)) index_is ∙ ap (λ (es : List Event). slice_get es index) (sym is_history) ∙ at
 
   -- one event more is merged
   pub step_keeps : LegalByPositions → AllMayHappen x histories → (moved_to : List ℕ) (longer : List Event) → moved_to ≡ set cursors role (index + 1) → longer ≡ run ++ e ∷ [] → IsMerging x histories moved_to longer
@@ -193,12 +193,12 @@ module _ (x : Expanded) (histories : List (List Event)) (cursors : List ℕ) (ru
   pub step_less : (moved_to : List ℕ) → moved_to ≡ set cursors role (index + 1) → events_left histories moved_to < events_left histories cursors
   step_less moved_to is_moved =
       subst (λ cs. events_left histories cs < events_left histories cursors) (sym (is_moved ∙ ap (λ n. set cursors role (n + 1)) (sym index_is)))
-      (one_less histories cursors role (has_cursor x histories cursors run role e are merging next_is) (slice_get_within (history_at histories role) (cursor_at cursors role) e next_is))
+      (one_less histories cursors role (has_cursor x histories cursors run role e are merging next_is) (slice_get_within (events_at histories role) (cursor_at cursors role) e next_is))
 
 -- a role that is ready has a history
 pub ready_within : (x : Expanded) (histories : List (List Event)) (cursors : List ℕ) (role : ℕ) → IsReady x histories cursors role → role < length histories
 ready_within x histories cursors role ready = role_within histories role (cursor_at cursors role) ready.event ready.next
 
 -- and its next event is before the end
-pub ready_before : (x : Expanded) (histories : List (List Event)) (cursors : List ℕ) (role : ℕ) → IsReady x histories cursors role → cursor_at cursors role < length (history_at histories role)
-ready_before x histories cursors role ready = slice_get_within (history_at histories role) (cursor_at cursors role) ready.event ready.next
+pub ready_before : (x : Expanded) (histories : List (List Event)) (cursors : List ℕ) (role : ℕ) → IsReady x histories cursors role → cursor_at cursors role < length (events_at histories role)
+ready_before x histories cursors role ready = slice_get_within (events_at histories role) (cursor_at cursors role) ready.event ready.next

@@ -13,9 +13,9 @@ use Rattle.run_text.specs.RunText.{event_line}
 use Rattle.history_audit.specs.declared.section.Section.{Section}
 use Rattle.history_audit.specs.declared.refusal.HistoryRefusal.{HistoryRefusal}
 use Rattle.history_audit.specs.declared.refusal.HistoryRefusal.TheVariants.{Form, NoMemory}
-use Rattle.history_audit.specs.Histories.{history_at}
+use Rattle.history_audit.specs.Histories.{events_at}
 use Rattle.history_audit.specs.HistoryText.{AreSections, head_line, IsHistoriesText, role_line}
-use Rattle.history_audit.specs.Refusal.{after_end, BeginsWithout, breaks, front_lines, GoesOn, IsFirstBadLine, IsRefusedText, no_head, section_lines}
+use Rattle.history_audit.specs.Refusal.{after_end, BeginsWithout, breaks, front_lines, MayComeAfter, IsFirstBadLine, IsRefusedText, no_head, section_lines}
 use Rattle.history_audit.proofs.ReadingLemmas.{section_or_none}
 use Rattle.history_audit.proofs.SectionLines.{equal, goes_on, Grows, HaveNoLf, lines-text, sections_meet, stops}
 
@@ -49,13 +49,13 @@ end_ends x sections after line more at (inl opens) = let is : end_line ≡ line 
 end_ends x sections after line more at (inr extends) = let is : end_line ≡ line = cc in end_is_no_event x extends.event (is ∙ extends.is)
 
 -- and so does a bad line, or none
-bad_ends : (x : Expanded) (sections : List Section) (after : List Line) → BeginsWithout (GoesOn x sections) after → EndsThem x sections after
-bad_ends x sections after bad line more at (inl opens) = (subst (BeginsWithout (GoesOn x sections)) at bad) (inl opens)
-bad_ends x sections after bad line more at (inr extends) = (subst (BeginsWithout (GoesOn x sections)) at bad) (inr (inl extends))
+bad_ends : (x : Expanded) (sections : List Section) (after : List Line) → BeginsWithout (MayComeAfter x sections) after → EndsThem x sections after
+bad_ends x sections after bad line more at (inl opens) = (subst (BeginsWithout (MayComeAfter x sections)) at bad) (inl opens)
+bad_ends x sections after bad line more at (inr extends) = (subst (BeginsWithout (MayComeAfter x sections)) at bad) (inr (inl extends))
 
 -- `end` is no bad line
-bad_is_no_end : (x : Expanded) (sections : List Section) (after more : List Line) → BeginsWithout (GoesOn x sections) after → after ≡ end_line ∷ more → ⊥
-bad_is_no_end x sections after more bad at = (subst (BeginsWithout (GoesOn x sections)) at bad) (inr (inr refl))
+bad_is_no_end : (x : Expanded) (sections : List Section) (after more : List Line) → BeginsWithout (MayComeAfter x sections) after → after ≡ end_line ∷ more → ⊥
+bad_is_no_end x sections after more bad at = (subst (BeginsWithout (MayComeAfter x sections)) at bad) (inr (inr refl))
 
 -- what begins with the head does not lack it
 head_is_there : (after more : List Line) → BeginsWithout (λ line. line ≡ head_line) after → after ≡ head_line ∷ more → ⊥
@@ -113,14 +113,14 @@ not_refused once bare x text histories (Form n) admitted some read refused = no_
 not_refused once bare x text histories NoMemory admitted some read refused = some refl
 
 -- two readings give each role one history
-same_history : (x : Expanded) (text : List ℕ) (one other : List (List Event)) → (read : IsHistoriesText x text one) (also : IsHistoriesText x text other) → read.sections ≡ also.sections → (role : ℕ) → history_at one role ≡ history_at other role
+same_history : (x : Expanded) (text : List ℕ) (one other : List (List Event)) → (read : IsHistoriesText x text one) (also : IsHistoriesText x text other) → read.sections ≡ also.sections → (role : ℕ) → events_at one role ≡ events_at other role
 same_history x text one other read also same role =
     elim (section_or_none read.sections role) [
       | inl found ↦
           let s = found.0 in
-          let named : history_at one s.role ≡ s.events = All-contains (λ t. history_at one t.role ≡ t.events) read.sections s read.named found.1 in
-          let again : history_at other s.role ≡ s.events = All-contains (λ t. history_at other t.role ≡ t.events) read.sections s (subst (All (λ t. history_at other t.role ≡ t.events)) (sym same) also.named) found.1 in
-          ap (history_at one) (sym found.2) ∙ named ∙ sym again ∙ ap (history_at other) found.2
+          let named : events_at one s.role ≡ s.events = All-contains (λ t. events_at one t.role ≡ t.events) read.sections s read.named found.1 in
+          let again : events_at other s.role ≡ s.events = All-contains (λ t. events_at other t.role ≡ t.events) read.sections s (subst (All (λ t. events_at other t.role ≡ t.events)) (sym same) also.named) found.1 in
+          ap (events_at one) (sym found.2) ∙ named ∙ sym again ∙ ap (events_at other) found.2
       | inr none ↦ read.unnamed role none ∙ sym (also.unnamed role (subst (All (λ s. s.role ≢ role)) same none))
     ]
 

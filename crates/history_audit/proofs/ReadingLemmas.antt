@@ -21,9 +21,9 @@ use Rattle.list_base.specs.Lines.{Line, lines_of, end_line}
 use Rattle.run_text.specs.RunText.{event_body, event_line, IsFitting}
 use Rattle.history_audit.specs.declared.section.Section.{Section}
 use Rattle.history_audit.specs.declared.refusal.HistoryRefusal.TheVariants.{Form}
-use Rattle.history_audit.specs.Histories.{AreHistories, history_at}
+use Rattle.history_audit.specs.Histories.{AreHistories, events_at}
 use Rattle.history_audit.specs.HistoryText.{AreSections, head_line, IsHistoriesText, IsSection, role_line, section_text}
-use Rattle.history_audit.specs.Refusal.{after_end, BeginsWithout, breaks, front_lines, GoesOn, IsRefusedText, no_head, section_lines}
+use Rattle.history_audit.specs.Refusal.{after_end, BeginsWithout, breaks, front_lines, MayComeAfter, IsRefusedText, no_head, section_lines}
 use Rattle.history_audit.specs.inner.Reading.{AreHistoriesOf, BeginsBy, BreaksOff, ExtendsBy, IsTaken, role_body}
 
 -- the sections with one line more
@@ -142,9 +142,9 @@ no_open_line line body lacks e =
     last (get_or_push body 10 0 (length body) refl)
 
 -- so bytes without an LF break off
-open_misformed : (x : Expanded) (rest : List ℕ) (sections : List Section) → Lacks 10 rest → BeginsWithout (GoesOn x sections) (lines_of rest)
+open_misformed : (x : Expanded) (rest : List ℕ) (sections : List Section) → Lacks 10 rest → BeginsWithout (MayComeAfter x sections) (lines_of rest)
 open_misformed x [] sections lacks = tt
-open_misformed x (b ∷ rest) sections lacks = subst (BeginsWithout (GoesOn x sections)) (sym (lines-open b rest lacks)) (λ form. elim form [
+open_misformed x (b ∷ rest) sections lacks = subst (BeginsWithout (MayComeAfter x sections)) (sym (lines-open b rest lacks)) (λ form. elim form [
   | inl opens ↦ no_open_line (b ∷ rest) (role_body x opens.role) lacks opens.is
   | inr other ↦ elim other [ inl extends ↦ no_open_line (b ∷ rest) (event_body x extends.event) lacks extends.is | inr is_end ↦ no_open_line (b ∷ rest) (codes "end") lacks is_end ]
 ])
@@ -220,7 +220,7 @@ read_are_histories x text histories read =
         | inr none ↦ subst (IsRun x) (sym (read.unnamed role none)) (All-nil (λ e. Fits x (instance_of e)))
       ];
       own = λ role. elim (section_or_none read.sections role) [
-        | inl found ↦ subst (λ r. All (λ e. role_of x e ≡ r) (history_at histories role)) found.2
+        | inl found ↦ subst (λ r. All (λ e. role_of x e ≡ r) (events_at histories role)) found.2
             (subst (All (λ e. role_of x e ≡ found.0.role)) (is_history found.0 role found.1 found.2) (section found.0 found.1).own)
         | inr none ↦ subst (All (λ e. role_of x e ≡ role)) (sym (read.unnamed role none)) (All-nil (λ e. role_of x e ≡ role))
       ];
@@ -229,8 +229,8 @@ read_are_histories x text histories read =
     section : (s : Section) → Contains read.sections s → IsSection x s
     section s among = All-contains (IsSection x) read.sections s read.are.each among
 
-    is_history : (s : Section) (role : ℕ) → Contains read.sections s → s.role ≡ role → s.events ≡ history_at histories role
-    is_history s role among same = sym (All-contains (λ t. history_at histories t.role ≡ t.events) read.sections s read.named among) ∙ ap (history_at histories) same
+    is_history : (s : Section) (role : ℕ) → Contains read.sections s → s.role ≡ role → s.events ≡ events_at histories role
+    is_history s role among same = sym (All-contains (λ t. events_at histories t.role ≡ t.events) read.sections s read.named among) ∙ ap (events_at histories) same
 
 -- bytes that pass the test are the word
 pub same_word : (line word : List ℕ) → pointwise eqb line word ≡ true → line ≡ word

@@ -15,11 +15,12 @@ use Rattle.bspl_types.specs.declared.event.Event.TheVariants.{Emit, Receive}
 use Rattle.bspl_types.specs.declared.expanded.Expanded.{Expanded}
 use Rattle.bspl_types.specs.Admission.{IsAdmitted}
 use Rattle.bspl_types.specs.History.{instance_of, role_of}
+use Rattle.bspl_types.specs.Expansion.{role_name}
 use Rattle.run_text.specs.Refusal.{LineHasOneEvent}
 use Rattle.run_text.specs.RunText.{event_body, IsFitting}
 use Rattle.history_audit.specs.declared.section.Section.{Section}
-use Rattle.history_audit.specs.HistoryText.{AreSections, IsSection, role_name}
-use Rattle.history_audit.specs.Histories.{history_at}
+use Rattle.history_audit.specs.HistoryText.{AreSections, IsSection}
+use Rattle.history_audit.specs.Histories.{events_at}
 use Rattle.history_audit.specs.inner.Reading.{AreHistoriesOf, BreaksOff, HasSection, IsForeign, role_body}
 
 -- ---- sections become histories
@@ -29,8 +30,8 @@ pub record HaveMoved (x : Expanded) (all left : List Section) (histories : List 
   pub moved : List Section
   pub split : all ≡ left ++ moved
   pub count : length histories ≡ length x.roles
-  pub named : All (λ s. history_at histories s.role ≡ s.events) moved
-  pub unnamed : (role : ℕ) → All (λ s. s.role ≢ role) moved → history_at histories role ≡ []
+  pub named : All (λ s. events_at histories s.role ≡ s.events) moved
+  pub unnamed : (role : ℕ) → All (λ s. s.role ≢ role) moved → events_at histories role ≡ []
 
 -- at first none has
 pub none_moved : (x : Expanded) (all : List Section) (histories : List (List Event)) → histories ≡ replicate (length x.roles) [] → HaveMoved x all all histories
@@ -39,15 +40,15 @@ none_moved x all histories empty =
       moved = [];
       split = sym (append-nil all);
       count = ap length empty ∙ count_empty (length x.roles);
-      named = All-nil (λ s. history_at histories s.role ≡ s.events);
-      unnamed = λ role none. ap (λ hs. history_at hs role) empty ∙ all_empty (length x.roles) role;
+      named = All-nil (λ s. events_at histories s.role ≡ s.events);
+      unnamed = λ role none. ap (λ hs. events_at hs role) empty ∙ all_empty (length x.roles) role;
     }
   where
     count_empty : (n : ℕ) → length (replicate {A = List Event} n []) ≡ n
     count_empty zero = refl
     count_empty (suc n) = ap suc (count_empty n)
 
-    all_empty : (n role : ℕ) → history_at (replicate n []) role ≡ []
+    all_empty : (n role : ℕ) → events_at (replicate n []) role ≡ []
     all_empty zero role = refl
     all_empty (suc n) zero = refl
     all_empty (suc n) (suc role) = all_empty n role
@@ -63,7 +64,7 @@ one_moves x all left fewer s histories are split so_far =
       moved = s ∷ so_far.moved;
       split = whole;
       count = length-set histories s.role s.events ∙ so_far.count;
-      named = All-cons (λ t. history_at (set histories s.role s.events) t.role ≡ t.events) s so_far.moved
+      named = All-cons (λ t. events_at (set histories s.role s.events) t.role ≡ t.events) s so_far.moved
           (get_or-set_same histories s.role s.events [] within)
           (λ k d inside. get_or-set_other histories s.role (get_or so_far.moved k d).role s.events [] (apart k d inside) ∙ so_far.named k d inside);
       unnamed = λ role none.
@@ -85,7 +86,7 @@ all_moved x all left histories none so_far =
     let is : all ≡ so_far.moved = so_far.split ∙ ap (λ ss. ss ++ so_far.moved) none in
     record {
       count = so_far.count;
-      named = subst (All (λ s. history_at histories s.role ≡ s.events)) (sym is) so_far.named;
+      named = subst (All (λ s. events_at histories s.role ≡ s.events)) (sym is) so_far.named;
       unnamed = λ role absent. so_far.unnamed role (subst (All (λ s. s.role ≢ role)) is absent);
     }
 

@@ -11,11 +11,12 @@ use Rattle.bspl_types.specs.declared.event.Event.{Event}
 use Rattle.bspl_types.specs.declared.expanded.Expanded.{Expanded}
 use Rattle.bspl_types.specs.Admission.{IsAdmitted}
 use Rattle.bspl_types.specs.History.{instance_of, role_of}
+use Rattle.bspl_types.specs.Expansion.{role_name}
 use Rattle.run_text.specs.Names.{EventsAreLines, NamesAreFields}
 use Rattle.run_text.specs.Refusal.{LineHasOneEvent}
 use Rattle.run_text.specs.RunText.{event_body, event_line, IsFitting}
 use Rattle.history_audit.specs.declared.section.Section.{Section}
-use Rattle.history_audit.specs.HistoryText.{AreSections, head_line, histories_text, IsSection, role_line, role_name, section_text}
+use Rattle.history_audit.specs.HistoryText.{AreSections, head_line, histories_text, IsSection, role_line, section_text}
 use Rattle.history_audit.specs.Refusal.{ExtendsSection, front_lines, OpensSection, section_lines}
 use Rattle.history_audit.specs.inner.Reading.{role_body}
 use Rattle.history_audit.proofs.SectionLemmas.{one_role, role_is_no_event}

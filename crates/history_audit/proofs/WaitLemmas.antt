@@ -19,7 +19,7 @@ use Rattle.enactment_model.specs.Legal.{MayFollow}
 use Rattle.run_index.specs.FirstDisabled.{IsEnabledAfter, IsFirstDisabled}
 use Rattle.run_index.specs.FirstEmission.{IsFirstEmission}
 use Rattle.history_audit.specs.BadPlace.{HasNoBadPlace, IsWhy, MayHappen}
-use Rattle.history_audit.specs.Histories.{history_at}
+use Rattle.history_audit.specs.Histories.{events_at}
 use Rattle.history_audit.specs.inner.Places.{AreOwn, IsFirstBad, IsFirstBadOf, IsFirstUnsent}
 use Rattle.history_audit.specs.inner.Waits.{AreWaits, HaveWaits, IsSent, IsWait}
 use Rattle.history_audit.proofs.PlaceLemmas.{all_at, own_history}
@@ -49,7 +49,7 @@ wait_in x histories history waits k e d are at =
     (zip_at (IsWait x histories) history waits k e d are (slice_get_within history k e at))
 
 -- the waits of a history
-pub waits_at : (x : Expanded) (histories : List (List Event)) (waits : List (List ℕ)) (role : ℕ) (d : List ℕ) → HaveWaits x histories waits → role < length histories → AreWaits x histories (history_at histories role) (get_or waits role d)
+pub waits_at : (x : Expanded) (histories : List (List Event)) (waits : List (List ℕ)) (role : ℕ) (d : List ℕ) → HaveWaits x histories waits → role < length histories → AreWaits x histories (events_at histories role) (get_or waits role d)
 waits_at x histories waits role d have within = zip_at (AreWaits x histories) histories waits role [] d have within
 
 -- an emission that is enabled after its role's own events may happen
@@ -96,13 +96,13 @@ pub own_follows : (x : Expanded) (histories : List (List Event)) (role : ℕ) (b
 own_follows x histories role before i own own_event may = enabled_may x histories role before (Emit i) own own_event may tt
 
 -- a history whose first bad place is its end has none
-pub none_bad_of : (x : Expanded) (histories : List (List Event)) (role : ℕ) (history : List Event) (n : ℕ) → history ≡ history_at histories role → IsFirstBad x histories history n → length history ≤ n → HasNoBadPlace x histories role
+pub none_bad_of : (x : Expanded) (histories : List (List Event)) (role : ℕ) (history : List Event) (n : ℕ) → history ≡ events_at histories role → IsFirstBad x histories history n → length history ≤ n → HasNoBadPlace x histories role
 none_bad_of x histories role history n same first is_end =
     subst (λ (es : List Event). (k : ℕ) (e : Event) → slice_get es k ≡ Some e → MayHappen x histories (take k es) e) same
     (λ k e at. first.fine k e (omega (arith, is_end, slice_get_within history k e at)) at)
 
 -- the first bad place of a history
-pub bad_of : (x : Expanded) (histories : List (List Event)) (role : ℕ) (history : List Event) (n place : ℕ) (e : Event) (why : Why) → history ≡ history_at histories role → IsFirstBad x histories history n → slice_get (history_at histories role) n ≡ Some e
+pub bad_of : (x : Expanded) (histories : List (List Event)) (role : ℕ) (history : List Event) (n place : ℕ) (e : Event) (why : Why) → history ≡ events_at histories role → IsFirstBad x histories history n → slice_get (events_at histories role) n ≡ Some e
     → ((others : List (List Event)) → ¬ MayHappen x others (take n history) e → IsWhy x (take n history) e why) → place ≡ n + 1 → IsFirstBadOf x histories role (record { role = role; place = place; why = why })
 bad_of x histories role history n place e why same first at reason is =
     let there : slice_get history n ≡ Some e = ap (λ (es : List Event). slice_get es n) same ∙ at in

@@ -17,10 +17,10 @@ pub record IsOnlyCycle (x : Expanded) (histories : List (List Event)) (points : 
   pub cycle : IsCycle x histories points
 
 -- the first bad place; or a cycle, if no place is bad
-abbrev pub IsFault : Expanded → List (List Event) → AuditNo → Type 0
-IsFault x histories (Bad role place why) = IsFirstBadPlace x histories role place why
-IsFault x histories (Cycle points) = IsOnlyCycle x histories points
-IsFault x histories NoMemory = Unit {0}
+abbrev pub IsAuditFault : Expanded → List (List Event) → AuditNo → Type 0
+IsAuditFault x histories (Bad role place why) = IsFirstBadPlace x histories role place why
+IsAuditFault x histories (Cycle points) = IsOnlyCycle x histories points
+IsAuditFault x histories NoMemory = Unit {0}
 
 -- no run explains the histories
 abbrev pub HasNoExplanation : Expanded → List (List Event) → Type 0

@@ -9,20 +9,20 @@ use Rattle.bspl_types.specs.Knowledge.{IsEnabled}
 use Rattle.enactment_model.specs.BadEvent.{IsFirstReason}
 use Rattle.enactment_model.specs.declared.bad_event.Why.{Why}
 use Rattle.enactment_model.specs.declared.bad_event.Why.TheVariants.{Unsent}
-use Rattle.history_audit.specs.Histories.{history_at}
+use Rattle.history_audit.specs.Histories.{events_at}
 
 -- an emission is enabled in its role's own events before it; what is received is emitted somewhere
 -- in its sender's history
 abbrev pub MayHappen : Expanded → List (List Event) → List Event → Event → Type 0
 MayHappen x histories before (Emit i) = IsEnabled x before i
 MayHappen x histories before (Receive i) =
-    Contains (history_at histories (message_of x i.message).sender) (Emit i)
+    Contains (events_at histories (message_of x i.message).sender) (Emit i)
 
 -- each event of the role's history may happen
 abbrev pub HasNoBadPlace : Expanded → List (List Event) → ℕ → Type 0
 HasNoBadPlace x histories role =
-    (k : ℕ) (e : Event) → slice_get (history_at histories role) k ≡ Some e →
-    MayHappen x histories (take k (history_at histories role)) e
+    (k : ℕ) (e : Event) → slice_get (events_at histories role) k ≡ Some e →
+    MayHappen x histories (take k (events_at histories role)) e
 
 -- so it is with each role: no place is bad
 abbrev pub AllMayHappen : Expanded → List (List Event) → Type 0
@@ -38,9 +38,9 @@ IsWhy x before (Receive i) why = why ≡ Unsent
 pub record IsBadAt (x : Expanded) (histories : List (List Event)) (role index : ℕ) (why : Why)
     : Type 0 where
   pub event : Event
-  pub at : slice_get (history_at histories role) index ≡ Some event
-  pub bad : ¬ MayHappen x histories (take index (history_at histories role)) event
-  pub why_is : IsWhy x (take index (history_at histories role)) event why
+  pub at : slice_get (events_at histories role) index ≡ Some event
+  pub bad : ¬ MayHappen x histories (take index (events_at histories role)) event
+  pub why_is : IsWhy x (take index (events_at histories role)) event why
 
 -- the first bad place, from 1, of the first role that has one, and why it is bad
 pub record IsFirstBadPlace (x : Expanded) (histories : List (List Event)) (role place : ℕ)
@@ -48,6 +48,6 @@ pub record IsFirstBadPlace (x : Expanded) (histories : List (List Event)) (role 
   pub index : ℕ
   pub place_is : place ≡ index + 1
   pub bad : IsBadAt x histories role index why
-  pub before : (k : ℕ) (e : Event) → k < index → slice_get (history_at histories role) k ≡ Some e →
-      MayHappen x histories (take k (history_at histories role)) e
+  pub before : (k : ℕ) (e : Event) → k < index → slice_get (events_at histories role) k ≡ Some e →
+      MayHappen x histories (take k (events_at histories role)) e
   pub lower_roles : (other : ℕ) → other < role → HasNoBadPlace x histories other

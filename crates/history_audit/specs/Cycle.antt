@@ -9,13 +9,13 @@ use Rattle.bspl_types.specs.declared.expanded.Expanded.{Expanded}
 use Rattle.bspl_types.specs.Expansion.{message_of}
 use Rattle.run_index.specs.FirstEmission.{IsFirstEmission}
 use Rattle.history_audit.specs.declared.audit_no.Point.{Point}
-use Rattle.history_audit.specs.Histories.{history_at}
+use Rattle.history_audit.specs.Histories.{events_at}
 
 -- at the point, a place of its role's history from 1, is this event
 pub record IsAt (histories : List (List Event)) (p : Point) (event : Event) : Type 0 where
   pub index : ℕ
   pub place_is : p.place ≡ index + 1
-  pub at : slice_get (history_at histories p.role) index ≡ Some event
+  pub at : slice_get (events_at histories p.role) index ≡ Some event
 
 -- a receipt at the point waits for the first emission of its instance, which belongs to the other
 -- point's role and comes after that point
@@ -24,8 +24,8 @@ pub record WaitsBehind (x : Expanded) (histories : List (List Event)) (p q : Poi
   pub receipt : IsAt histories p (Receive instance)
   pub sender : (message_of x instance.message).sender ≡ q.role
   pub awaited : ℕ
-  pub first : IsFirstEmission (history_at histories q.role) instance awaited
-  pub emitted : awaited < length (history_at histories q.role)
+  pub first : IsFirstEmission (events_at histories q.role) instance awaited
+  pub emitted : awaited < length (events_at histories q.role)
   pub after : q.place < awaited + 1
 
 -- each point waits behind the next one, and the last behind this one

@@ -1,21 +1,18 @@
 -- The text of histories: a head, a section for each role that has one, and `end`.
-use Rattle.std.specs.Prelude.{◌≡◌, ◌≢◌, ℕ, ◌<◌, List, [], ◌∷◌, ◌++◌, codes, length, slice_index_or}
+use Rattle.std.specs.Prelude.{◌≡◌, ◌≢◌, ℕ, ◌<◌, List, [], ◌∷◌, ◌++◌, codes, length}
 use Rattle.std.specs.List.{All, AllPairs, flat_map}
 use Rattle.bspl_types.specs.declared.event.Event.{Event}
 use Rattle.bspl_types.specs.declared.expanded.Expanded.{Expanded}
 use Rattle.bspl_types.specs.History.{instance_of, role_of}
+use Rattle.bspl_types.specs.Expansion.{role_name}
 use Rattle.list_base.specs.Lines.{line_of, end_line}
 use Rattle.run_text.specs.RunText.{event_line, IsFitting}
 use Rattle.history_audit.specs.declared.section.Section.{Section}
-use Rattle.history_audit.specs.Histories.{history_at}
+use Rattle.history_audit.specs.Histories.{events_at}
 
 -- the first line: the version is 1
 abbrev pub head_line : List ℕ
 head_line = line_of (codes "histories" ∷ codes "1" ∷ [])
-
--- the name of the role
-abbrev pub role_name : Expanded → ℕ → List ℕ
-role_name x role = slice_index_or x.roles role []
 
 -- the line that begins a role's section
 abbrev pub role_line : Expanded → ℕ → List ℕ
@@ -47,5 +44,5 @@ pub record IsHistoriesText (x : Expanded) (bytes : List ℕ) (histories : List (
   pub are : AreSections x sections
   pub text : bytes ≡ histories_text x sections
   pub count : length histories ≡ length x.roles
-  pub named : All (λ s. history_at histories s.role ≡ s.events) sections
-  pub unnamed : (role : ℕ) → All (λ s. s.role ≢ role) sections → history_at histories role ≡ []
+  pub named : All (λ s. events_at histories s.role ≡ s.events) sections
+  pub unnamed : (role : ℕ) → All (λ s. s.role ≢ role) sections → events_at histories role ≡ []

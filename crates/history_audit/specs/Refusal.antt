@@ -37,8 +37,8 @@ pub record ExtendsSection (x : Expanded) (sections : List Section) (line : Line)
   pub is : line ≡ event_line x event
 
 -- the line may come after these sections
-abbrev pub GoesOn : Expanded → List Section → Line → Type 0
-GoesOn x sections line =
+abbrev pub MayComeAfter : Expanded → List Section → Line → Type 0
+MayComeAfter x sections line =
     OpensSection x sections line ⊎ (ExtendsSection x sections line ⊎ (line ≡ end_line))
 
 -- there is no line, or a first one that is not so
@@ -53,7 +53,7 @@ pub data IsFirstBadLine (x : Expanded) (text : List ℕ) : ℕ → Type 0 where
       BeginsWithout (λ line. line ≡ head_line) after → IsFirstBadLine x text 1
   breaks : (sections : List Section) (after : List Line) (n : ℕ) → AreSections x sections →
       lines_of text ≡ front_lines x sections ++ after →
-      BeginsWithout (GoesOn x sections) after → n ≡ length (front_lines x sections) + 1 →
+      BeginsWithout (MayComeAfter x sections) after → n ≡ length (front_lines x sections) + 1 →
       IsFirstBadLine x text n
   after_end : (sections : List Section) (line : Line) (after : List Line) (n : ℕ) →
       AreSections x sections → lines_of text ≡ front_lines x sections ++ end_line ∷ line ∷ after →

@@ -1,7 +1,7 @@
 ghost use Rattle.std.specs.Prelude.{◌≢◌, IfErr, IfOk};
 ghost use Rattle.bspl_types.specs.Admission.{IsAdmitted};
 ghost use Rattle.history_audit.specs.declared.audit_no.AuditNo.TheVariants.{NoMemory};
-ghost use Rattle.history_audit.specs.Audit.{HasNoExplanation, IsFault};
+ghost use Rattle.history_audit.specs.Audit.{HasNoExplanation, IsAuditFault};
 ghost use Rattle.history_audit.specs.Histories.{AreHistories, Explains};
 
 use super::audit_no::AuditNo;
@@ -17,7 +17,7 @@ use std::alloc::Global;
 pub fn audit(alloc: Global, a: &Admitted, histories: &Histories) -> Result<Run, AuditNo>
     requires { AreHistories a.now histories.now }
     ensures ok { IfOk result (λ run. Explains a.now run histories.now) }
-    ensures fault { IfErr result (IsFault a.now histories.now) }
+    ensures fault { IfErr result (IsAuditFault a.now histories.now) }
 
     // If some run explains the histories, one is found, unless memory runs out.
     ensures none { IfErr result (λ no. no ≢ NoMemory → HasNoExplanation a.now histories.now) }
@@ -32,7 +32,7 @@ fn explain(alloc: Global, x: &Expanded, histories: &[Run]) -> Result<Run, AuditN
     requires admitted { IsAdmitted x.now }
     requires histories { AreHistories x.now histories.now }
     ensures ok { IfOk result (λ run. Explains x.now run histories.now) }
-    ensures fault { IfErr result (IsFault x.now histories.now) }
+    ensures fault { IfErr result (IsAuditFault x.now histories.now) }
 {
     let waits = judge(alloc, x, histories)?;
     merge(alloc, x, histories, waits.as_slice())

@@ -1,5 +1,5 @@
 ghost use Rattle.std.specs.Prelude.{◌≡◌, IfErr, IfOk};
-ghost use Rattle.history_audit.specs.Audit.{IsFault};
+ghost use Rattle.history_audit.specs.Audit.{IsAuditFault};
 ghost use Rattle.history_audit.specs.Histories.{AreHistories};
 ghost use Rattle.history_audit.specs.inner.Waits.{IsJudged};
 
@@ -15,7 +15,7 @@ use std::alloc::Global;
 pub(crate) fn judge(alloc: Global, x: &Expanded, histories: &[Run]) -> Result<Seq<Waits>, AuditNo>
     requires { AreHistories x.now histories.now }
     ensures ok { IfOk result (IsJudged x.now histories.now) }
-    ensures bad { IfErr result (IsFault x.now histories.now) }
+    ensures bad { IfErr result (IsAuditFault x.now histories.now) }
 {
     let indices = index_all(alloc, histories)?;
     let waits = all_waits(alloc, x, indices.as_slice(), histories)?;

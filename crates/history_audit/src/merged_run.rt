@@ -4,7 +4,7 @@ ghost use Rattle.bspl_types.specs.declared.event.Event.{Event};
 ghost use Rattle.bspl_types.specs.Admission.{IsAdmitted};
 ghost use Rattle.bspl_types.specs.History.{instance_of};
 ghost use Rattle.bspl_types.specs.Instance.{Fits};
-ghost use Rattle.history_audit.specs.Audit.{IsFault};
+ghost use Rattle.history_audit.specs.Audit.{IsAuditFault};
 ghost use Rattle.history_audit.specs.Histories.{AreHistories, Explains};
 ghost use Rattle.history_audit.specs.inner.Merging.{AreWithin, IsHeldBack, IsReady, IsStuck};
 ghost use Rattle.history_audit.specs.inner.Merging.{IsUnfinished, MayCome};
@@ -30,7 +30,7 @@ pub(crate) fn merge(
     requires histories { AreHistories x.now histories.now }
     requires judged { IsJudged x.now histories.now waits.now }
     ensures ok { IfOk result (λ run. Explains x.now run histories.now) }
-    ensures cycle { IfErr result (IsFault x.now histories.now) }
+    ensures cycle { IfErr result (IsAuditFault x.now histories.now) }
 {
     // law: a run is legal exactly if the event at each position may follow those before it
     legal_by_positions();

@@ -10,7 +10,7 @@ use Rattle.refutation_log.specs.declared.refutation.Kind.{Kind}
 use Rattle.refutation_log.specs.declared.refutation.Log.{Log}
 use Rattle.refutation_log.specs.declared.refusal.LogRefusal.{LogRefusal}
 use Rattle.refutation_log.specs.declared.refusal.LogRefusal.TheVariants as refusals
-use Rattle.library_uses.specs.Uses.{IsRefutation}
+use Rattle.library_uses.specs.Uses.{RefutesByText}
 
 -- whatever has a text is read, memory aside
 abbrev pub Reads : List ℕ → Result (Kind × Log) LogRefusal → Type 0
@@ -22,7 +22,7 @@ not_read _ refusal read (inl same) failed known = let both = sym same ∙ failed
 not_read _ refusal read (inr short) failed known = let both = sym failed ∙ short in known cc
 
 -- a text that is not read is no refutation
-pub unread : (f : Formula) (text : List ℕ) (result : Result (Kind × Log) LogRefusal) (refusal : LogRefusal) → Reads text result → result ≡ Err refusal → refusal ≢ refusals.NoMemory → ¬ IsRefutation f text
+pub unread : (f : Formula) (text : List ℕ) (result : Result (Kind × Log) LogRefusal) (refusal : LogRefusal) → Reads text result → result ≡ Err refusal → refusal ≢ refusals.NoMemory → ¬ RefutesByText f text
 unread f text result refusal reads failed known refutation =
     not_read result refusal (refutation.kind, refutation.log) (reads refutation.kind refutation.log refutation.written) failed known
 
@@ -37,7 +37,7 @@ not_checked (Ok done) reject unless failed known = cc
 not_checked (Err e) reject unless failed known = let same : reject ≡ e = cc in known (same ∙ unless)
 
 -- a text whose log is not accepted is no refutation
-pub rejected : (f : Formula) (text : List ℕ) (result : Result (Kind × Log) LogRefusal) (read : Kind × Log) (checked : Result (Unit {0}) Reject) (reject : Reject) → Reads text result → result ≡ Ok read → (Accepts f read.1 → IsOkUnless checked rejects.NoMemory) → checked ≡ Err reject → reject ≢ rejects.NoMemory → ¬ IsRefutation f text
+pub rejected : (f : Formula) (text : List ℕ) (result : Result (Kind × Log) LogRefusal) (read : Kind × Log) (checked : Result (Unit {0}) Reject) (reject : Reject) → Reads text result → result ≡ Ok read → (Accepts f read.1 → IsOkUnless checked rejects.NoMemory) → checked ≡ Err reject → reject ≢ rejects.NoMemory → ¬ RefutesByText f text
 rejected f text result read checked reject reads done accepts failed known refutation =
     let same = same_log result refutation.kind refutation.log read (reads refutation.kind refutation.log refutation.written) done in
     not_checked checked reject (accepts (subst (Accepts f) same refutation.accepted)) failed known

@@ -49,13 +49,13 @@ abbrev pub IsSatisfiable : List (List Lit) → Type 0
 IsSatisfiable clauses = (v : ℕ → Bool) × SatisfiesAll v clauses
 
 -- the answer is right, and there is one unless a log spends 1,000 conflicts
-abbrev pub IsAnswer : Formula → Option Bool → Type 0
-IsAnswer f (Some true) = IsSatisfiable f.clauses
-IsAnswer f (Some false) = IsUnsatisfiable f.clauses
-IsAnswer f None = (log : Log) × Spends f 1000 log
+abbrev pub IsTrueAnswer : Formula → Option Bool → Type 0
+IsTrueAnswer f (Some true) = IsSatisfiable f.clauses
+IsTrueAnswer f (Some false) = IsUnsatisfiable f.clauses
+IsTrueAnswer f None = (log : Log) × Spends f 1000 log
 
 -- the text is that of a log that is accepted
-pub record IsRefutation (f : Formula) (text : List ℕ) : Type 0 where
+pub record RefutesByText (f : Formula) (text : List ℕ) : Type 0 where
   pub kind : Kind
   pub log : Log
   pub written : IsTextOf text kind log
@@ -63,7 +63,7 @@ pub record IsRefutation (f : Formula) (text : List ℕ) : Type 0 where
 
 -- the sender may begin with the message under the key, and its store has that event alone, with
 -- the chosen values
-pub record BeginsWith
+pub record BeginsEnactment
     (x : Expanded) (message : ℕ) (key outs : List Value) (s : StoreState) : Type 0 where
   pub protocol : s.protocol ≡ x
   pub role : s.role ≡ (message_of x message).sender

@@ -1,6 +1,6 @@
 ghost use Rattle.std.specs.Prelude.{◌+◌, ◌<◌, ◌^◌, ◌↔◌, length, IfOk, IsTrue};
 ghost use Rattle.clause_core.specs.Clause.{IsUnsatisfiable};
-ghost use Rattle.library_uses.specs.Uses.{IsRefutation};
+ghost use Rattle.library_uses.specs.Uses.{RefutesByText};
 
 use clause_core::Formula;
 use list_base::NoMemory;
@@ -11,7 +11,7 @@ use std::alloc::Global;
 /// Whether the text is that of a log that refutes the formula, whoever wrote it.
 pub fn is_refuted(alloc: Global, f: &Formula, text: &[u8]) -> Result<bool, NoMemory>
     requires { length f.now.clauses + length text.now < 2 ^ 32 }
-    ensures exact { IfOk result (λ yes. IsTrue yes ↔ IsRefutation f.now text.now) }
+    ensures exact { IfOk result (λ yes. IsTrue yes ↔ RefutesByText f.now text.now) }
     ensures sound { IfOk result (λ yes. IsTrue yes → IsUnsatisfiable f.now.clauses) }
 {
     // law: a log has no more steps than its text has bytes

@@ -1,7 +1,7 @@
 ghost use Rattle.std.specs.Prelude.{◌≡◌, ◌<◌, [], length, IfOk, MatchOption};
 ghost use Rattle.bspl_types.specs.Choice.{chosen_params};
 ghost use Rattle.bspl_types.specs.Knowledge.{CanEmit};
-ghost use Rattle.library_uses.specs.Uses.{BeginsWith};
+ghost use Rattle.library_uses.specs.Uses.{BeginsEnactment};
 
 use bspl_types::{Admitted, Key, Value};
 use list_base::NoMemory;
@@ -22,7 +22,7 @@ pub fn begun_store(
     requires chosen { length outs.now ≡ length (chosen_params a.now message) }
     ensures { IfOk result (λ begun. MatchOption begun
         (¬ CanEmit a.now [] message key.now)
-        (BeginsWith a.now message key.now outs.now)) }
+        (BeginsEnactment a.now message key.now outs.now)) }
 {
     let sender = a.expanded().message_at(message).sender;
     let mut store = Store::new(alloc, a, sender)?;

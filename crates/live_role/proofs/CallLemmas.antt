@@ -1,14 +1,14 @@
 -- How a call ends, and which faults are counted.
 use Rattle.std.proofs.Common.{◌≡◌, ℕ, List, Option, Result, Ok, Err, refl, subst}
-use Rattle.bspl_io.specs.Faults.{HasCounted}
+use Rattle.bspl_io.specs.Faults.{HasCounted, FaultCounts}
 use Rattle.list_base.specs.declared.memory.NoMemory.{NoMemory as OutOfMemory}
-use Rattle.program_frame.specs.Call.{AreCounted, FaultCounts}
+use Rattle.program_frame.specs.Call.{AreCounted}
 use Rattle.program_frame.specs.Prepared.{AreWritesCounted}
 use Rattle.program_frame.specs.Reply.{IsWritten}
 use Rattle.program_frame.specs.declared.ending.Ending.{Ending}
 use Rattle.program_frame.specs.declared.ending.Ending.TheVariants as ending
 use Rattle.program_frame.specs.declared.reply.Reply.{Reply}
-use Rattle.role_server.specs.Stream.{AreFaultsCounted, FaultCounts as StreamCounts}
+use Rattle.role_server.specs.Stream.{AreFaultsCounted}
 use Rattle.role_server.specs.declared.refusal.ServeRefusal.{ServeRefusal}
 use Rattle.role_server.specs.declared.refusal.ServeRefusal.TheVariants as refusal
 use Rattle.live_role.specs.Call.{serving_ending}
@@ -29,7 +29,7 @@ reply_counted counts made old new end written reads writes = record {
 }
 
 -- after serving those of both
-pub serving_counted : {X : Type 0} (counts : StreamCounts) (served : Result X ServeRefusal) → AreFaultsCounted counts served → AreCounted (record { reads = counts.reads; reads_after = counts.reads_after; writes = counts.writes; writes_after = counts.writes_after }) (serving_ending served)
+pub serving_counted : {X : Type 0} (counts : FaultCounts) (served : Result X ServeRefusal) → AreFaultsCounted counts served → AreCounted (record { reads = counts.reads; reads_after = counts.reads_after; writes = counts.writes; writes_after = counts.writes_after }) (serving_ending served)
 serving_counted counts (Ok x) is = record {
   read_fault = λ fault. absurd cc;
   write_fault = λ fault. absurd cc;

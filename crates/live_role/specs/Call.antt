@@ -22,7 +22,7 @@ use Rattle.tool_input.specs.Rejection.{lacks_part, over_limit, rejection_line}
 use Rattle.tool_input.specs.RoleName.{IsRoleNamed}
 use Rattle.live_role.specs.Judgement.{Declines}
 use Rattle.live_role.specs.Opening.{EndsUnopened, IsUnopenedTooLong, TakesOpening}
-use Rattle.live_role.specs.Request.{IsUsage, Requests}
+use Rattle.live_role.specs.Request.{RequestsNothing, RequestsRole}
 
 -- the line for invalid arguments
 abbrev pub role_usage : List ℕ
@@ -42,7 +42,7 @@ pub data IsDeclined (name role : List ℕ) (checked : Bool) (old new : Option (L
       → Declines name role checked text out status → IsDeclined name role checked old new out status
 
 -- a right reply was made, and written as far as the ending says; or memory ran out
-pub record IsReplied (right : List ℕ → Status → Type 0) (t : Traffic) (end : Ending Status)
+pub record RepliesRightly (right : List ℕ → Status → Type 0) (t : Traffic) (end : Ending Status)
     : Type 0 where
   pub made : Result (Reply Status) OutOfMemory
   pub is_right : IfOk made (λ reply. right reply.text reply.status)
@@ -84,16 +84,16 @@ pub record ServesRole (name role : List ℕ) (checked : Bool) (t : Traffic) (end
 -- a call with these arguments
 pub data IsRoleCall (args : List (List ℕ)) (t : Traffic) (end : Ending Status) : Type 0 where
   -- the arguments are invalid, and nothing is taken
-  usage : IsUsage args → t.remaining_after ≡ t.remaining
-      → IsReplied (λ out status. (out ≡ role_usage) × (status ≡ Usage)) t end
+  usage : RequestsNothing args → t.remaining_after ≡ t.remaining
+      → RepliesRightly (λ out status. (out ≡ role_usage) × (status ≡ Usage)) t end
       → IsRoleCall args t end
   -- the role is not served
-  declined : (name role : List ℕ) (checked : Bool) → Requests args name role checked
-      → IsReplied (IsDeclined name role checked t.remaining t.remaining_after) t end
+  declined : (name role : List ℕ) (checked : Bool) → RequestsRole args name role checked
+      → RepliesRightly (IsDeclined name role checked t.remaining t.remaining_after) t end
       → IsRoleCall args t end
   -- reading fails before it is
-  unread : (name role : List ℕ) (checked : Bool) → Requests args name role checked
+  unread : (name role : List ℕ) (checked : Bool) → RequestsRole args name role checked
       → end ≡ ending.ReadFault → t.contents_after ≡ t.contents → IsRoleCall args t end
   -- it is served
-  served : (name role : List ℕ) (checked : Bool) → Requests args name role checked
+  served : (name role : List ℕ) (checked : Bool) → RequestsRole args name role checked
       → ServesRole name role checked t end → IsRoleCall args t end

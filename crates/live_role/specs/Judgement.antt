@@ -14,12 +14,12 @@ use Rattle.tool_input.specs.RoleName.{IsRoleNamed, unknown_role}
 use Rattle.tool_input.specs.TextRefusal.{RefusesText}
 use Rattle.verdict.specs.declared.outcome.Safety.TheVariants as safety
 use Rattle.verdict.specs.declared.outcome.Verdicts.{Verdicts}
-use Rattle.verdict.specs.Verdicts.{AreRight}
+use Rattle.verdict.specs.Verdicts.{AreRightAnswers}
 
 -- the answer is that of right verdicts, with 10000 conflicts each, and it is not found safe
 pub record IsNotFoundSafe (x : Expanded) (out : List ℕ) (status : Status) : Type 0 where
   pub verdicts : Verdicts
-  pub right : AreRight x 10000 verdicts
+  pub right : AreRightAnswers x 10000 verdicts
   pub not_safe : (log : Log) → verdicts.safety ≢ safety.Safe log
   pub text : out ≡ verdict_text x verdicts true
   pub ends : status ≡ verdict_status verdicts.safety verdicts.liveness

@@ -8,10 +8,10 @@ pub record AreNames (name role : List ℕ) : Type 0 where
   pub role_too : IsTrue (is_name role)
 
 -- the arguments are the names of a protocol and of a role, and `--unchecked` if it is not judged
-pub record Requests (args : List (List ℕ)) (name role : List ℕ) (checked : Bool) : Type 0 where
+pub record RequestsRole (args : List (List ℕ)) (name role : List ℕ) (checked : Bool) : Type 0 where
   pub arguments : args ≡ name ∷ role ∷ (if checked then [] else codes "--unchecked" ∷ [])
   pub named : AreNames name role
 
 -- the arguments are invalid: they request nothing
-abbrev pub IsUsage : List (List ℕ) → Type 0
-IsUsage args = (name role : List ℕ) (checked : Bool) → ¬ Requests args name role checked
+abbrev pub RequestsNothing : List (List ℕ) → Type 0
+RequestsNothing args = (name role : List ℕ) (checked : Bool) → ¬ RequestsRole args name role checked

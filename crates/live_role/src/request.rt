@@ -1,5 +1,5 @@
 ghost use Rattle.std.specs.Prelude.{map, string_bytes, MatchOption};
-ghost use Rattle.live_role.specs.Request.{AreNames, IsUsage, Requests};
+ghost use Rattle.live_role.specs.Request.{AreNames, RequestsNothing, RequestsRole};
 ghost use Rattle.live_role.specs.inner.Request.{IsRequest};
 
 use super::same::are_same;
@@ -17,8 +17,8 @@ pub struct Request<'a> {
 /// What the arguments request, unless they are invalid.
 pub fn request_of(args: &[String]) -> Option<Request<'_>>
     ensures { MatchOption result
-        (IsUsage (map string_bytes args.now))
-        (λ r. Requests (map string_bytes args.now) r.name.now r.role.now r.checked) }
+        (RequestsNothing (map string_bytes args.now))
+        (λ r. RequestsRole (map string_bytes args.now) r.name.now r.role.now r.checked) }
 {
     match args {
         [name, role] => named(name.as_bytes(), role.as_bytes(), true),

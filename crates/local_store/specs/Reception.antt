@@ -53,8 +53,9 @@ abbrev pub WasReceived : StoreState → Stamped → Type 0
 WasReceived s m = Contains (acts_of s) (Receive m.instance)
 
 -- the receipt is appended, with a stamp above the clock and the message's stamp (Lamport 1978)
-abbrev pub received : StoreState → Stamped → StoreState
-received s m = with_entry s (Receive m.instance) (max (last_stamp s.entries) m.stamp + 1) m.number
+abbrev pub with_receipt : StoreState → Stamped → StoreState
+with_receipt s m =
+    with_entry s (Receive m.instance) (max (last_stamp s.entries) m.stamp + 1) m.number
 
 -- the answer, exactly if this holds of the message, and what the store is afterwards
 abbrev pub IsReceipt : StoreState → Stamped → Receipt → StoreState → Type 0
@@ -63,7 +64,8 @@ IsReceipt old m (Differs param kept arrived) new =
     (¬ WasReceived old m) ×
     IsFirstDifference old.protocol (acts_of old) m.instance param kept arrived × (new ≡ old)
 IsReceipt old m Fresh new =
-    (¬ WasReceived old m) × AllAgree old.protocol (acts_of old) m.instance × (new ≡ received old m)
+    (¬ WasReceived old m) × AllAgree old.protocol (acts_of old) m.instance
+    × (new ≡ with_receipt old m)
 
 -- the answer that the store gives to the message if it comes next
 abbrev pub IsForeseen : StoreState → Stamped → Receipt → Type 0

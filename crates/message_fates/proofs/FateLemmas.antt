@@ -8,7 +8,7 @@ use Rattle.std.proofs.lemmas.Option.{get_or_from_slice_get, slice_get-get_or, sl
 use Rattle.bspl_types.specs.declared.expanded.Expanded.{Expanded}
 use Rattle.enactability.specs.declared.outcome.Enact.{Enact}
 use Rattle.enactability.specs.declared.outcome.Enact.TheVariants.{Undecided}
-use Rattle.enactability.specs.Answer.{IsAnswered}
+use Rattle.enactability.specs.Answer.{IsRightEnact}
 use Rattle.message_fates.specs.declared.fate.Fate.{Fate}
 use Rattle.message_fates.specs.declared.fate.Fate.TheVariants as fates
 use Rattle.refutation_log.specs.declared.refutation.Log.{Log}
@@ -67,5 +67,5 @@ known_found x budget known fates one_each all are =
     (λ m fate _ at. known_is_right x budget m fate (are m fate (ap (λ list. slice_get list m) all ∙ slice_get-map Some fates m ∙ ap (option_map Some) at)))
 
 -- and the answer of a search that spent its budget
-pub spent_search : (x : Expanded) (budget m : ℕ) (answer : Enact) (log : Log) → IsAnswered x m budget answer → answer ≡ Undecided log → IsUndecidedMessage x budget m
-spent_search x budget m answer log right is = record { log = log; spent = subst (IsAnswered x m budget) is right }
+pub spent_search : (x : Expanded) (budget m : ℕ) (answer : Enact) (log : Log) → IsRightEnact x m budget answer → answer ≡ Undecided log → IsUndecidedMessage x budget m
+spent_search x budget m answer log right is = record { log = log; spent = subst (IsRightEnact x m budget) is right }

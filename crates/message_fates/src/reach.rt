@@ -25,7 +25,7 @@ pub(crate) fn reach(x: &Expanded) -> [bool; MESSAGE_LIMIT] {
     reach
 }
 
-/// Whether each message whose sender is told each `in` parameter by reached messages is reached.
+/// Whether each message whose sender learns each `in` parameter from reached messages is reached.
 pub(crate) fn is_closed(x: &Expanded, reach: &[bool]) -> bool
     ensures { IsTrue result → IsClosed x.now reach.now }
 {

@@ -8,7 +8,7 @@ use Rattle.text_lines.specs.Decimal.{IsReadUpTo}
 use Rattle.text_lines.specs.declared.decimal.DecimalError.{DecimalError}
 use Rattle.text_lines.specs.declared.decimal.DecimalError.TheVariants.{Form, TooLarge}
 use Rattle.more_commands.specs.declared.can_arguments.Kind.TheVariants.{Brief, Conflicts, Name}
-use Rattle.more_commands.specs.CanArguments.{AsksCan, CanTask, IsFlag, SetsConflicts, WritesBudget, is_kind}
+use Rattle.more_commands.specs.CanArguments.{AsksCan, CanTask, IsBriefFlag, SetsConflicts, WritesBudget, is_kind}
 
 -- a text that is not read is no budget
 pub not_read : (text : List ℕ) (e : DecimalError) → IsReadUpTo 20000 text (Err e) → (n : ℕ) → ¬ WritesBudget text n
@@ -36,12 +36,12 @@ one_budget (option ∷ text ∷ []) n m (whole, is) (whole', is') = same_from_nu
 one_budget (option ∷ text ∷ other ∷ args) n m one also = absurd one
 
 -- a flag is there once at most
-pub few_flags : (flags : List (List ℕ)) (on : Bool) → IsFlag flags on → length flags ≤ 1
+pub few_flags : (flags : List (List ℕ)) (on : Bool) → IsBriefFlag flags on → length flags ≤ 1
 few_flags [] on is = omega arith
 few_flags (flag ∷ []) on is = omega arith
 few_flags (flag ∷ again ∷ flags) on is = absurd is
 
-pub one_flag : (flags : List (List ℕ)) (on other : Bool) → IsFlag flags on → IsFlag flags other → on ≡ other
+pub one_flag : (flags : List (List ℕ)) (on other : Bool) → IsBriefFlag flags on → IsBriefFlag flags other → on ≡ other
 one_flag [] on other one also = one ∙ sym also
 one_flag (flag ∷ []) on other one also = one ∙ sym also
 one_flag (flag ∷ again ∷ flags) on other one also = absurd one

@@ -16,7 +16,7 @@ use Rattle.tool_input.specs.Laws.{DeclaredIsNotRefused, OneDeclaration, OneTextR
 use Rattle.tool_input.specs.MessageName.{OneMessageOfAName, unknown_message}
 use Rattle.tool_input.specs.Parts.{protocol_text}
 use Rattle.tool_input.specs.Rejection.{over_limit, rejection_line, text_rejection}
-use Rattle.more_commands.specs.FormulaAnswer.{IsFormulaRefused, IsTextFor, formula_rules}
+use Rattle.more_commands.specs.FormulaAnswer.{IsFormulaRefused, IsTextOfSubject, formula_rules}
 use Rattle.more_commands.specs.FormulaArguments.{Dead, FormulaSubject, Whole}
 use Rattle.more_commands.specs.Task.{Formula, IsMoreRefusal, MoreTask, RequestsMore, more_interface, more_rules}
 
@@ -59,9 +59,9 @@ one_refusal each name subject input a b (command given x _ has declared why) (co
     one_unknown x y subject a b why why'
 
 -- a protocol without a message of the name has no text for it
-no_text : (x : Expanded) (subject : FormulaSubject) (out : List ℕ) (r : Rejection) → IsFormulaRefused x subject r → IsTextFor subject x out → ⊥
+no_text : (x : Expanded) (subject : FormulaSubject) (out : List ℕ) (r : Rejection) → IsFormulaRefused x subject r → IsTextOfSubject subject x out → ⊥
 no_text x subject out r none prints =
-    let named = subst (λ (s : FormulaSubject). IsTextFor s x out) none.is_asked prints in none.unknown named.message named.named
+    let named = subst (λ (s : FormulaSubject). IsTextOfSubject s x out) none.is_asked prints in none.unknown named.message named.named
 
 -- an input is printed or refused
 printed_or_refused : OneEach → (name : List ℕ) (subject : FormulaSubject) (input out : List ℕ) (status : Status) (r : Rejection) → AnswersInput (formula_rules subject) name input out status → RefusesInput (formula_rules subject) name input r → ⊥
@@ -70,10 +70,10 @@ printed_or_refused each name subject input out status r prints (text given refus
     each.exclusive name (protocol_text input) prints.protocol refusal prints.judged refuses
 printed_or_refused each name subject input out status r prints (command given x _ has declared why) =
     let same = each.declared name (protocol_text input) prints.protocol x prints.judged declared in
-    no_text x subject out r why (subst (λ (y : Expanded). IsTextFor subject y out) same prints.answer.printed)
+    no_text x subject out r why (subst (λ (y : Expanded). IsTextOfSubject subject y out) same prints.answer.printed)
 
 -- a protocol has one text of a formula
-text_once : OneEach → (x : Expanded) (subject : FormulaSubject) (a b : List ℕ) → IsTextFor subject x a → IsTextFor subject x b → a ≡ b
+text_once : OneEach → (x : Expanded) (subject : FormulaSubject) (a b : List ℕ) → IsTextOfSubject subject x a → IsTextOfSubject subject x b → a ≡ b
 text_once each x (Whole property) a b one other = each.property_text property x a b one other
 text_once each x (Dead name) a b one other =
     let same = each.message x name one.message other.message one.named other.named in
@@ -83,7 +83,7 @@ text_once each x (Dead name) a b one other =
 printed_once : OneEach → (name : List ℕ) (subject : FormulaSubject) (input a b : List ℕ) (s t : Status) → AnswersInput (formula_rules subject) name input a s → AnswersInput (formula_rules subject) name input b t → (a ≡ b) × (s ≡ t)
 printed_once each name subject input a b s t one other =
     let same = each.declared name (protocol_text input) one.protocol other.protocol one.judged other.judged in
-    (text_once each other.protocol subject a b (subst (λ (x : Expanded). IsTextFor subject x a) same one.answer.printed) other.answer.printed, one.answer.done ∙ sym other.answer.done)
+    (text_once each other.protocol subject a b (subst (λ (x : Expanded). IsTextOfSubject subject x a) same one.answer.printed) other.answer.printed, one.answer.done ∙ sym other.answer.done)
 
 -- the input is too long, or refused
 abbrev Reason : List ℕ → FormulaSubject → List ℕ → Rejection → Type 0

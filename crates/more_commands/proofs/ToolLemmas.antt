@@ -8,7 +8,7 @@ use Rattle.bspl_tool.specs.declared.task.Task.{Task}
 use Rattle.bspl_tool.specs.declared.task.Task.TheVariants as tasks
 use Rattle.bspl_tool.specs.Request.{Requests}
 use Rattle.bspl_tool.specs.Interface.{tool_interface}
-use Rattle.bspl_tool.specs.Task.{rules_of}
+use Rattle.bspl_tool.specs.Task.{task_rules}
 use Rattle.bspl_types.specs.declared.expanded.Expanded.{Expanded}
 use Rattle.bspl_types.specs.Limits.{input_limit}
 use Rattle.tool_frame.specs.Interface.{HasTask, RequestsInput, task_bytes}
@@ -34,13 +34,13 @@ refusal_words input r out None is = ([], is ∙ sym (append-nil (rejection_line 
 refusal_words input r out (Some fault) is = fault_words input r fault out is
 
 -- the words of an answer come after that of the tool
-answer_words : (task : Task) (x : Expanded) (given out : List ℕ) (status : Status) → AnswersInWords task x given out status → (text : List ℕ) × ((words : List ℕ) × ((out ≡ text ++ words) × (rules_of task).answers x given text status))
+answer_words : (task : Task) (x : Expanded) (given out : List ℕ) (status : Status) → AnswersInWords task x given out status → (text : List ℕ) × ((words : List ℕ) × ((out ≡ text ++ words) × (task_rules task).answers x given text status))
 answer_words (tasks.Verify brief budget) x given out status is =
     (is.verdict_text, (is.words, (is.text, record { verdicts = is.verdicts; answer = is.answer; ends = is.ends })))
 answer_words task x given out status is = (out, ([], (sym (append-nil out), is)))
 
 -- a refusal of the task in words is one of the task
-tool_refuses : (task : Task) (name input : List ℕ) (r : Rejection) → RefusesInput (explain_rules task) name input r → RefusesInput (rules_of task) name input r
+tool_refuses : (task : Task) (name input : List ℕ) (r : Rejection) → RefusesInput (explain_rules task) name input r → RefusesInput (task_rules task) name input r
 tool_refuses task name input _ (no_part part lacks) = no_part part (record { is_needed = lacks.is_needed; missing = lacks.missing })
 tool_refuses task name input _ (text given refusal r has refuses is) = text given refusal r has refuses is
 tool_refuses task name input _ (command given x r has declared refuses) = command given x r has declared refuses

@@ -17,7 +17,7 @@ use Rattle.tool_input.specs.MessageName.{OneMessageOfAName}
 use Rattle.tool_input.specs.Parts.{protocol_text}
 use Rattle.more_commands.specs.CanAnswer.{IsCanAnswer, answer_status, can_rules}
 use Rattle.more_commands.specs.Laws.{AreAskedOf}
-use Rattle.more_commands.specs.Named.{AreNamed}
+use Rattle.more_commands.specs.Named.{AreMessageNames}
 use Rattle.more_commands.specs.Task.{Can, MoreTask, more_interface, more_rules}
 
 -- the message exists
@@ -35,7 +35,7 @@ messages_once once x (m ∷ messages) (n ∷ others) known also same =
     let rest : messages ≡ others = messages_once once x messages others (All-tail (IsMessage x) m messages known) (All-tail (IsMessage x) n others also) (ap (drop 1) same) in
     cc
 
-named_once : OneMessageOfAName → (x : Expanded) (names : List (List ℕ)) (messages others : List ℕ) → AreNamed x names messages → AreNamed x names others → messages ≡ others
+named_once : OneMessageOfAName → (x : Expanded) (names : List (List ℕ)) (messages others : List ℕ) → AreMessageNames x names messages → AreMessageNames x names others → messages ≡ others
 named_once once x names messages others one other = messages_once once x messages others one.known other.known (one.named ∙ sym other.named)
 
 -- a right answer with the status of `never`, and with that of a run
@@ -56,7 +56,7 @@ module _ (one : OneTask more_interface) (declared_once : OneDeclaration) (once :
   answers_of out ends answers =
       let answer = answers.answer in
       let protocol : answers.protocol ≡ x = declared_once asked.name (protocol_text input) answers.protocol x answers.judged asked.declared in
-      let named : AreNamed x asked.task.messages answer.messages = subst (λ (y : Expanded). AreNamed y asked.task.messages answer.messages) protocol answer.named in
+      let named : AreMessageNames x asked.task.messages answer.messages = subst (λ (y : Expanded). AreMessageNames y asked.task.messages answer.messages) protocol answer.named in
       let equal : answer.messages ≡ messages = named_once once x asked.task.messages answer.messages messages named asked.named in
       subst (λ (ms : List ℕ). IsCanAnswer x ms asked.task.brief asked.task.conflicts out ends) equal (subst (λ (y : Expanded). IsCanAnswer y answer.messages asked.task.brief asked.task.conflicts out ends) protocol answer.answer)
 

@@ -13,7 +13,7 @@ use Rattle.verdict.specs.declared.outcome.Safety.TheVariants as safety
 use Rattle.verdict.specs.declared.outcome.Verdicts.{Verdicts}
 use Rattle.verdict.specs.Right.{IsRight}
 use Rattle.verdict.specs.RightLiveness.{IsRightLiveness}
-use Rattle.verdict.specs.Verdicts.{AreRight}
+use Rattle.verdict.specs.Verdicts.{AreRightAnswers}
 
 -- a right verdict that the protocol is safe is true
 right_safe : (x : Expanded) (budget : ℕ) (s : Safety) (log : Log) → s ≡ safety.Safe log → IsRight x budget s → SafeProtocol x
@@ -34,7 +34,7 @@ right_live : (x : Expanded) (budget : ℕ) (l : Liveness) (log : Log) → l ≡ 
 right_live x budget l log is right = (rw is at right).holds
 
 -- so is the status 0
-pub done_true : (x : Expanded) (budget : ℕ) (v : Verdicts) → AreRight x budget v → status.Done ≡ verdict_status v.safety v.liveness → SafeProtocol x × LiveProtocol x
+pub done_true : (x : Expanded) (budget : ℕ) (v : Verdicts) → AreRightAnswers x budget v → status.Done ≡ verdict_status v.safety v.liveness → SafeProtocol x × LiveProtocol x
 done_true x budget v right ends =
     let both = both_done v.safety v.liveness ends in
     (right_safe x budget v.safety both.0.0 both.0.1 right.safety, right_live x budget v.liveness both.1.0 both.1.1 right.liveness)

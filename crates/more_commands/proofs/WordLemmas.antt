@@ -3,7 +3,7 @@ use Rattle.std.proofs.Common.{◌≡◌, ℕ, Bool, List, ◌++◌, refl, ◌∙
 use Rattle.verdict_commands.specs.VerifyAnswer.{IsVerdictAnswer}
 use Rattle.bspl_tool.specs.declared.task.Task.{Task}
 use Rattle.bspl_tool.specs.declared.task.Task.TheVariants as tasks
-use Rattle.bspl_tool.specs.Task.{rules_of}
+use Rattle.bspl_tool.specs.Task.{task_rules}
 use Rattle.bspl_types.specs.declared.expanded.Expanded.{Expanded}
 use Rattle.program_frame.specs.declared.reply.Reply.{Reply}
 use Rattle.report.specs.ExitStatus.{verdict_status}
@@ -25,6 +25,6 @@ words_behind brief budget x v said reply words answer ends are text status = rec
 }
 
 -- an answer of another task than `verify` has no words
-pub other_answer : (task : Task) → ((brief : Bool) (budget : ℕ) → task ≡ tasks.Verify brief budget → ⊥) → (x : Expanded) (given out : List ℕ) (status : Status) → (rules_of task).answers x given out status → AnswersInWords task x given out status
+pub other_answer : (task : Task) → ((brief : Bool) (budget : ℕ) → task ≡ tasks.Verify brief budget → ⊥) → (x : Expanded) (given out : List ℕ) (status : Status) → (task_rules task).answers x given out status → AnswersInWords task x given out status
 other_answer (tasks.Verify brief budget) other x given out status answers = absurd (other brief budget refl)
 other_answer task other x given out status answers = answers

@@ -17,7 +17,7 @@ use Rattle.tool_input.specs.declared.status.Status.{Status}
 use Rattle.tool_input.specs.declared.status.Status.TheVariants as status
 use Rattle.tool_input.specs.MessageName.{unknown_message}
 use Rattle.more_commands.specs.CanArguments.{CanTask}
-use Rattle.more_commands.specs.Named.{AreNamed, IsFirstUnknown}
+use Rattle.more_commands.specs.Named.{AreMessageNames, IsFirstUnknown}
 
 -- the word of the answer, and of a search that came to its budget how many steps its log has
 abbrev pub answer_words : Enact → List (List ℕ)
@@ -30,18 +30,18 @@ abbrev pub answer_line : Expanded → List ℕ → Enact → List ℕ
 answer_line x messages enact = line_of (answer_words enact ++ map (message_name x) messages)
 
 -- the text of a log, unless the text is brief
-abbrev pub log_part : Expanded → List ℕ → Bool → Log → List ℕ
-log_part x messages brief log = if brief then [] else dead_text x messages log
+abbrev pub dead_log_part : Expanded → List ℕ → Bool → Log → List ℕ
+dead_log_part x messages brief log = if brief then [] else dead_text x messages log
 
 -- its evidence: a log, or always the run
 abbrev pub evidence : Expanded → List ℕ → Bool → Enact → List ℕ
 evidence x messages brief (Enacted run) = run_text x run
-evidence x messages brief (Dead log) = log_part x messages brief log
-evidence x messages brief (Undecided log) = log_part x messages brief log
+evidence x messages brief (Dead log) = dead_log_part x messages brief log
+evidence x messages brief (Undecided log) = dead_log_part x messages brief log
 
 -- the line of the protocol, the line of the answer, and the evidence
-abbrev pub answer_text : Expanded → List ℕ → Bool → Enact → List ℕ
-answer_text x messages brief enact =
+abbrev pub can_answer_text : Expanded → List ℕ → Bool → Enact → List ℕ
+can_answer_text x messages brief enact =
     line_of (codes "protocol" ∷ x.name ∷ []) ++ answer_line x messages enact ++
     evidence x messages brief enact
 
@@ -57,14 +57,14 @@ pub record IsCanAnswer (x : Expanded) (messages : List ℕ) (brief : Bool) (budg
     (out : List ℕ) (ends : Status) : Type 0 where
   pub enact : Enact
   pub right : AreAnswered x messages budget enact
-  pub text : out ≡ answer_text x messages brief enact
+  pub text : out ≡ can_answer_text x messages brief enact
   pub ends_is : ends ≡ answer_status enact
 
 -- the messages that the task names exist, and the answer on them is right
 pub record AnswersCan (x : Expanded) (task : CanTask) (out : List ℕ) (status : Status)
     : Type 0 where
   pub messages : List ℕ
-  pub named : AreNamed x task.messages messages
+  pub named : AreMessageNames x task.messages messages
   pub answer : IsCanAnswer x messages task.brief task.conflicts out status
 
 -- some name is of no message, and the first of these is reported

@@ -22,10 +22,10 @@ is_kind Brief arg = bytes_eq arg (codes "--brief")
 is_kind Conflicts arg = not (is_name arg) && not (bytes_eq arg (codes "--brief"))
 
 -- the flag is not there, or there once
-abbrev pub IsFlag : List (List ℕ) → Bool → Type 0
-IsFlag [] on = on ≡ false
-IsFlag (flag ∷ []) on = on ≡ true
-IsFlag (flag ∷ again ∷ flags) on = ⊥
+abbrev pub IsBriefFlag : List (List ℕ) → Bool → Type 0
+IsBriefFlag [] on = on ≡ false
+IsBriefFlag (flag ∷ []) on = on ≡ true
+IsBriefFlag (flag ∷ again ∷ flags) on = ⊥
 
 -- the text is a number of conflicts that may be allowed
 pub record WritesBudget (text : List ℕ) (n : ℕ) : Type 0 where
@@ -47,5 +47,5 @@ pub record AsksCan (args : List (List ℕ)) (name : List ℕ) (task : CanTask) :
   pub names : filter (is_kind Name) args ≡ name ∷ task.messages
   pub some : 1 ≤ length task.messages
   pub few : length task.messages ≤ 8
-  pub brief : IsFlag (filter (is_kind Brief) args) task.brief
+  pub brief : IsBriefFlag (filter (is_kind Brief) args) task.brief
   pub conflicts : SetsConflicts (filter (is_kind Conflicts) args) task.conflicts

@@ -3,7 +3,7 @@ use Rattle.std.specs.Prelude.{◌≡◌, ℕ, Bool, List, ◌++◌}
 use Rattle.answer_words.specs.VerdictText.{IsVerdictWords}
 use Rattle.bspl_tool.specs.declared.task.Task.{Task}
 use Rattle.bspl_tool.specs.declared.task.Task.TheVariants.{Verify}
-use Rattle.bspl_tool.specs.Task.{rules_of}
+use Rattle.bspl_tool.specs.Task.{task_rules}
 use Rattle.bspl_types.specs.declared.expanded.Expanded.{Expanded}
 use Rattle.report.specs.ExitStatus.{verdict_status}
 use Rattle.tool_frame.specs.Rules.{CommandRules}
@@ -26,13 +26,13 @@ pub record IsExplainedAnswer (brief : Bool) (budget : ℕ) (x : Expanded) (out :
 abbrev pub AnswersInWords : Task → Expanded → List ℕ → List ℕ → Status → Type 0
 AnswersInWords (Verify brief budget) x given out status =
     IsExplainedAnswer brief budget x out status
-AnswersInWords task x given out status = (rules_of task).answers x given out status
+AnswersInWords task x given out status = (task_rules task).answers x given out status
 
 -- the rules of the tool's task, with words
 abbrev pub explain_rules : Task → CommandRules
 explain_rules task = record {
-  needs = (rules_of task).needs;
+  needs = (task_rules task).needs;
   answers = AnswersInWords task;
-  refuses = (rules_of task).refuses;
+  refuses = (task_rules task).refuses;
   is_determined = ⊥;
 }

@@ -17,14 +17,14 @@ pub record IsNamedText (x : Expanded) (name text : List ℕ) : Type 0 where
   pub text_is : IsEnactText x message text
 
 -- the text is that of the formula that is asked for
-abbrev pub IsTextFor : FormulaSubject → Expanded → List ℕ → Type 0
-IsTextFor (Whole property) x text = IsFormulaText property x text
-IsTextFor (Dead name) x text = IsNamedText x name text
+abbrev pub IsTextOfSubject : FormulaSubject → Expanded → List ℕ → Type 0
+IsTextOfSubject (Whole property) x text = IsFormulaText property x text
+IsTextOfSubject (Dead name) x text = IsNamedText x name text
 
 -- it is printed
 pub record PrintsFormula (x : Expanded) (subject : FormulaSubject) (out : List ℕ)
     (status : Status) : Type 0 where
-  pub printed : IsTextFor subject x out
+  pub printed : IsTextOfSubject subject x out
   pub done : status ≡ Done
 
 -- the protocol has no message of the name that is asked for

@@ -15,9 +15,9 @@ property_word Safety = codes "safety"
 property_word Liveness = codes "liveness"
 
 -- the words stand for the formula; a message has a name of the language
-abbrev pub IsSubject : List (List ℕ) → FormulaSubject → Type 0
-IsSubject words (Whole property) = words ≡ property_word property ∷ []
-IsSubject words (Dead message) =
+abbrev pub NamesFormula : List (List ℕ) → FormulaSubject → Type 0
+NamesFormula words (Whole property) = words ≡ property_word property ∷ []
+NamesFormula words (Dead message) =
     (words ≡ codes "dead" ∷ message ∷ []) × IsTrue (is_name message)
 
 -- the arguments are the name of a protocol and the words for the formula
@@ -26,4 +26,4 @@ pub record AsksFormula (args : List (List ℕ)) (name : List ℕ) (subject : For
   pub words : List (List ℕ)
   pub arguments : args ≡ name ∷ words
   pub named : IsTrue (is_name name)
-  pub subject_is : IsSubject words subject
+  pub subject_is : NamesFormula words subject

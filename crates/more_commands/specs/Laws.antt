@@ -16,7 +16,7 @@ use Rattle.more_commands.specs.CanArguments.{CanTask}
 use Rattle.more_commands.specs.ExplainAnswer.{IsExplainedAnswer}
 use Rattle.more_commands.specs.FormulaArguments.{FormulaSubject}
 use Rattle.more_commands.specs.Given.{Given}
-use Rattle.more_commands.specs.Named.{AreNamed}
+use Rattle.more_commands.specs.Named.{AreMessageNames}
 use Rattle.more_commands.specs.PageAnswer.{IsPageAnswer}
 use Rattle.more_commands.specs.Task.{Can, Formula, RequestsMore, more_interface}
 
@@ -27,7 +27,7 @@ pub record AreAskedOf (args : List (List ℕ)) (input : List ℕ) (x : Expanded)
   pub task : CanTask
   pub requested : RequestsMore args (Can task) name
   pub declared : Declares name (protocol_text input) x
-  pub named : AreNamed x task.messages messages
+  pub named : AreMessageNames x task.messages messages
 
 -- the status of `never` is given only if no legal run emits all of them under one key
 abbrev pub NeverIsTrue : Type 0

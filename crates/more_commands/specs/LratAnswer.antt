@@ -24,8 +24,8 @@ pub record SaysProof (x : Expanded) (kind : Kind) (log : Log) (out : List ℕ) (
   pub done : status ≡ Done
 
 -- it is such a proof, or the log is not accepted, as `check` says it
-abbrev pub IsLogAnswer : Expanded → Kind → Log → List ℕ → Status → Type 0
-IsLogAnswer x kind log out status =
+abbrev pub IsProofAnswer : Expanded → Kind → Log → List ℕ → Status → Type 0
+IsProofAnswer x kind log out status =
     SaysProof x kind log out status ⊎ SaysRejected x kind log out status
 
 -- the part is the text of a log of a kind, and the output answers it
@@ -33,7 +33,7 @@ pub record IsLratAnswer (x : Expanded) (part out : List ℕ) (status : Status) :
   pub kind : Kind
   pub log : Log
   pub read : IsTextOf part kind log
-  pub answer : IsLogAnswer x kind log out status
+  pub answer : IsProofAnswer x kind log out status
 
 -- it needs a log, whose text is refused as by `check`
 abbrev pub lrat_rules : CommandRules

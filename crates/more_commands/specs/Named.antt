@@ -6,7 +6,7 @@ use Rattle.enactability.specs.Enactable.{AreMessages}
 use Rattle.tool_input.specs.MessageName.{IsMessageNamed}
 
 -- the messages exist, and these are their names
-pub record AreNamed (x : Expanded) (names : List (List ℕ)) (messages : List ℕ) : Type 0 where
+pub record AreMessageNames (x : Expanded) (names : List (List ℕ)) (messages : List ℕ) : Type 0 where
   pub known : AreMessages x messages
   pub named : map (message_name x) messages ≡ names
 
@@ -16,5 +16,5 @@ pub record IsFirstUnknown (x : Expanded) (names : List (List ℕ)) (name : List 
   pub after : List (List ℕ)
   pub whole : names ≡ before ++ name ∷ after
   pub messages : List ℕ
-  pub known : AreNamed x before messages
+  pub known : AreMessageNames x before messages
   pub unknown : (m : ℕ) → ¬ IsMessageNamed x name m

@@ -18,7 +18,7 @@ use Rattle.tool_input.specs.declared.status.Status.{Status}
 use Rattle.verdict.specs.declared.outcome.Safety.{Safety}
 use Rattle.verdict.specs.declared.outcome.Safety.TheVariants.{Safe, Undecided, Unsafe}
 use Rattle.verdict.specs.declared.outcome.Verdicts.{Verdicts}
-use Rattle.verdict.specs.Verdicts.{AreRight}
+use Rattle.verdict.specs.Verdicts.{AreRightAnswers}
 use Rattle.world_run.specs.Finished.{IsFinished}
 use Rattle.world_run.specs.Settling.{HaveRunWhole}
 use Rattle.page_sections.specs.WorldSection.{ShowsWorld, unplayed_section}
@@ -59,7 +59,7 @@ ShowsGiven x s (Agents script plan) shown =
 pub record IsPageAnswer (x : Expanded) (given : Given) (out : List ℕ) (status : Status)
     : Type 0 where
   pub verdicts : Verdicts
-  pub right : AreRight x 10000 verdicts
+  pub right : AreRightAnswers x 10000 verdicts
   pub fates : List Fate
   pub fated : AreFates x 10000 fates
   pub shown : List Fragment

@@ -1,5 +1,5 @@
 ghost use Rattle.std.specs.Prelude.{◌≡◌, ◌≤◌, length, IfErr, IfOk};
-ghost use Rattle.enactability.specs.Answer.{AreAnswered, HasNumbersInRange};
+ghost use Rattle.enactability.specs.Answer.{AreAnswered, HasEnactLogInRange};
 ghost use Rattle.enactability.specs.Enactable.{AreMessages};
 ghost use Rattle.tool_frame.specs.Error.{RejectsFor};
 ghost use Rattle.verdict_commands.specs.EnactedRun.{EnactedRunFits};
@@ -80,7 +80,7 @@ fn enact_of(
     requires known { AreMessages a.now messages.now }
     requires few { length messages.now ≤ 8 }
     ensures right { IfOk result (AreAnswered a.now messages.now conflicts) }
-    ensures numbers { IfOk result HasNumbersInRange }
+    ensures numbers { IfOk result HasEnactLogInRange }
     ensures fits { IfOk result (EnactedRunFits a.now) }
 {
     let mut search = EnactSearch::new(alloc, a)?;

@@ -1,11 +1,11 @@
 ghost use Rattle.std.specs.Prelude.{◌≡◌, ◌++◌, ◌∷◌, IfOk, OnOk};
 ghost use Rattle.std.specs.List.{flat_map};
 ghost use Rattle.bspl_types.specs.Expansion.{message_name};
-ghost use Rattle.enactability.specs.Answer.{HasNumbersInRange};
+ghost use Rattle.enactability.specs.Answer.{HasEnactLogInRange};
 ghost use Rattle.enactability.specs.Enactable.{AreMessages};
 ghost use Rattle.refutation_log.specs.LogText.{LogInRange};
 ghost use Rattle.verdict_commands.specs.EnactedRun.{EnactedRunFits};
-ghost use Rattle.more_commands.specs.CanAnswer.{answer_line, answer_text, evidence, log_part};
+ghost use Rattle.more_commands.specs.CanAnswer.{answer_line, can_answer_text, evidence, dead_log_part};
 ghost use Rattle.more_commands.specs.inner.Text.{front};
 
 use bspl_types::{Admitted, Expanded};
@@ -26,8 +26,8 @@ pub(crate) fn answer_text(
 ) -> Result<Bytes, NoMemory>
     requires known { AreMessages a.now messages.now }
     requires fits { EnactedRunFits a.now enact.now }
-    requires numbers { HasNumbersInRange enact.now }
-    ensures { IfOk result (λ text. text ≡ answer_text a.now messages.now brief enact.now) }
+    requires numbers { HasEnactLogInRange enact.now }
+    ensures { IfOk result (λ text. text ≡ can_answer_text a.now messages.now brief enact.now) }
 {
     let mut text = Bytes::from_slice(alloc, b"protocol ")?;
     text.append(a.expanded().name.as_slice())?;
@@ -90,7 +90,7 @@ fn push_evidence(
 ) -> Result<(), NoMemory>
     requires known { AreMessages a.now messages.now }
     requires fits { EnactedRunFits a.now enact.now }
-    requires numbers { HasNumbersInRange enact.now }
+    requires numbers { HasEnactLogInRange enact.now }
     ensures { OnOk result
         (text.new ≡ text.old ++ evidence a.now messages.now brief enact.now) }
 {
@@ -115,7 +115,7 @@ fn push_log(
 ) -> Result<(), NoMemory>
     requires known { AreMessages a.now messages.now }
     requires numbers { LogInRange log.now }
-    ensures { OnOk result (text.new ≡ text.old ++ log_part a.now messages.now brief log.now) }
+    ensures { OnOk result (text.new ≡ text.old ++ dead_log_part a.now messages.now brief log.now) }
 {
     if brief {
         return Ok(());

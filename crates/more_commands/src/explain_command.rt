@@ -1,6 +1,6 @@
 ghost use Rattle.std.specs.Prelude.{◌≡◌, ◌≤◌, ◌++◌, length, IfErr, IfOk};
 ghost use Rattle.bspl_types.specs.Limits.{input_limit};
-ghost use Rattle.bspl_tool.specs.Task.{rules_of};
+ghost use Rattle.bspl_tool.specs.Task.{task_rules};
 ghost use Rattle.tool_frame.specs.Error.{RejectsFor};
 ghost use Rattle.more_commands.specs.ExplainAnswer.{AnswersInWords, IsExplainedAnswer};
 
@@ -27,7 +27,7 @@ pub fn explain(
     requires { length given.now ≤ input_limit }
     ensures ok { IfOk result (λ reply.
         AnswersInWords task protocol given.now reply.text reply.status) }
-    ensures refused { IfErr result (RejectsFor ((rules_of task).refuses protocol given.now)) }
+    ensures refused { IfErr result (RejectsFor ((task_rules task).refuses protocol given.now)) }
 {
     match task {
         Task::Verify { brief, conflicts } => {

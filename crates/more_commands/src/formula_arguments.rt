@@ -1,6 +1,6 @@
 ghost use Rattle.std.specs.Prelude.{◌≡◌, ◌≢◌, [], ◌∷◌, map, string_bytes, List, ℕ, MatchOption};
 ghost use Rattle.bspl_types.specs.declared.property.Property.{Property as SpecProperty};
-ghost use Rattle.more_commands.specs.FormulaArguments.{FormulaSubject, IsSubject, property_word};
+ghost use Rattle.more_commands.specs.FormulaArguments.{FormulaSubject, NamesFormula, property_word};
 ghost use Rattle.more_commands.specs.declared.word.CommandWord.TheVariants as word;
 ghost use Rattle.more_commands.specs.inner.Question.{IsAskedBy, subject_of};
 
@@ -34,8 +34,8 @@ pub(crate) fn formula_question(args: &[String]) -> Option<MoreQuestion<'_>>
 /// Which formula the words stand for.
 fn subject_asked(words: &[String]) -> Option<FormulaArgs<'_>>
     ensures { MatchOption result
-        ((subject : FormulaSubject) → ¬ IsSubject (map string_bytes words.now) subject)
-        (λ args. IsSubject (map string_bytes words.now) (subject_of args)) }
+        ((subject : FormulaSubject) → ¬ NamesFormula (map string_bytes words.now) subject)
+        (λ args. NamesFormula (map string_bytes words.now) (subject_of args)) }
 {
     match words {
         [word] => Some(FormulaArgs::Property(property_of(word.as_bytes())?)),
@@ -62,8 +62,8 @@ fn property_of(word: &[u8]) -> Option<Property>
 /// The formula of a message, if the first word says so.
 fn message_asked<'a>(word: &[u8], message: &'a [u8]) -> Option<FormulaArgs<'a>>
     ensures { MatchOption result
-        ((subject : FormulaSubject) → ¬ IsSubject (word.now ∷ message.now ∷ []) subject)
-        (λ args. IsSubject (word.now ∷ message.now ∷ []) (subject_of args)) }
+        ((subject : FormulaSubject) → ¬ NamesFormula (word.now ∷ message.now ∷ []) subject)
+        (λ args. NamesFormula (word.now ∷ message.now ∷ []) (subject_of args)) }
 {
     if word == b"dead".as_slice() && is_name(message) {
         Some(FormulaArgs::Message(message))

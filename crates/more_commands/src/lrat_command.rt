@@ -2,7 +2,7 @@ ghost use Rattle.std.specs.Prelude.{◌≤◌, length, IfErr, IfOk};
 ghost use Rattle.bspl_types.specs.Limits.{input_limit};
 ghost use Rattle.evidence_commands.specs.CheckAnswer.{IsCheckRefused};
 ghost use Rattle.tool_frame.specs.Error.{RejectsFor};
-ghost use Rattle.more_commands.specs.LratAnswer.{IsLogAnswer, IsLratAnswer};
+ghost use Rattle.more_commands.specs.LratAnswer.{IsProofAnswer, IsLratAnswer};
 
 use bspl_types::Admitted;
 use clause_encoding::formula_of;
@@ -40,7 +40,7 @@ pub fn log_answer(
     log: &Log,
 ) -> Result<Reply<Status>, NoMemory>
     requires { length log.now.steps ≤ input_limit }
-    ensures { IfOk result (λ reply. IsLogAnswer protocol.now kind log.now reply.text reply.status) }
+    ensures { IfOk result (λ reply. IsProofAnswer protocol.now kind log.now reply.text reply.status) }
 {
     let formula = formula_of(alloc, property_of(kind), protocol)?;
     match lrat_proof(alloc, &formula, log) {

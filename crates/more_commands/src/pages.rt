@@ -3,7 +3,7 @@ ghost use Rattle.bspl_types.specs.History.{IsRun};
 ghost use Rattle.html.specs.Fragment.{Fragment, as_html};
 ghost use Rattle.more_commands.specs.PageAnswer.{IsPageAnswer, ShowsGiven};
 ghost use Rattle.more_commands.specs.Given.{Agents, Given, Nothing, Run};
-ghost use Rattle.verdict.specs.Verdicts.{AreRight};
+ghost use Rattle.verdict.specs.Verdicts.{AreRightAnswers};
 
 use super::given_sections::{agents_section, run_section};
 use agent_scripts::Job;
@@ -57,7 +57,7 @@ pub fn page_with_agents(alloc: Global, job: &Job) -> Result<Reply<Status>, NoMem
 
 /// Right verdicts on the protocol.
 fn right_verdicts(alloc: Global, protocol: &Admitted) -> Result<Verdicts, NoMemory>
-    ensures { IfOk result (AreRight protocol.now 10000) }
+    ensures { IfOk result (AreRightAnswers protocol.now 10000) }
 {
     verify(alloc, protocol, CONFLICTS)
 }
@@ -69,7 +69,7 @@ fn page_of(
     verdicts: &Verdicts,
     section: &[u8],
 ) -> Result<Reply<Status>, NoMemory>
-    requires { AreRight protocol.now 10000 verdicts.now }
+    requires { AreRightAnswers protocol.now 10000 verdicts.now }
     ensures { IfOk result (λ reply. (given : Given) (shown : List Fragment) →
         ShowsGiven protocol.now verdicts.now.safety given shown → section.now ≡ as_html shown →
         IsPageAnswer protocol.now given reply.text reply.status) }

@@ -1,7 +1,7 @@
 -- What one call of a program reads and writes.
 use Rattle.std.specs.Prelude.{◌≡◌, ℕ, ◌<◌, ◌≤◌, List, length, Option, IfSome, ◌⊎◌}
 use Rattle.std.specs.Io.KnownBytes.{Appends, Consumes, IsAtEnd}
-use Rattle.bspl_io.specs.Faults.{HasCounted}
+use Rattle.bspl_io.specs.Faults.{HasCounted, FaultCounts}
 use Rattle.bspl_io.specs.Sink.{AppendsPrefix}
 use Rattle.bspl_io.specs.Source.{Takes}
 use Rattle.bspl_io.specs.Traffic.{Traffic}
@@ -64,13 +64,6 @@ pub record IsCall {S : Type 0} (asks : Type 0) (limit : ℕ)
     (answers : List ℕ → List ℕ → S → Type 0) (t : Traffic) (ending : Ending S) : Type 0 where
   pub unread : ¬ asks → t.remaining_after ≡ t.remaining
   pub written : Writes asks limit answers t ending
-
--- the counts of faults of the source and of the sink, before the call and after it
-pub record FaultCounts : Type 0 where
-  pub reads : ℕ
-  pub reads_after : ℕ
-  pub writes : ℕ
-  pub writes_after : ℕ
 
 -- reading or writing is said to have failed only if that was counted; after any other ending
 -- neither count is another

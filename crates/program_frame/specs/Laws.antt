@@ -1,7 +1,8 @@
 -- What follows for a call from its two halves.
 use Rattle.std.specs.Prelude.{ℕ, List}
 use Rattle.bspl_io.specs.Traffic.{Traffic}
-use Rattle.program_frame.specs.Call.{AreCounted, FaultCounts, IsCall}
+use Rattle.bspl_io.specs.Faults.{FaultCounts}
+use Rattle.program_frame.specs.Call.{AreCounted, IsCall}
 use Rattle.program_frame.specs.declared.ending.Ending.{Ending}
 use Rattle.program_frame.specs.declared.prepared.Prepared.{Prepared}
 use Rattle.program_frame.specs.Prepared.{AreReadsCounted, AreWritesCounted, GoesOn, IsPrepared}

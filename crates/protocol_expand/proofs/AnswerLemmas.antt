@@ -7,7 +7,7 @@ use Rattle.bspl_types.specs.declared.refusals.What.{What}
 use Rattle.bspl_parser.specs.declared.document.Declaration.{Declaration}
 use Rattle.bspl_parser.specs.declared.document.Document.{Document}
 use Rattle.protocol_names.specs.declared.fault.DocumentFault.{DocumentFault}
-use Rattle.protocol_names.specs.Fault.{HasNoFault, IsFault, IsFirstFault}
+use Rattle.protocol_names.specs.Fault.{HasNoFault, IsDocumentFault, IsFirstFault}
 use Rattle.protocol_limits.specs.Survey.{IsUnrolled}
 use Rattle.protocol_expand.specs.FlatExpansion.{IsExpansionOf}
 use Rattle.bspl_parser.specs.Alike.{WordsAreEqual}
@@ -15,7 +15,7 @@ use Rattle.reference_graph.specs.Laws.{CyclesAreOne}
 use Rattle.protocol_expand.specs.FlatLaws as flat_laws
 use Rattle.protocol_expand.specs.Request.{IsDeclaredAs}
 use Rattle.protocol_expand.specs.Expansion.{Expands, IsExpansion}
-use Rattle.protocol_expand.specs.Refusals.{HasCycle, HasEqualNames, HasTooMany, IsMissing, refusal_at}
+use Rattle.protocol_expand.specs.Refusals.{HasCycle, HasEqualNames, ExceedsLimit, NamesNoProtocol, refusal_at}
 use Rattle.protocol_expand.specs.Repeats.{RepeatsName}
 use Rattle.protocol_expand.proofs.OneRequest.{not_cyclic, not_missing, not_over, one_count, one_cycle, one_equal, one_flat_for}
 use Rattle.protocol_expand.proofs.OneFirst.{one_first}
@@ -83,7 +83,7 @@ flattened_once laws d name = joined (HasEqual d name) (IsExpanded d name) (given
 
 -- a count over its limit, before that
 abbrev pub HasMany : Document → List ℕ → Answer → Type 0
-HasMany d name = IsGiven {K = What × ℕ} (λ (what, count). Err (Limit what count)) (λ (what, count). HasTooMany d name what count)
+HasMany d name = IsGiven {K = What × ℕ} (λ (what, count). Err (Limit what count)) (λ (what, count). ExceedsLimit d name what count)
 
 -- no path is a cycle
 abbrev pub IsUnrolledTo : Document → List ℕ → Answer → Type 0
@@ -120,7 +120,7 @@ found_once laws d name = joined (IsRecursive d name) (IsUnrolledTo d name) (give
 
 -- no protocol of the name, before that
 abbrev pub IsAbsent : Document → List ℕ → Answer → Type 0
-IsAbsent d name = IsGiven {K = Unit {0}} (λ u. Err (NoProtocol name)) (λ u. IsMissing d name)
+IsAbsent d name = IsGiven {K = Unit {0}} (λ u. Err (NoProtocol name)) (λ u. NamesNoProtocol d name)
 
 -- the document has no fault
 abbrev pub IsFaultless : Document → List ℕ → Answer → Type 0
@@ -149,5 +149,5 @@ IsAnswer d name a = IsAtFault d a ⊎ IsFaultless d name a
 
 -- one of the six comes
 pub answered_once : LowerLaws → (d : Document) (name : List ℕ) (a b : Answer) → IsAnswer d name a → IsAnswer d name b → a ≡ b
-answered_once laws d name = joined (IsAtFault d) (IsFaultless d name) (given_once _ _ (one_first (IsFault d))) (faultless_once laws d name)
+answered_once laws d name = joined (IsAtFault d) (IsFaultless d name) (given_once _ _ (one_first (IsDocumentFault d))) (faultless_once laws d name)
     (λ a b fault later. faultless_of d name b later fault.key.kind fault.key.offset fault.holds.fault)

@@ -18,13 +18,13 @@ use Rattle.protocol_names.specs.Fault.{HasNoFault, IsDuplicate, repeated, IsFaul
 use Rattle.protocol_names.specs.FaultOrder.{HasNone, holds}
 use Rattle.protocol_names.specs.Names.{IsSameArity, names_of, param_words, params_used, protocol_of, roles_used, texts}
 use Rattle.list_base.proofs.FirstIndex.{has_index}
-use Rattle.protocol_expand.specs.WellScoped.{AreDistinct, IsAdorned}
+use Rattle.protocol_expand.specs.WellScoped.{AreDistinct, HasFixedAdornment}
 
 -- the item's roles and parameters are declared, and adorned as an expansion's are
 pub record IsFaultless (p : Declaration) (i : Item) : Type 0 where
   pub known_roles : All (λ w. Contains (texts p.roles) w.text) (roles_used i)
   pub known_params : All (λ f. Contains (texts (param_words p)) f.name.text) (params_used i)
-  pub adorned : All IsAdorned (params_used i)
+  pub adorned : All HasFixedAdornment (params_used i)
 
 -- a name that is not unknown is known
 is_known : (names : List (List ℕ)) (name : List ℕ) → ¬ ¬ Contains names name → Contains names name
@@ -42,7 +42,7 @@ none_at : (d : Document) (p : Declaration) (i : Item) → HasNoFault d → Conta
 none_at d p i no_fault among here kind offset fault = none_in d p no_fault among kind offset (inr (inr (record { item = i; among = here; has = fault })))
 
 -- a parameter that is supported is adorned
-is_adorned : (f : Formal) → HasNone (IsUnsupported f) → IsAdorned f
+is_adorned : (f : Formal) → HasNone (IsUnsupported f) → HasFixedAdornment f
 is_adorned f no_fault = record {
   not_any = λ is. no_fault BadAdornment f.offset (holds (inl is));
   not_opt = λ is. no_fault BadAdornment f.offset (holds (inr is));
@@ -82,7 +82,7 @@ arity_is_same d p q r no_fault among here found =
     }
 
 -- the public parameters are adorned
-pub public_params_are_adorned : (d : Document) (p : Declaration) → HasNoFault d → Contains d.protocols p → All IsAdorned p.public
+pub public_params_are_adorned : (d : Document) (p : Declaration) → HasNoFault d → Contains d.protocols p → All HasFixedAdornment p.public
 public_params_are_adorned d p no_fault among k e within = is_adorned (get_or p.public k e) (λ kind offset fault. none_in d p no_fault among kind offset (inr (inl (record { item = get_or p.public k e; among = Contains-get_or p.public k e within; has = fault }))))
 
 -- a name stands among the words before a later place

@@ -11,7 +11,7 @@ use Rattle.bspl_parser.specs.declared.document.Item.TheVariants.{Message, Refere
 use Rattle.bspl_parser.specs.declared.word.Word.{Word}
 use Rattle.bspl_parser.specs.Spelling.{IsDeclaration, IsFormal, IsItem, IsDocument}
 use Rattle.protocol_paths.specs.Flat.{IsFlat}
-use Rattle.protocol_expand.specs.WellScoped.{AreDistinct, IsAdorned, IsWellScoped, IsWellScopedItem}
+use Rattle.protocol_expand.specs.WellScoped.{AreDistinct, HasFixedAdornment, IsWellScoped, IsWellScopedItem}
 use Rattle.protocol_limits.specs.Laws.{MessagesAreCounted, PrivatesAreCounted}
 use Rattle.protocol_paths.specs.Laws.{PathsByItems}
 use Rattle.protocol_expand.specs.Repeats.{AreNamesDistinct}
@@ -63,7 +63,7 @@ flat_is_ready messages privates paths d name flat formed is own =
     record {
       formed = flat_formed d.protocols top flat (top_formed d number top formed asked.stands) flattened (λ k e inside. item_formed flat (get_or flat.body k e) (resolved k e inside));
       messages = λ k e inside. item_ready flat (get_or flat.body k e) (resolved k e inside) (few k e inside);
-      adorned = subst (All IsAdorned) (sym flattened.public) (public_is_adorned d name number top asked);
+      adorned = subst (All HasFixedAdornment) (sym flattened.public) (public_is_adorned d name number top asked);
       distinct = record {
         roles = subst AreDistinct (sym flattened.roles) (roles_are_apart d name number top asked);
         params = own.params;

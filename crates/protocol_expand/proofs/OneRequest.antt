@@ -12,7 +12,7 @@ use Rattle.protocol_limits.specs.Survey.{IsUnrolled}
 use Rattle.protocol_paths.specs.Flat.{IsFlat}
 use Rattle.bspl_parser.specs.Alike.{WordsAreEqual}
 use Rattle.protocol_expand.specs.Request.{IsDeclaredAs, IsFlattening}
-use Rattle.protocol_expand.specs.Refusals.{HasCycle, HasEqualNames, HasTooMany, IsMissing}
+use Rattle.protocol_expand.specs.Refusals.{HasCycle, HasEqualNames, ExceedsLimit, NamesNoProtocol}
 use Rattle.protocol_expand.proofs.Requested.{IsFlatRequest, declared}
 use Rattle.protocol_expand.specs.Repeats.{RepeatsName}
 use Rattle.protocol_expand.proofs.OneFirst.{one_over, one_repeated, none_repeated}
@@ -42,7 +42,7 @@ one_cycle cycles d name again other one two =
     sym one.named ∙ ap (λ (p : Declaration). p.name.text) protocol ∙ two.named
 
 -- one count is over its limit
-pub one_count : (d : Document) (name : List ℕ) (what what' : What) (count count' : ℕ) → HasTooMany d name what count → HasTooMany d name what' count' → (what ≡ what') × (count ≡ count')
+pub one_count : (d : Document) (name : List ℕ) (what what' : What) (count count' : ℕ) → ExceedsLimit d name what count → ExceedsLimit d name what' count' → (what ≡ what') × (count ≡ count')
 one_count d name what what' count count' one two =
     let number = one_number d name one.number two.number one.top two.top one.declared two.declared in
     one_over d.protocols two.number what what' count count' (subst (λ n. IsFirstOver d.protocols n what count) number one.too_large.over) two.too_large.over
@@ -60,7 +60,7 @@ one_equal words d name offset other one two =
     repeats_once two.flat offset other (subst (λ (p : Declaration). RepeatsName p offset) (one_flat_for words d name one.flat two.flat one.flattens two.flattens) one.repeats) two.repeats
 
 -- the protocol of the name is there
-pub not_missing : (d : Document) (name : List ℕ) (number : ℕ) (top : Declaration) → IsMissing d name → IsDeclaredAs d name number top → ⊥
+pub not_missing : (d : Document) (name : List ℕ) (number : ℕ) (top : Declaration) → NamesNoProtocol d name → IsDeclaredAs d name number top → ⊥
 not_missing d name number top missing asked = let never : None ≡ Some number = sym missing.none ∙ asked.found in cc
 
 -- there is no first cycle where no path is a cycle
@@ -71,7 +71,7 @@ not_cyclic d name met number top has is unrolled =
     unrolled first.path first.is_path first.cycle
 
 -- and no count is over its limit where all are within
-pub not_over : (d : Document) (name : List ℕ) (what : What) (count : ℕ) (flat : Declaration) → HasTooMany d name what count → IsFlatRequest d name flat → ⊥
+pub not_over : (d : Document) (name : List ℕ) (what : What) (count : ℕ) (flat : Declaration) → ExceedsLimit d name what count → IsFlatRequest d name flat → ⊥
 not_over d name what count flat over is =
     let number = one_number d name over.number is.number over.top is.top over.declared (declared d name is.number is.top is.requested) in
     let first : IsFirstOver d.protocols is.number what count = subst (λ n. IsFirstOver d.protocols n what count) number over.too_large.over in

@@ -24,7 +24,7 @@ use Rattle.protocol_limits.specs.Survey.{IsSurvey}
 use Rattle.protocol_paths.specs.ReferencePath.{IsWithinDepth}
 use Rattle.protocol_limits.specs.Laws.{NumbersAreOfProtocols, ReferencesAreAGraph}
 use Rattle.protocol_expand.specs.Expansion.{Expands}
-use Rattle.protocol_expand.specs.Refusals.{HasCycle, HasEqualNames, HasTooMany, IsNotExpanded}
+use Rattle.protocol_expand.specs.Refusals.{HasCycle, HasEqualNames, ExceedsLimit, IsNotExpanded}
 use Rattle.protocol_expand.specs.Repeats.{RepeatsName}
 use Rattle.protocol_expand.specs.inner.Flat.{ExpandsFlat, RefusesTop}
 use Rattle.protocol_expand.proofs.Requested.{IsFlatRequest, IsRequested, declared, flattening_of, limits_of}
@@ -83,7 +83,7 @@ has_cycle numbers graphs d name met number node p few surveyed is_name =
     record { faultless = surveyed.faultless; number = number; top = top.0; declared = declared d name number top.0 top.1; node = node; cycle = surveyed.survey; protocol = get_or d.protocols node p; stands = slice_get-get_or d.protocols node p within; named = sym is_name }
 
 -- a count is over its limit
-pub has_too_many : NumbersAreOfProtocols → (d : Document) (name : List ℕ) (number : ℕ) (what : What) (count : ℕ) → IsSurveyed d name number (Over what count) → HasTooMany d name what count
+pub has_too_many : NumbersAreOfProtocols → (d : Document) (name : List ℕ) (number : ℕ) (what : What) (count : ℕ) → IsSurveyed d name number (Over what count) → ExceedsLimit d name what count
 has_too_many numbers d name number what count surveyed =
     let top = request_of numbers d name number surveyed.faultless surveyed.found in
     record { faultless = surveyed.faultless; number = number; top = top.0; declared = declared d name number top.0 top.1; too_large = surveyed.survey }

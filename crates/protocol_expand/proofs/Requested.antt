@@ -8,7 +8,7 @@ use Rattle.protocol_paths.specs.Flat.{IsFlat}
 use Rattle.protocol_limits.specs.Graph.{protocol_number}
 use Rattle.protocol_limits.specs.Limits.{AreWithinLimits}
 use Rattle.protocol_limits.specs.Survey.{IsUnrolled}
-use Rattle.protocol_expand.specs.Request.{IsDeclaredAs, IsFlattening, IsWithinLimits}
+use Rattle.protocol_expand.specs.Request.{IsDeclaredAs, IsFlattening, HasCountsWithinLimits}
 
 -- the document has no fault, and its first protocol of the name is this one, of this number
 pub record IsRequested (d : Document) (name : List ℕ) (number : ℕ) (top : Declaration) : Type 0 where
@@ -35,11 +35,11 @@ requested d name number top faultless is = record { faultless = faultless; found
 pub flattening_of : (d : Document) (name : List ℕ) (flat : Declaration) → IsFlatRequest d name flat → IsFlattening d name flat
 flattening_of d name flat is = record { number = is.number; top = is.top; declared = declared d name is.number is.top is.requested; acyclic = is.acyclic; flattened = is.flattened }
 
-pub limits_of : (d : Document) (name : List ℕ) (flat : Declaration) → IsFlatRequest d name flat → IsWithinLimits d name
+pub limits_of : (d : Document) (name : List ℕ) (flat : Declaration) → IsFlatRequest d name flat → HasCountsWithinLimits d name
 limits_of d name flat is = record { number = is.number; found = is.requested.found; within = is.within }
 
 -- and from the parts again
-pub flat_request : (d : Document) (name : List ℕ) (flat : Declaration) → HasNoFault d → IsWithinLimits d name → IsFlattening d name flat → IsFlatRequest d name flat
+pub flat_request : (d : Document) (name : List ℕ) (flat : Declaration) → HasNoFault d → HasCountsWithinLimits d name → IsFlattening d name flat → IsFlatRequest d name flat
 flat_request d name flat faultless limits is =
     let same : Some limits.number ≡ Some is.number = sym limits.found ∙ is.declared.found in
     let number : limits.number ≡ is.number = cc in

@@ -17,7 +17,7 @@ use Rattle.protocol_names.specs.Names.{param_words, texts}
 use Rattle.protocol_paths.specs.Flat.{IsFlat, IsImage, IsImageFormal, IsImageItem, entry, privates_at}
 use Rattle.protocol_paths.specs.Path.{Step, message_paths, paths}
 use Rattle.protocol_paths.specs.Scope.{Scope, scope_at, start}
-use Rattle.protocol_expand.specs.WellScoped.{AreDistinct, IsAdorned}
+use Rattle.protocol_expand.specs.WellScoped.{AreDistinct, HasFixedAdornment}
 use Rattle.list_base.proofs.Mapped.{all_of_mapped}
 use Rattle.list_base.proofs.Zipped.{seconds}
 use Rattle.protocol_paths.specs.Laws.{PathsByItems}
@@ -32,7 +32,7 @@ pub record IsResolved (flat : Declaration) (s : Schema) : Type 0 where
   pub known_sender : Contains (texts flat.roles) s.sender.text
   pub known_receiver : Contains (texts flat.roles) s.receiver.text
   pub known_params : All (λ f. Contains (texts (param_words flat)) f.name.text) s.params
-  pub adorned : All IsAdorned s.params
+  pub adorned : All HasFixedAdornment s.params
   pub formed : IsSchema s
 
 -- a message that is resolved, and no reference
@@ -51,7 +51,7 @@ some_partners R (x ∷ xs) [] all some = absurd all
 some_partners R (x ∷ xs) (y ∷ ys) all some = λ empty. cc
 
 -- an image has the adornment of its parameter
-image_adorned : (place : Scope) (f f' : Formal) → IsAdorned f → IsImageFormal place f f' → IsAdorned f'
+image_adorned : (place : Scope) (f f' : Formal) → HasFixedAdornment f → IsImageFormal place f f' → HasFixedAdornment f'
 image_adorned place f f' adorned image = record {
   not_any = λ is. adorned.not_any (sym image.adorn ∙ is);
   not_opt = λ is. adorned.not_opt (sym image.adorn ∙ is);
@@ -70,7 +70,7 @@ resolved d flat place m m' formed no_fault sound here image =
       known_receiver = subst (Contains roles) (sym image.received.text) (known m.receiver.text (faultless.known_roles 1 m.sender (omega arith)));
       known_params = seconds (λ (f : Formal). Contains (texts (param_words place.protocol)) f.name.text) (IsImageFormal place) (λ (f : Formal). Contains params f.name.text)
           (λ f f' declared is. subst (Contains params) (sym is.name.text) (param_is_known d.protocols roles params place f.name.text sound declared)) m.params m'.params faultless.known_params image.carries;
-      adorned = seconds IsAdorned (IsImageFormal place) IsAdorned (image_adorned place) m.params m'.params faultless.adorned image.carries;
+      adorned = seconds HasFixedAdornment (IsImageFormal place) HasFixedAdornment (image_adorned place) m.params m'.params faultless.adorned image.carries;
       formed = record {
         some = some_partners (IsImageFormal place) m.params m'.params image.carries schema.some;
         each = seconds IsFormal (IsImageFormal place) IsFormal (λ f f' is_formal is nil. is.bare) m.params m'.params schema.each image.carries;
@@ -123,7 +123,7 @@ items_are_resolved paths d name number top flat formed asked is_flat =
     is_flat.body
 
 -- the public parameters of the asked protocol are adorned as an expansion's are
-pub public_is_adorned : (d : Document) (name : List ℕ) (number : ℕ) (top : Declaration) → IsRequested d name number top → All IsAdorned top.public
+pub public_is_adorned : (d : Document) (name : List ℕ) (number : ℕ) (top : Declaration) → IsRequested d name number top → All HasFixedAdornment top.public
 public_is_adorned d name number top asked = public_params_are_adorned d top asked.faultless (top_among d name number top asked)
 
 -- and its roles have names of their own

@@ -20,7 +20,7 @@ use Rattle.bspl_parser.specs.declared.word.Word.{Word}
 use Rattle.bspl_parser.specs.Spelling.{IsDeclaration}
 use Rattle.protocol_names.specs.Names.{texts, message_words, param_words}
 use Rattle.protocol_expand.specs.FlatExpansion.{adornment_of, public_param, private_param, params_of, IsMessageOfItem}
-use Rattle.protocol_expand.specs.WellScoped.{AreDistinct, IsAdorned, IsWellScoped, CountsFit}
+use Rattle.protocol_expand.specs.WellScoped.{AreDistinct, HasFixedAdornment, IsWellScoped, CountsFit}
 use Rattle.list_base.proofs.Mapped.{all_of_mapped, as_long, mapped_pairs, pairs_of_mapped}
 
 -- what is not empty has an item
@@ -74,7 +74,7 @@ is_adorned Any not_any not_opt same = absurd (not_any refl)
 is_adorned Opt not_any not_opt same = absurd (not_opt refl)
 
 -- what is declared of the parameters
-declared : (d : Declaration) → IsDeclaration d → All IsAdorned d.public → IsDeclared (length d.public) (params_of d)
+declared : (d : Declaration) → IsDeclaration d → All HasFixedAdornment d.public → IsDeclared (length d.public) (params_of d)
 declared d formed adorned = record {
   some_public = some_items d.public formed.some_public;
   within = omega (arith, length-append (map public_param d.public) (map private_param d.private), length-map d.public public_param);

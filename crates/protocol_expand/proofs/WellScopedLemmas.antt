@@ -22,7 +22,7 @@ use Rattle.bspl_parser.specs.Spelling.{IsItem, IsSchema}
 use Rattle.protocol_names.specs.Names.{texts, param_words}
 use Rattle.list_base.proofs.FirstIndex.{has_index}
 use Rattle.protocol_expand.specs.FlatExpansion.{adornment_of, params_of, role_index, IsCarried, IsExpansionOf, IsMessageOfItem, IsMessageFor}
-use Rattle.protocol_expand.specs.WellScoped.{IsAdorned, IsWellScoped, IsWellScopedItem, IsWellScopedMessage}
+use Rattle.protocol_expand.specs.WellScoped.{HasFixedAdornment, IsWellScoped, IsWellScopedItem, IsWellScopedMessage}
 use Rattle.list_base.proofs.Mapped.{as_long, partners}
 use Rattle.list_base.proofs.FirstIndex.{first_index, named_index}
 use Rattle.protocol_expand.proofs.ShapeLemmas.{param_texts, shape_of}
@@ -36,7 +36,7 @@ adornment_found Any not_any not_opt = absurd (not_any refl)
 adornment_found Opt not_any not_opt = absurd (not_opt refl)
 
 -- a declared parameter can be carried
-carried_found : (d : Declaration) (f : Formal) → Contains (texts (param_words d)) f.name.text → IsAdorned f → (c : Carried) × IsCarried (params_of d) f c × (c.param < length (params_of d))
+carried_found : (d : Declaration) (f : Formal) → Contains (texts (param_words d)) f.name.text → HasFixedAdornment f → (c : Carried) × IsCarried (params_of d) f c × (c.param < length (params_of d))
 carried_found d f known adorned =
     let at = named_index (λ (p : ParamInfo). p.name) (params_of d) f.name.text (subst (λ ns. Contains ns f.name.text) (sym (param_texts d.public d.private)) known) in
     let bound = adornment_found f.adorn adorned.not_any adorned.not_opt in

@@ -8,7 +8,7 @@ use Rattle.bspl_parser.specs.declared.document.Document.{Document}
 use Rattle.protocol_names.specs.Fault.{HasNoFault}
 use Rattle.protocol_expand.specs.FlatExpansion.{IsExpansionOf}
 use Rattle.protocol_names.specs.Plain.{IsUnkeyed}
-use Rattle.protocol_expand.specs.Request.{IsFlattening, IsWithinLimits}
+use Rattle.protocol_expand.specs.Request.{IsFlattening, HasCountsWithinLimits}
 
 -- the expansion of the protocol of that name
 pub record IsExpansion (d : Document) (name : List ℕ) (x : Expanded) : Type 0 where
@@ -19,7 +19,7 @@ pub record IsExpansion (d : Document) (name : List ℕ) (x : Expanded) : Type 0 
 -- the document has no fault, the counts are within their limits, and this is the expansion
 pub record Expands (d : Document) (name : List ℕ) (x : Expanded) : Type 0 where
   pub faultless : HasNoFault d
-  pub within : IsWithinLimits d name
+  pub within : HasCountsWithinLimits d name
   pub expansion : IsExpansion d name x
 
 -- a plain protocol: its body has messages alone, and the word `key` is in none of them

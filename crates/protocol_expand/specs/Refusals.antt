@@ -11,7 +11,7 @@ use Rattle.protocol_names.specs.Fault.{HasNoFault, IsFirstFault}
 use Rattle.reference_graph.specs.Cycle.{IsFirstCycle}
 use Rattle.protocol_limits.specs.Graph.{graph_of, protocol_number}
 use Rattle.protocol_limits.specs.Survey.{IsTooLarge}
-use Rattle.protocol_expand.specs.Request.{IsDeclaredAs, IsFlattening, IsWithinLimits}
+use Rattle.protocol_expand.specs.Request.{IsDeclaredAs, IsFlattening, HasCountsWithinLimits}
 use Rattle.protocol_expand.specs.Repeats.{RepeatsName}
 
 -- the document's first fault is of that kind, at that offset
@@ -19,7 +19,7 @@ abbrev pub IsFaulty : Document → FaultKind → ℕ → Type 0
 IsFaulty d kind offset = IsFirstFault d (record { kind = kind; offset = offset })
 
 -- the document has no fault, and no protocol of the name
-pub record IsMissing (d : Document) (name : List ℕ) : Type 0 where
+pub record NamesNoProtocol (d : Document) (name : List ℕ) : Type 0 where
   pub faultless : HasNoFault d
   pub none : protocol_number d.protocols name ≡ None
 
@@ -37,7 +37,7 @@ pub record HasCycle (d : Document) (name met : List ℕ) : Type 0 where
   pub named : protocol.name.text ≡ met
 
 -- no path is a cycle, and a count is the first over its limit
-pub record HasTooMany (d : Document) (name : List ℕ) (what : What) (count : ℕ) : Type 0 where
+pub record ExceedsLimit (d : Document) (name : List ℕ) (what : What) (count : ℕ) : Type 0 where
   pub faultless : HasNoFault d
   pub number : ℕ
   pub top : Declaration
@@ -48,7 +48,7 @@ pub record HasTooMany (d : Document) (name : List ℕ) (what : What) (count : �
 -- that offset
 pub record HasEqualNames (d : Document) (name : List ℕ) (offset : ℕ) : Type 0 where
   pub faultless : HasNoFault d
-  pub within : IsWithinLimits d name
+  pub within : HasCountsWithinLimits d name
   pub flat : Declaration
   pub flattens : IsFlattening d name flat
   pub repeats : RepeatsName flat offset
@@ -61,9 +61,9 @@ IsNotExpanded d name (Unknown offset) = IsFaulty d kind.Unknown offset
 IsNotExpanded d name (Arity offset) = IsFaulty d kind.Arity offset
 IsNotExpanded d name (BadAdornment offset) = IsFaulty d kind.BadAdornment offset
 IsNotExpanded d name (ForeignKey offset) = IsFaulty d kind.ForeignKey offset
-IsNotExpanded d name (NoProtocol missing) = (missing ≡ name) × IsMissing d name
+IsNotExpanded d name (NoProtocol missing) = (missing ≡ name) × NamesNoProtocol d name
 IsNotExpanded d name (Recursion met) = HasCycle d name met
-IsNotExpanded d name (Limit what count) = HasTooMany d name what count
+IsNotExpanded d name (Limit what count) = ExceedsLimit d name what count
 IsNotExpanded d name NoMemory = Unit {0}
 IsNotExpanded d name other = ⊥
 

@@ -23,7 +23,7 @@ pub record IsFlattening (d : Document) (name : List ℕ) (flat : Declaration) : 
   pub flattened : IsFlat d.protocols top flat
 
 -- all counts of the protocol of the name are within their limits
-pub record IsWithinLimits (d : Document) (name : List ℕ) : Type 0 where
+pub record HasCountsWithinLimits (d : Document) (name : List ℕ) : Type 0 where
   pub number : ℕ
   pub found : protocol_number d.protocols name ≡ Some number
   pub within : AreWithinLimits d.protocols number

@@ -14,7 +14,7 @@ use Rattle.bspl_parser.specs.Spelling.{IsDeclaration}
 use Rattle.protocol_names.specs.Names.{texts, key_words, message_words, param_words}
 
 -- its adornment is `in`, `out` or `nil`
-pub record IsAdorned (f : Formal) : Type 0 where
+pub record HasFixedAdornment (f : Formal) : Type 0 where
   pub not_any : f.adorn ≢ Any
   pub not_opt : f.adorn ≢ Opt
 
@@ -23,7 +23,7 @@ pub record IsWellScopedMessage (d : Declaration) (s : Schema) : Type 0 where
   pub known_sender : Contains (texts d.roles) s.sender.text
   pub known_receiver : Contains (texts d.roles) s.receiver.text
   pub known_params : All (λ f. Contains (texts (param_words d)) f.name.text) s.params
-  pub adorned : All IsAdorned s.params
+  pub adorned : All HasFixedAdornment s.params
   pub few : length s.params ≤ carried_limit
 
 -- a message that is well scoped, and no reference
@@ -52,6 +52,6 @@ pub record CountsFit (d : Declaration) : Type 0 where
 pub record IsWellScoped (d : Declaration) : Type 0 where
   pub formed : IsDeclaration d
   pub messages : All (IsWellScopedItem d) d.body
-  pub adorned : All IsAdorned d.public
+  pub adorned : All HasFixedAdornment d.public
   pub distinct : HasDistinctNames d
   pub within : CountsFit d

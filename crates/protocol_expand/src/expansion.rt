@@ -4,7 +4,7 @@ ghost use Rattle.bspl_parser.specs.Spelling.{IsDocument};
 ghost use Rattle.protocol_names.specs.Fault.{HasNoFault};
 ghost use Rattle.protocol_limits.specs.Graph.{protocol_number};
 ghost use Rattle.protocol_expand.specs.Expansion.{Expands};
-ghost use Rattle.protocol_expand.specs.Refusals.{HasCycle, IsMissing, IsNotExpanded, refusal_at};
+ghost use Rattle.protocol_expand.specs.Refusals.{HasCycle, NamesNoProtocol, IsNotExpanded, refusal_at};
 
 use super::flat::expand_top;
 use bspl_parser::{Declaration, Document};
@@ -47,7 +47,7 @@ fn refusal_of(fault: DocumentFault) -> Refusal
 
 /// The refusal of a name that no protocol has.
 fn missing(alloc: Global, name: &[u8]) -> Refusal
-    ensures { (d : SpecDocument) → IsMissing d name.now → IsNotExpanded d name.now result }
+    ensures { (d : SpecDocument) → NamesNoProtocol d name.now → IsNotExpanded d name.now result }
 {
     match Seq::from_slice(alloc, name) {
         Ok(name) => Refusal::NoProtocol { name },

@@ -4,7 +4,7 @@ ghost use Rattle.bspl_parser.specs.declared.document.Adorn.TheVariants.{Any, Opt
 ghost use Rattle.protocol_paths.specs.FlatProtocol.{as_declaration};
 ghost use Rattle.protocol_expand.specs.FlatExpansion.{adornment_of, public_param, private_param};
 ghost use Rattle.protocol_expand.specs.FlatExpansion.{IsExpansionOf};
-ghost use Rattle.protocol_expand.specs.WellScoped.{IsAdorned, IsWellScoped};
+ghost use Rattle.protocol_expand.specs.WellScoped.{HasFixedAdornment, IsWellScoped};
 
 use super::messages::messages_of;
 use bspl_parser::{Adorn, Formal, Word};
@@ -56,7 +56,7 @@ fn declared_params(
     public: &[Formal],
     private: &[Word],
 ) -> Result<ParamInfoList, NoMemory>
-    requires { All IsAdorned public.now }
+    requires { All HasFixedAdornment public.now }
     ensures { IfOk result
         (λ params. params ≡ map public_param public.now ++ map private_param private.now) }
 {
@@ -72,7 +72,7 @@ fn declared_params(
 
 /// A public parameter.
 fn public_param(alloc: Global, f: &Formal) -> Result<ParamInfo, NoMemory>
-    requires { IsAdorned f.now }
+    requires { HasFixedAdornment f.now }
     ensures { IfOk result (λ p. p ≡ public_param f.now) }
 {
     Ok(ParamInfo {

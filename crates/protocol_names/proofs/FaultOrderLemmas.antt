@@ -6,7 +6,7 @@ use Rattle.std.proofs.lemmas.List.{take_all, take_more}
 use Rattle.std.proofs.lemmas.List.Elements.{Contains-push, Contains-push_cases, Contains-append_left}
 use Rattle.protocol_names.specs.declared.fault.DocumentFault.{DocumentFault}
 use Rattle.protocol_names.specs.declared.fault.FaultKind.{FaultKind}
-use Rattle.protocol_names.specs.FaultOrder.{IsNotAfter, IsFirst, HasNone, FindsFirst, FaultIf, holds, EitherFault, OfSome, comes_before, earlier}
+use Rattle.protocol_names.specs.FaultOrder.{IsNotAfter, IsFirst, HasNone, FindsFirst, FaultIf, holds, EitherFault, OfSome, fault_before, earlier}
 
 -- the order goes on
 not_after_trans : (f g : DocumentFault) (kind : FaultKind) (offset : ℕ) → IsNotAfter f g.kind g.offset → IsNotAfter g kind offset → IsNotAfter f kind offset
@@ -16,14 +16,14 @@ not_after_trans f g kind offset (inr p) (inl q) = inl (omega (arith, p.0, q))
 not_after_trans f g kind offset (inr p) (inr q) = inr (p.0 ∙ q.0, omega (arith, p.1, q.1))
 
 -- if the test says that a fault comes before the other, it does
-before_is : (f g : DocumentFault) → comes_before g f ≡ true → IsNotAfter g f.kind f.offset
+before_is : (f g : DocumentFault) → fault_before g f ≡ true → IsNotAfter g f.kind f.offset
 before_is f g is = elim (cases_lt g.offset f.offset) [
   | inl below ↦ inl below
   | inr above ↦ inr (grind (arith, nat_tests))
 ]
 
 -- and if it does not, the other is not after it
-not_before_is : (f g : DocumentFault) → comes_before g f ≡ false → IsNotAfter f g.kind g.offset
+not_before_is : (f g : DocumentFault) → fault_before g f ≡ false → IsNotAfter f g.kind g.offset
 not_before_is f g is = elim (cases_lt f.offset g.offset) [
   | inl below ↦ inl below
   | inr above ↦ inr (grind (arith, nat_tests))
@@ -35,7 +35,7 @@ finds_same P Q None to from none = λ kind offset q. none kind offset (from kind
 finds_same P Q (Some f) to from first = record { fault = to f.kind f.offset first.fault; least = λ kind offset q. first.least kind offset (from kind offset q) }
 
 -- of two faults the earlier one is the first of both sorts
-one_of_two : (P Q : FaultKind → ℕ → Type 0) (f g : DocumentFault) (b : Bool) → comes_before g f ≡ b → IsFirst P f → IsFirst Q g → FindsFirst (EitherFault P Q) (cond b (Some g) (Some f))
+one_of_two : (P Q : FaultKind → ℕ → Type 0) (f g : DocumentFault) (b : Bool) → fault_before g f ≡ b → IsFirst P f → IsFirst Q g → FindsFirst (EitherFault P Q) (cond b (Some g) (Some f))
 one_of_two P Q f g true is one other = record {
   fault = inr other.fault;
   least = λ kind offset either. ⊎_elim (λ p. not_after_trans g f kind offset (before_is f g is) (one.least kind offset p)) (λ q. other.least kind offset q) either;
@@ -50,7 +50,7 @@ pub finds_either : (P Q : FaultKind → ℕ → Type 0) (a b : Option DocumentFa
 finds_either P Q None None one other = λ kind offset either. ⊎_elim (one kind offset) (other kind offset) either
 finds_either P Q None (Some g) one other = record { fault = inr other.fault; least = λ kind offset either. ⊎_elim (λ p. absurd (one kind offset p)) (other.least kind offset) either }
 finds_either P Q (Some f) None one other = record { fault = inl one.fault; least = λ kind offset either. ⊎_elim (one.least kind offset) (λ q. absurd (other kind offset q)) either }
-finds_either P Q (Some f) (Some g) one other = one_of_two P Q f g (comes_before g f) refl one other
+finds_either P Q (Some f) (Some g) one other = one_of_two P Q f g (fault_before g f) refl one other
 
 -- if the fact holds, its fault is the first of the sort
 pub holds_first : (Fact : Type 0) (kind : FaultKind) (offset : ℕ) → Fact → IsFirst (FaultIf Fact kind offset) (record { kind = kind; offset = offset })

@@ -86,15 +86,15 @@ IsFaultIn protocols p =
     (OfSome (IsItemFault protocols (names_of p)) p.body))
 
 -- a document: two protocols have one name, or a protocol is at fault
-abbrev pub IsFault : Document → FaultKind → ℕ → Type 0
-IsFault d =
+abbrev pub IsDocumentFault : Document → FaultKind → ℕ → Type 0
+IsDocumentFault d =
     EitherFault (IsDuplicate (protocol_words d.protocols))
     (OfSome (IsFaultIn d.protocols) d.protocols)
 
 -- the document has no fault
 abbrev pub HasNoFault : Document → Type 0
-HasNoFault d = HasNone (IsFault d)
+HasNoFault d = HasNone (IsDocumentFault d)
 
 -- the fault is the first of the document
 abbrev pub IsFirstFault : Document → DocumentFault → Type 0
-IsFirstFault d f = IsFirst (IsFault d) f
+IsFirstFault d f = IsFirst (IsDocumentFault d) f

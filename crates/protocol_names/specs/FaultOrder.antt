@@ -51,8 +51,8 @@ pub record OfSome {X : Type 0} (Fault : X → FaultKind → ℕ → Type 0) (xs 
   pub has : Fault item kind offset
 
 -- whether the first of two faults comes before the second
-abbrev pub comes_before : DocumentFault → DocumentFault → Bool
-comes_before f g =
+abbrev pub fault_before : DocumentFault → DocumentFault → Bool
+fault_before f g =
     nat_lt f.offset g.offset
     || ((f.offset == g.offset) && nat_lt (kind_rank f.kind) (kind_rank g.kind))
 
@@ -60,4 +60,4 @@ comes_before f g =
 abbrev pub earlier : Option DocumentFault → Option DocumentFault → Option DocumentFault
 earlier None other = other
 earlier (Some f) None = Some f
-earlier (Some f) (Some g) = cond (comes_before g f) (Some g) (Some f)
+earlier (Some f) (Some g) = cond (fault_before g f) (Some g) (Some f)

@@ -1,6 +1,6 @@
 ghost use Rattle.std.specs.Prelude.{◌≡◌, IsTrue, cond};
 ghost use Rattle.protocol_names.specs.FaultOrder.{earlier, FindsFirst, FaultIf, kind_rank};
-ghost use Rattle.protocol_names.specs.FaultOrder.{comes_before};
+ghost use Rattle.protocol_names.specs.FaultOrder.{fault_before};
 
 use super::fault::{DocumentFault, FaultKind};
 
@@ -30,14 +30,14 @@ pub(crate) fn fault_if(holds: bool, kind: FaultKind, offset: u64) -> Option<Docu
 
 /// The one of two faults that comes first.
 fn first_of(f: DocumentFault, g: DocumentFault) -> DocumentFault
-    ensures { result ≡ cond (comes_before g f) g f }
+    ensures { result ≡ cond (fault_before g f) g f }
 {
     if comes_before(g, f) { g } else { f }
 }
 
 /// Whether the first of two faults comes before the second.
 fn comes_before(f: DocumentFault, g: DocumentFault) -> bool
-    ensures { result ≡ comes_before f g }
+    ensures { result ≡ fault_before f g }
 {
     f.offset < g.offset || f.offset == g.offset && kind_rank(f.kind) < kind_rank(g.kind)
 }

@@ -15,12 +15,12 @@ use Rattle.bspl_parser.specs.declared.document.Reference.{Reference as SpecRefer
 use Rattle.list_base.proofs.Membership.{member_at}
 use Rattle.list_base.proofs.Pigeonhole.{few_distinct}
 use Rattle.protocol_names.specs.Names.{protocol_of}
-use Rattle.protocol_paths.specs.Path.{Step, end_of, item_messages, message_paths, numbered, paths, private_words, steps, steps_at, through}
+use Rattle.protocol_paths.specs.Path.{Step, end_of, item_messages, message_paths, numbered_items, paths, private_words, steps, steps_at, through}
 use Rattle.protocol_paths.specs.ReferencePath.{HasNoCycle, IsReferencePath, IsStepOf, IsWithinDepth, item_at, protocols_on}
 use Rattle.protocol_paths.proofs.ReferenceLemmas.{message_alone}
 
 -- what holds of each item at its position holds of the numbered items
-pub numbered_all : (P : ℕ × Item → Type 0) (p : Declaration) → ((k : ℕ) (i : Item) → item_at p k ≡ Some i → P (k, i)) → All P (numbered p)
+pub numbered_all : (P : ℕ × Item → Type 0) (p : Declaration) → ((k : ℕ) (i : Item) → item_at p k ≡ Some i → P (k, i)) → All P (numbered_items p)
 numbered_all P p each j d within =
     let inside : j < length p.body = omega (arith, within, length-enumerate_from 1 p.body) in
     let counted : 1 + j ≡ suc j = omega arith in
@@ -64,7 +64,7 @@ steps_of_item protocols p k (Reference r) at = All-weaker (IsStepAt protocols p 
 
 -- the steps that are listed are steps of the protocol
 pub steps_hold : (protocols : List Declaration) (p : Declaration) → All (IsStepOf protocols p) (steps protocols p)
-steps_hold protocols p = all_gathered (IsStepOf protocols p) (steps_at protocols) (numbered p) (numbered_all (λ i. All (IsStepOf protocols p) (steps_at protocols i)) p (steps_of_item protocols p))
+steps_hold protocols p = all_gathered (IsStepOf protocols p) (steps_at protocols) (numbered_items p) (numbered_all (λ i. All (IsStepOf protocols p) (steps_at protocols i)) p (steps_of_item protocols p))
 
 -- after a step one reference fewer is left
 pub within_after : (n : ℕ) (protocols : List Declaration) (p : Declaration) (s : Step) → IsWithinDepth protocols p (suc n) → IsStepOf protocols p s → IsWithinDepth protocols s.target n
@@ -102,14 +102,14 @@ same_item (suc n) zero protocols p k (Reference r) at within less = absurd (omeg
 same_item (suc n) (suc m) protocols p k (Reference r) at within less =
     same_on (λ s. map (through s) (message_paths m protocols s.target)) (λ s. map (through s) (message_paths n protocols s.target)) (steps_at protocols (k, Reference r))
     (All-weaker (IsStepOf protocols p) (λ s. map (through s) (message_paths m protocols s.target) ≡ map (through s) (message_paths n protocols s.target))
-    (λ s step. ap (map (through s)) (same_on (item_messages m protocols) (item_messages n protocols) (numbered s.target)
+    (λ s step. ap (map (through s)) (same_on (item_messages m protocols) (item_messages n protocols) (numbered_items s.target)
     (numbered_all (λ i. item_messages m protocols i ≡ item_messages n protocols i) s.target
     (λ j i here. same_item n m protocols s.target j i here (within_after n protocols p s within step) (omega (arith, less))))))
     (steps_at protocols (k, Reference r)) (steps_of_item protocols p k (Reference r) at))
 
 pub same_messages : (n m : ℕ) (protocols : List Declaration) (p : Declaration) → IsWithinDepth protocols p n → n ≤ m → message_paths m protocols p ≡ message_paths n protocols p
 same_messages n m protocols p within less =
-    same_on (item_messages m protocols) (item_messages n protocols) (numbered p)
+    same_on (item_messages m protocols) (item_messages n protocols) (numbered_items p)
     (numbered_all (λ i. item_messages m protocols i ≡ item_messages n protocols i) p (λ k i at. same_item n m protocols p k i at within less))
 
 -- the protocol of a name is among the protocols

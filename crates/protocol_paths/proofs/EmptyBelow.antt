@@ -6,7 +6,7 @@ use Rattle.bspl_parser.specs.declared.document.Declaration.{Declaration}
 use Rattle.bspl_parser.specs.declared.document.Item.{Item}
 use Rattle.bspl_parser.specs.declared.document.Item.TheVariants.{Message, Reference}
 use Rattle.bspl_parser.specs.declared.word.Word.{Word}
-use Rattle.protocol_paths.specs.Path.{Step, through, end_of, item_messages, message_paths, numbered, paths, private_words, steps, steps_at}
+use Rattle.protocol_paths.specs.Path.{Step, through, end_of, item_messages, message_paths, numbered_items, paths, private_words, steps, steps_at}
 
 -- both parts of nothing are nothing
 pub parts_empty : {X : Type 0} (xs ys : List X) → xs ++ ys ≡ [] → (xs ≡ []) × (ys ≡ [])
@@ -39,7 +39,7 @@ flat_map-same f g same (x ∷ xs) = λ i. same x i ++ flat_map-same f g same xs 
 
 -- fewer references lead to no more messages
 fewer_after : (m n : ℕ) (protocols : List Declaration) (s : Step) → ((i : ℕ × Item) → item_messages n protocols i ≡ [] → item_messages m protocols i ≡ []) → map (through s) (message_paths n protocols s.target) ≡ [] → map (through s) (message_paths m protocols s.target) ≡ []
-fewer_after m n protocols s fewer none = ap (map (through s)) (flat_map_empty (item_messages n protocols) (item_messages m protocols) fewer (numbered s.target) (map_empty (through s) (message_paths n protocols s.target) none))
+fewer_after m n protocols s fewer none = ap (map (through s)) (flat_map_empty (item_messages n protocols) (item_messages m protocols) fewer (numbered_items s.target) (map_empty (through s) (message_paths n protocols s.target) none))
 
 fewer_items : (m n : ℕ) (protocols : List Declaration) (i : ℕ × Item) → m ≤ n → item_messages n protocols i ≡ [] → item_messages m protocols i ≡ []
 fewer_items zero n protocols (position, Reference r) fewer none = refl
@@ -51,7 +51,7 @@ fewer_items (suc m) (suc n) protocols (position, Reference r) fewer none =
     flat_map_empty (λ s. map (through s) (message_paths n protocols s.target)) (λ s. map (through s) (message_paths m protocols s.target)) (λ s. fewer_after m n protocols s (λ i. fewer_items m n protocols i (omega (arith, fewer)))) (steps_at protocols (position, Reference r)) none
 
 pub fewer_messages : (m n : ℕ) (protocols : List Declaration) (p : Declaration) → m ≤ n → message_paths n protocols p ≡ [] → message_paths m protocols p ≡ []
-fewer_messages m n protocols p fewer none = flat_map_empty (item_messages n protocols) (item_messages m protocols) (λ i. fewer_items m n protocols i fewer) (numbered p) none
+fewer_messages m n protocols p fewer none = flat_map_empty (item_messages n protocols) (item_messages m protocols) (λ i. fewer_items m n protocols i fewer) (numbered_items p) none
 
 -- the private parameters of a protocol, and those through its references
 words_more : (n : ℕ) (protocols : List Declaration) (p : Declaration) → private_words (suc n) protocols p ≡ p.private ++ flat_map (λ s. private_words n protocols s.target) (steps protocols p)

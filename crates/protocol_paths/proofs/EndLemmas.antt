@@ -10,7 +10,7 @@ use Rattle.protocol_paths.specs.declared.context.Context.{Context}
 use Rattle.protocol_paths.specs.declared.ends.Ends.{Ends}
 use Rattle.protocol_paths.specs.declared.link.Link.{Link}
 use Rattle.protocol_paths.specs.Flat.{IsImage, entry, private_entries, privates_at}
-use Rattle.protocol_paths.specs.Path.{Step, item_messages, message_paths, numbered}
+use Rattle.protocol_paths.specs.Path.{Step, item_messages, message_paths, numbered_items}
 use Rattle.protocol_paths.specs.Scope.{Scope, after, start}
 use Rattle.protocol_paths.specs.inner.AddsEach.{AddsEach, IsImageMessage}
 use Rattle.protocol_paths.specs.inner.AddsEnds.{AddsEnds, AreEnds, item_entries}
@@ -68,7 +68,7 @@ ends_through protocols scope n position r l i old new is some by adds =
     }
 
 -- the private parameters of the scope's protocol
-pub ends_own : (n : ℕ) (protocols : List Declaration) (scope : Scope) (old new : Ends) → map entry new.private ≡ map entry old.private ++ privates_at scope → new.messages ≡ old.messages → AddsEnds scope (privates_at scope ++ flat_map (item_entries n protocols scope) (take 0 (numbered scope.protocol))) (flat_map (item_messages n protocols) (take 0 (numbered scope.protocol))) old new
+pub ends_own : (n : ℕ) (protocols : List Declaration) (scope : Scope) (old new : Ends) → map entry new.private ≡ map entry old.private ++ privates_at scope → new.messages ≡ old.messages → AddsEnds scope (privates_at scope ++ flat_map (item_entries n protocols scope) (take 0 (numbered_items scope.protocol))) (flat_map (item_messages n protocols) (take 0 (numbered_items scope.protocol))) old new
 ends_own n protocols scope old new own same = record {
   private = own ∙ ap (λ (list : List (List ℕ × ℕ)). map entry old.private ++ list) (after_none [] (privates_at scope) refl);
   messages = adds_none (IsImageMessage scope) [] old.messages new.messages refl same;
@@ -82,7 +82,7 @@ ends_more n protocols scope body i item old mid new within is_item so_far one = 
 }
 
 -- all items
-pub ends_all : (n : ℕ) (protocols : List Declaration) (scope : Scope) (i : ℕ) (old new : Ends) → length scope.protocol.body ≤ i → AddsEnds scope (privates_at scope ++ flat_map (item_entries n protocols scope) (take i (numbered scope.protocol))) (flat_map (item_messages n protocols) (take i (numbered scope.protocol))) old new → AddsEnds scope (private_entries n protocols scope) (message_paths n protocols scope.protocol) old new
+pub ends_all : (n : ℕ) (protocols : List Declaration) (scope : Scope) (i : ℕ) (old new : Ends) → length scope.protocol.body ≤ i → AddsEnds scope (privates_at scope ++ flat_map (item_entries n protocols scope) (take i (numbered_items scope.protocol))) (flat_map (item_messages n protocols) (take i (numbered_items scope.protocol))) old new → AddsEnds scope (private_entries n protocols scope) (message_paths n protocols scope.protocol) old new
 ends_all n protocols scope i old new past so_far = record {
   private = after_all n i protocols scope (map entry old.private) (map entry new.private) past so_far.private;
   messages = adds_all (IsImageMessage scope) (item_messages n protocols) scope.protocol.body i old.messages new.messages past so_far.messages;

@@ -13,7 +13,7 @@ use Rattle.protocol_paths.specs.declared.followed.Followed.{Followed}
 use Rattle.protocol_paths.specs.Flat.{private_entries, privates_at}
 use Rattle.protocol_paths.specs.inner.AddsEnds.{item_entries}
 use Rattle.protocol_paths.specs.Followed.{FollowsEnough, IsSkipped}
-use Rattle.protocol_paths.specs.Path.{Step, end_of, numbered, paths, private_words, steps, steps_at}
+use Rattle.protocol_paths.specs.Path.{Step, end_of, numbered_items, paths, private_words, steps, steps_at}
 use Rattle.protocol_paths.specs.Scope.{Scope, after, scope_at}
 use Rattle.protocol_paths.proofs.EmptyBelow.{fewer_words, flat_map-flat_map, flat_map-map, flat_map-same, flat_map_empty}
 use Rattle.protocol_paths.proofs.Numbered.{made_all, made_more}
@@ -43,12 +43,12 @@ no_items protocols scope [] = refl
 no_items protocols scope (i ∷ items) = no_items protocols scope items
 
 -- of one protocol its own, and then those through each item
-pub entries_more : (n : ℕ) (protocols : List Declaration) (scope : Scope) → private_entries n protocols scope ≡ privates_at scope ++ flat_map (item_entries n protocols scope) (numbered scope.protocol)
-entries_more zero protocols scope = ap (λ (list : List Entry). privates_at scope ++ list) (sym (no_items protocols scope (numbered scope.protocol)))
+pub entries_more : (n : ℕ) (protocols : List Declaration) (scope : Scope) → private_entries n protocols scope ≡ privates_at scope ++ flat_map (item_entries n protocols scope) (numbered_items scope.protocol)
+entries_more zero protocols scope = ap (λ (list : List Entry). privates_at scope ++ list) (sym (no_items protocols scope (numbered_items scope.protocol)))
 entries_more (suc n) protocols scope = ap (λ (list : List Entry). privates_at scope ++ list) (
     flat_map-flat_map (λ path. privates_at (scope_at scope path)) (λ s. map (λ path. s ∷ path) (paths n protocols s.target)) (steps protocols scope.protocol)
     ∙ flat_map-same (λ s. flat_map (λ path. privates_at (scope_at scope path)) (map (λ path. s ∷ path) (paths n protocols s.target))) (λ s. private_entries n protocols (after scope s)) (λ s. flat_map-map (λ path. privates_at (scope_at scope path)) (λ path. s ∷ path) (paths n protocols s.target)) (steps protocols scope.protocol)
-    ∙ flat_map-flat_map (λ s. private_entries n protocols (after scope s)) (steps_at protocols) (numbered scope.protocol))
+    ∙ flat_map-flat_map (λ s. private_entries n protocols (after scope s)) (steps_at protocols) (numbered_items scope.protocol))
 
 pub after_more : (f : ℕ × Item → List Entry) (body : List Item) (i : ℕ) (item : Item) (own old mid new : List Entry) → i < length body → item ≡ get_or body i item → mid ≡ old ++ (own ++ flat_map f (take i (enumerate_from 1 body))) → new ≡ mid ++ f (i + 1, item) → new ≡ old ++ (own ++ flat_map f (take (i + 1) (enumerate_from 1 body)))
 after_more f body i item own old mid new within is_item so_far one =
@@ -57,7 +57,7 @@ after_more f body i item own old mid new within is_item so_far one =
     ∙ ap (λ (list : List Entry). old ++ list) (append_assoc own (flat_map f (take i (enumerate_from 1 body))) (f (i + 1, item)))
     ∙ ap (λ (list : List Entry). old ++ (own ++ list)) (sym (made_more f body i item within is_item))
 
-pub after_all : (n i : ℕ) (protocols : List Declaration) (scope : Scope) (old new : List Entry) → length scope.protocol.body ≤ i → new ≡ old ++ (privates_at scope ++ flat_map (item_entries n protocols scope) (take i (numbered scope.protocol))) → new ≡ old ++ private_entries n protocols scope
+pub after_all : (n i : ℕ) (protocols : List Declaration) (scope : Scope) (old new : List Entry) → length scope.protocol.body ≤ i → new ≡ old ++ (privates_at scope ++ flat_map (item_entries n protocols scope) (take i (numbered_items scope.protocol))) → new ≡ old ++ private_entries n protocols scope
 after_all n i protocols scope old new past so_far =
     so_far
     ∙ ap (λ (list : List Entry). old ++ (privates_at scope ++ list)) (made_all (item_entries n protocols scope) scope.protocol.body i past)

@@ -10,7 +10,7 @@ use Rattle.list_base.proofs.Mapped.{mapped_pairs}
 use Rattle.protocol_names.specs.Names.{protocol_of}
 use Rattle.std.specs.Option.{option_map_or}
 use Rattle.std.proofs.lemmas.List.{append-nil}
-use Rattle.protocol_paths.specs.Path.{Step, end_of, numbered, paths, steps, steps_at}
+use Rattle.protocol_paths.specs.Path.{Step, end_of, numbered_items, paths, steps, steps_at}
 use Rattle.protocol_paths.specs.Position.{IsLexBelow, LeadsOn, ListsPaths, path_end, positions_of}
 use Rattle.protocol_paths.specs.ReferencePath.{IsReferencePath, IsStepOf, IsWithinDepth}
 use Rattle.protocol_paths.proofs.DepthLemmas.{all_gathered, no_step_left, steps_hold, within_after}
@@ -50,7 +50,7 @@ path_found (suc n) protocols p (k ∷ ks) q within (r, refers, leads) =
     let step : IsStepOf protocols p s = record { item = refers.item; target = refers.target } in
     let rest = path_found n protocols r ks q (within_after n protocols p s within step) leads in
     let among : Contains (steps protocols p) s =
-    member_gathered (steps_at protocols) (numbered p) (k, Reference refers.reference) s (item_numbered p k (Reference refers.reference) refers.item)
+    member_gathered (steps_at protocols) (numbered_items p) (k, Reference refers.reference) s (item_numbered p k (Reference refers.reference) refers.item)
     (subst (λ (ss : List Step). Contains ss s) (sym (one_step protocols k refers.reference r refers.target)) (0, omega arith, refl)) in (
       s ∷ rest.0,
       Contains-append_right ([] ∷ []) (flat_map (paths_by n protocols) (steps protocols p)) (s ∷ rest.0)
@@ -127,8 +127,8 @@ item_rises n protocols each k (Reference r) =
 paths_rise : (n : ℕ) (protocols : List Declaration) (p : Declaration) → AllPairs Below (paths n protocols p)
 paths_rise zero protocols p = λ i j d less within. absurd (omega (arith, less, within))
 paths_rise (suc n) protocols p =
-    let through = flat_map (paths_through n protocols) (numbered p) in
-    let same : flat_map (paths_by n protocols) (steps protocols p) ≡ through = flat_map-flat_map (paths_by n protocols) (steps_at protocols) (numbered p) in
+    let through = flat_map (paths_through n protocols) (numbered_items p) in
+    let same : flat_map (paths_by n protocols) (steps protocols p) ≡ through = flat_map-flat_map (paths_by n protocols) (steps_at protocols) (numbered_items p) in
     subst (λ (list : List (List Step)). AllPairs Below ([] ∷ list)) (sym same)
     (AllPairs-cons Below [] through (All-weaker (BeginsFrom 1) (Below []) (empty_below 1) through (items_begin n protocols 1 p.body))
     (items_rise n protocols (item_rises n protocols (paths_rise n protocols)) 1 p.body))

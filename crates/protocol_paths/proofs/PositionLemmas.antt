@@ -14,7 +14,7 @@ use Rattle.bspl_parser.specs.declared.document.Schema.{Schema}
 use Rattle.list_base.proofs.Mapped.{mapped_pairs}
 use Rattle.list_base.proofs.Zipped.{zip_append}
 use Rattle.protocol_names.specs.Names.{protocol_of}
-use Rattle.protocol_paths.specs.Path.{Step, item_messages, message_paths, numbered, steps_at, through}
+use Rattle.protocol_paths.specs.Path.{Step, item_messages, message_paths, numbered_items, steps_at, through}
 use Rattle.protocol_paths.specs.Position.{HasPositions, IsLexBelow, LeadsTo, ListsMessages}
 use Rattle.protocol_paths.specs.ReferencePath.{IsStepOf, IsWithinDepth, item_at}
 use Rattle.protocol_paths.proofs.DepthLemmas.{IsStepAt, all_gathered, no_step_left, numbered_all, steps_here, within_after}
@@ -33,11 +33,11 @@ abbrev ends_at : ℕ → List Declaration → ℕ × Item → List End
 ends_at zero protocols (k, Message m) = (k ∷ [], m) ∷ []
 ends_at zero protocols (k, Reference r) = []
 ends_at (suc n) protocols (k, Message m) = (k ∷ [], m) ∷ []
-ends_at (suc n) protocols (k, Reference r) = flat_map (λ s. map (from_position k) (flat_map (ends_at n protocols) (numbered s.target))) (steps_at protocols (k, Reference r))
+ends_at (suc n) protocols (k, Reference r) = flat_map (λ s. map (from_position k) (flat_map (ends_at n protocols) (numbered_items s.target))) (steps_at protocols (k, Reference r))
 
 -- the ends of the paths from a protocol
 abbrev ends_of : ℕ → List Declaration → Declaration → List End
-ends_of n protocols p = flat_map (ends_at n protocols) (numbered p)
+ends_of n protocols p = flat_map (ends_at n protocols) (numbered_items p)
 
 -- a message alone
 end_alone : (n : ℕ) (protocols : List Declaration) (k : ℕ) (m : Schema) → ends_at n protocols (k, Message m) ≡ (k ∷ [], m) ∷ []
@@ -76,7 +76,7 @@ each_item (suc n) protocols p k (Reference r) at =
     zip_gathered (HasPositions protocols p) (λ s. map (from_position k) (ends_of n protocols s.target)) (λ s. map (through s) (message_paths n protocols s.target)) (steps_at protocols (k, Reference r))
     (All-weaker (IsStepAt protocols p k) (λ s. AllZip (HasPositions protocols p) (map (from_position k) (ends_of n protocols s.target)) (map (through s) (message_paths n protocols s.target)))
     (λ s here. zip_both (HasPositions protocols s.target) (HasPositions protocols p) (from_position k) (through s) (positions_after protocols p k s here) (ends_of n protocols s.target) (message_paths n protocols s.target)
-    (zip_gathered (HasPositions protocols s.target) (ends_at n protocols) (item_messages n protocols) (numbered s.target)
+    (zip_gathered (HasPositions protocols s.target) (ends_at n protocols) (item_messages n protocols) (numbered_items s.target)
     (numbered_all (λ i. AllZip (HasPositions protocols s.target) (ends_at n protocols i) (item_messages n protocols i)) s.target (each_item n protocols s.target))))
     (steps_at protocols (k, Reference r)) (steps_here protocols p k r at))
 
@@ -100,12 +100,12 @@ item_leads (suc n) protocols p k (Reference r) at =
     (All-weaker (IsStepAt protocols p k) (λ s. All (Leads protocols p) (map (from_position k) (ends_of n protocols s.target)))
     (λ s here. All-map (Leads protocols p) (from_position k) (ends_of n protocols s.target)
     (All-weaker (Leads protocols s.target) (λ e. Leads protocols p (from_position k e)) (λ e leads. leads_from protocols p k s here e.0 e.1 leads) (ends_of n protocols s.target)
-    (all_gathered (Leads protocols s.target) (ends_at n protocols) (numbered s.target)
+    (all_gathered (Leads protocols s.target) (ends_at n protocols) (numbered_items s.target)
     (numbered_all (λ i. All (Leads protocols s.target) (ends_at n protocols i)) s.target (item_leads n protocols s.target)))))
     (steps_at protocols (k, Reference r)) (steps_here protocols p k r at))
 
 ends_lead : (n : ℕ) (protocols : List Declaration) (p : Declaration) → All (Leads protocols p) (ends_of n protocols p)
-ends_lead n protocols p = all_gathered (Leads protocols p) (ends_at n protocols) (numbered p) (numbered_all (λ i. All (Leads protocols p) (ends_at n protocols i)) p (item_leads n protocols p))
+ends_lead n protocols p = all_gathered (Leads protocols p) (ends_at n protocols) (numbered_items p) (numbered_all (λ i. All (Leads protocols p) (ends_at n protocols i)) p (item_leads n protocols p))
 
 -- a member of a list that a member makes
 pub member_gathered : {X Y : Type 0} (f : X → List Y) (xs : List X) (x : X) (y : Y) → Contains xs x → Contains (f x) y → Contains (flat_map f xs) y
@@ -118,7 +118,7 @@ pub member_mapped : {X Y : Type 0} (f : X → Y) (xs : List X) (x : X) → Conta
 member_mapped f xs x among = (among.0, omega (arith, among.1, length-map xs f), get_or-map f xs among.0 x (f x) among.1 ∙ ap f among.2)
 
 -- the item at a position is among the numbered items
-pub item_numbered : (p : Declaration) (k : ℕ) (i : Item) → item_at p k ≡ Some i → Contains (numbered p) (k, i)
+pub item_numbered : (p : Declaration) (k : ℕ) (i : Item) → item_at p k ≡ Some i → Contains (numbered_items p) (k, i)
 item_numbered p zero i at = absurd cc
 item_numbered p (suc j) i at =
     let inside = slice_get_within p.body j i at in
@@ -129,7 +129,7 @@ item_numbered p (suc j) i at =
 end_found : (n : ℕ) (protocols : List Declaration) (p : Declaration) (ks : List ℕ) (m : Schema) → IsWithinDepth protocols p n → LeadsTo protocols p ks m → Contains (ends_of n protocols p) (ks, m)
 end_found n protocols p [] m within leads = absurd leads
 end_found n protocols p (k ∷ []) m within at =
-    member_gathered (ends_at n protocols) (numbered p) (k, Message m) (k ∷ [], m) (item_numbered p k (Message m) at)
+    member_gathered (ends_at n protocols) (numbered_items p) (k, Message m) (k ∷ [], m) (item_numbered p k (Message m) at)
     (subst (λ (ends : List End). Contains ends (k ∷ [], m)) (sym (end_alone n protocols k m)) (0, omega arith, refl))
 end_found zero protocols p (k ∷ j ∷ ks) m within (q, refers, leads) =
     absurd (no_step_left protocols p within (step_by k refers.reference q) (record { item = refers.item; target = refers.target }))
@@ -138,7 +138,7 @@ end_found (suc n) protocols p (k ∷ j ∷ ks) m within (q, refers, leads) =
     let step : IsStepOf protocols p s = record { item = refers.item; target = refers.target } in
     let there : Contains (map (from_position k) (ends_of n protocols q)) (k ∷ j ∷ ks, m) =
     member_mapped (from_position k) (ends_of n protocols q) (j ∷ ks, m) (end_found n protocols q (j ∷ ks) m (within_after n protocols p s within step) leads) in
-    member_gathered (ends_at (suc n) protocols) (numbered p) (k, Reference refers.reference) (k ∷ j ∷ ks, m) (item_numbered p k (Reference refers.reference) refers.item)
+    member_gathered (ends_at (suc n) protocols) (numbered_items p) (k, Reference refers.reference) (k ∷ j ∷ ks, m) (item_numbered p k (Reference refers.reference) refers.item)
     (subst (λ (ss : List Step). Contains (flat_map (λ t. map (from_position k) (ends_of n protocols t.target)) ss) (k ∷ j ∷ ks, m)) (sym (one_step protocols k refers.reference q refers.target))
     (Contains-append_left (map (from_position k) (ends_of n protocols q)) [] (k ∷ j ∷ ks, m) there))
 
@@ -216,7 +216,7 @@ item_rises (suc n) protocols k (Reference r) =
 pub messages_listed : (n : ℕ) (protocols : List Declaration) (top : Declaration) → IsWithinDepth protocols top n → ListsMessages protocols top (message_paths n protocols top)
 messages_listed n protocols top within = record {
   ends = ends_of n protocols top;
-  each = zip_gathered (HasPositions protocols top) (ends_at n protocols) (item_messages n protocols) (numbered top) (numbered_all (λ i. AllZip (HasPositions protocols top) (ends_at n protocols i) (item_messages n protocols i)) top (each_item n protocols top));
+  each = zip_gathered (HasPositions protocols top) (ends_at n protocols) (item_messages n protocols) (numbered_items top) (numbered_all (λ i. AllZip (HasPositions protocols top) (ends_at n protocols i) (item_messages n protocols i)) top (each_item n protocols top));
   exact = λ positions m. (
     (λ among. All-contains (Leads protocols top) (ends_of n protocols top) (positions, m) (ends_lead n protocols top) among),
     (λ leads. end_found n protocols top positions m within leads),

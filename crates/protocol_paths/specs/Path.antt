@@ -17,8 +17,8 @@ pub record Step : Type 0 where
   pub target : Declaration
 
 -- the items of a body with their positions
-abbrev pub numbered : Declaration → List (ℕ × Item)
-numbered p = enumerate_from 1 p.body
+abbrev pub numbered_items : Declaration → List (ℕ × Item)
+numbered_items p = enumerate_from 1 p.body
 
 -- the step by an item: none for a message, or if no protocol has the name
 abbrev pub steps_at : List Declaration → ℕ × Item → List Step
@@ -29,7 +29,7 @@ steps_at protocols (position, Reference r) =
 
 -- the steps of a protocol, in the order of its body
 abbrev pub steps : List Declaration → Declaration → List Step
-steps protocols p = flat_map (steps_at protocols) (numbered p)
+steps protocols p = flat_map (steps_at protocols) (numbered_items p)
 
 -- the paths of at most `n` references, by their positions, each before its extensions
 abbrev pub paths : ℕ → List Declaration → Declaration → List (List Step)
@@ -57,9 +57,9 @@ item_messages zero protocols (position, Message m) = ([], m) ∷ []
 item_messages zero protocols (position, Reference r) = []
 item_messages (suc n) protocols (position, Message m) = ([], m) ∷ []
 item_messages (suc n) protocols (position, Reference r) =
-    flat_map (λ s. map (through s) (flat_map (item_messages n protocols) (numbered s.target)))
+    flat_map (λ s. map (through s) (flat_map (item_messages n protocols) (numbered_items s.target)))
     (steps_at protocols (position, Reference r))
 
 -- the messages at the ends of the paths of at most `n` references, by their positions
 abbrev pub message_paths : ℕ → List Declaration → Declaration → List (List Step × Schema)
-message_paths n protocols p = flat_map (item_messages n protocols) (numbered p)
+message_paths n protocols p = flat_map (item_messages n protocols) (numbered_items p)

@@ -4,9 +4,9 @@ use Rattle.std.specs.Fmt.{decimal}
 use Rattle.std.specs.List.{flat_map}
 use Rattle.bspl_types.specs.declared.event.Event.{Event}
 use Rattle.bspl_types.specs.declared.expanded.Expanded.{Expanded}
+use Rattle.bspl_types.specs.Expansion.{role_name}
 use Rattle.enactment_model.specs.declared.bad_event.Why.{Why}
 use Rattle.history_audit.specs.declared.audit_no.Point.{Point}
-use Rattle.history_audit.specs.HistoryText.{role_name}
 use Rattle.list_base.specs.Lines.{line_of}
 use Rattle.run_text.specs.RunText.{run_text}
 use Rattle.report.specs.ReplayLines.{reason_fields}

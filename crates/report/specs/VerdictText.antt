@@ -14,7 +14,7 @@ use Rattle.verdict.specs.declared.outcome.Liveness.TheVariants as liveness
 use Rattle.verdict.specs.declared.outcome.Safety.{Safety}
 use Rattle.verdict.specs.declared.outcome.Safety.TheVariants.{Safe, Undecided, Unsafe}
 use Rattle.verdict.specs.declared.outcome.Verdicts.{Verdicts}
-use Rattle.verdict.specs.Verdicts.{AreRight}
+use Rattle.verdict.specs.Verdicts.{AreRightAnswers}
 
 -- the first line: the protocol's name
 abbrev pub protocol_line : Expanded → List ℕ
@@ -96,4 +96,4 @@ pub record HaveFittingRuns (x : Expanded) (v : Verdicts) : Type 0 where
 -- so it is if the answers are right
 abbrev pub RightRunsFit : Type 0
 RightRunsFit =
-    (x : Expanded) (budget : ℕ) (v : Verdicts) → AreRight x budget v → HaveFittingRuns x v
+    (x : Expanded) (budget : ℕ) (v : Verdicts) → AreRightAnswers x budget v → HaveFittingRuns x v

@@ -1,7 +1,7 @@
 ghost use Rattle.std.specs.Prelude.{◌≡◌, ◌++◌, IfOk, OnOk};
 ghost use Rattle.std.specs.List.{flat_map};
 ghost use Rattle.bspl_types.specs.History.{IsRun};
-ghost use Rattle.history_audit.specs.HistoryText.{role_name};
+ghost use Rattle.bspl_types.specs.Expansion.{role_name};
 ghost use Rattle.report.specs.AuditText.{bad_place_line, consistent_text, cycle_line, point_fields};
 ghost use Rattle.run_text.specs.inner.LineFields.{spaced_fields};
 

@@ -7,18 +7,18 @@ use Rattle.bspl_types.specs.declared.value.Value.{Value}
 use Rattle.bspl_types.specs.History.{instance_of}
 use Rattle.durable_store.specs.Calls.{Acknowledged, Ends, HasRoom, Unacknowledged}
 use Rattle.durable_store.specs.History.{IsHistory}
-use Rattle.durable_store.specs.State.{DurableState, IsHistoryFor, IsSound}
+use Rattle.durable_store.specs.State.{DurableState, IsHistoryFor, IsSoundStore}
 use Rattle.local_store.specs.State.{StoreState}
 use Rattle.role_journal.specs.Counts.{Counts, after_fault}
 use Rattle.role_journal.specs.Journal.{IsBeforeOrAfter, IsJournal, places}
 use Rattle.stamped_history.specs.declared.entry.Entry.{Entry}
 use Rattle.stamped_history.specs.Local.{IsLocal}
-use Rattle.restart_run.specs.Disks.{IsWritten}
+use Rattle.restart_run.specs.Disks.{IsWrittenDisk}
 use Rattle.restart_run.specs.inner.Keeping.{HasKept, IsCutOff, IsHistoryOf, IsKeeper, IsStartedAgain, MayAppend, counts_when}
 
 module _ {D : Type 0} (seen : D → List ℕ) (may_leave : D → List ℕ → Type 0) (clock : D → ℕ) (left_since : D → ℕ → List ℕ → Type 0) (counts : D → Counts) (job : Job) (role : ℕ) (restarted : Bool) (s : DurableState D) (keeper : IsKeeper counts job role restarted s) where
   -- there is a place for the next entry
-  pub room_for : (e : Entry) → IsSound seen may_leave counts s → MayAppend seen job role s e → HasRoom s
+  pub room_for : (e : Entry) → IsSoundStore seen may_leave counts s → MayAppend seen job role s e → HasRoom s
   room_for e sound may = record {
     unspent = keeper.unspent;
     spare = omega (arith, may.room, (sound.ready keeper.unspent).room);
@@ -56,7 +56,7 @@ module _ {D : Type 0} (seen : D → List ℕ) (may_leave : D → List ℕ → Ty
   }
 
   -- after one that is not acknowledged, because a call of the disk failed
-  pub cut_off : ((d : D) (t : ℕ) (c : List ℕ) → t ≤ clock d → may_leave d c → left_since d t c) → (e : Entry) (t : DurableState D) → IsSound seen may_leave counts s → MayAppend seen job role s e → Ends seen may_leave clock left_since (Unacknowledged e) s t → counts t.disk ≡ after_fault (counts s.disk) → IsCutOff seen may_leave counts job role restarted t e
+  pub cut_off : ((d : D) (t : ℕ) (c : List ℕ) → t ≤ clock d → may_leave d c → left_since d t c) → (e : Entry) (t : DurableState D) → IsSoundStore seen may_leave counts s → MayAppend seen job role s e → Ends seen may_leave clock left_since (Unacknowledged e) s t → counts t.disk ≡ after_fault (counts s.disk) → IsCutOff seen may_leave counts job role restarted t e
   cut_off counts_now e t sound may (writes, spent) fault =
       let same : s.store ≡ t.store = sym spent.store in
       record {
@@ -72,7 +72,7 @@ module _ {D : Type 0} (seen : D → List ℕ) (may_leave : D → List ℕ → Ty
       }
 
   -- what the store's disk keeps in the end
-  pub kept_written : IsSound seen may_leave counts s → IsWritten may_leave counts s.store.entries s.disk
+  pub kept_written : IsSoundStore seen may_leave counts s → IsWrittenDisk may_leave counts s.store.entries s.disk
   kept_written sound =
       let ready = sound.ready keeper.unspent in
       record {

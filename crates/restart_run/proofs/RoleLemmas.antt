@@ -9,7 +9,7 @@ use Rattle.std.proofs.lemmas.Option.{get_or_from_slice_get, slice_get-get_or, sl
 use Rattle.bspl_types.specs.Limits.{role_limit}
 use Rattle.adapter.specs.Desk.{DeskState}
 use Rattle.agent_scripts.specs.Job.{Job}
-use Rattle.durable_store.specs.State.{DurableState, IsSound}
+use Rattle.durable_store.specs.State.{DurableState, IsSoundStore}
 use Rattle.local_store.specs.State.{StoreState}
 use Rattle.role_journal.specs.Counts.{Counts}
 use Rattle.stamped_history.specs.declared.entry.Entry.{Entry}
@@ -20,7 +20,7 @@ use Rattle.world_run.specs.Finished.{IsFinished}
 use Rattle.world_run.specs.Settling.{HaveRunWhole}
 use Rattle.world_run.specs.World.{AreDesksOfOne, AreKept, WorldState, histories_of}
 use Rattle.restart_run.specs.declared.roles.KeptRoles.{KeptRoles}
-use Rattle.restart_run.specs.Disks.{AreBlank, IsBlank, IsWritten, bytes_for, faulty}
+use Rattle.restart_run.specs.Disks.{AreBlank, IsBlank, IsWrittenDisk, bytes_for, faulty}
 use Rattle.restart_run.specs.Restarted.{IsRestarted}
 use Rattle.restart_run.specs.inner.Keeping.{HasKept, IsKeeper, counts_when}
 use Rattle.restart_run.specs.inner.Roles.{AddsRole, AreKeptTo, IsEmptyDesk}
@@ -105,7 +105,7 @@ module _ {D : Type 0} (may_leave : D → List ℕ → Type 0) (counts : D → Co
     }
 
     -- one role more
-    pub kept_more : (count : ℕ) (old new : KeptRoles D) (restarted : Bool) (s : DurableState D) → count < length histories → AreKeptTo may_leave counts job histories count old → AddsRole restarted s old new → IsKeeper counts job count restarted s → s.store.entries ≡ history_at histories count → IsWritten may_leave counts s.store.entries s.disk → AreKeptTo may_leave counts job histories (count + 1) new
+    pub kept_more : (count : ℕ) (old new : KeptRoles D) (restarted : Bool) (s : DurableState D) → count < length histories → AreKeptTo may_leave counts job histories count old → AddsRole restarted s old new → IsKeeper counts job count restarted s → s.store.entries ≡ history_at histories count → IsWrittenDisk may_leave counts s.store.entries s.disk → AreKeptTo may_leave counts job histories (count + 1) new
     kept_more count old new restarted s within kept adds keeper entries written = record {
       desks_count = ap length adds.desks ∙ length-append old.desks (adds.desk ∷ []) ∙ ap (λ n. n + 1) kept.desks_count;
       disks_count = ap length adds.disks ∙ length-append old.disks (s.disk ∷ []) ∙ ap (λ n. n + 1) kept.disks_count;
@@ -131,8 +131,8 @@ module _ {D : Type 0} (may_leave : D → List ℕ → Type 0) (counts : D → Co
         | inl early ↦ kept.written role disk early
         | inr last ↦
             let here : role ≡ count = last.0 ∙ kept.disks_count in
-            subst (λ (e : D). IsWritten may_leave counts (history_at histories role) e) last.1
-            (subst (λ (h : List Entry). IsWritten may_leave counts h s.disk) (entries ∙ ap (history_at histories) (sym here)) written)
+            subst (λ (e : D). IsWrittenDisk may_leave counts (history_at histories role) e) last.1
+            (subst (λ (h : List Entry). IsWrittenDisk may_leave counts h s.disk) (entries ∙ ap (history_at histories) (sym here)) written)
       ];
       counted = adds.restarts ∙ faulty_more restarted old.disks s.disk old.restarts keeper.counts_are kept.counted ∙ ap (λ (ds : List D). length (faulty counts ds)) (sym adds.disks);
     }
@@ -155,7 +155,7 @@ module _ {D : Type 0} (seen : D → List ℕ) (may_leave : D → List ℕ → Ty
   restarts_few = omega (arith, to.counted, filter_short (λ (d : D). nat_lt 0 (counts d).faults) old.disks, to.disks_count, few, one, job.protocol.shape.counts.few_roles)
 
   -- the next role is kept
-  pub next_kept : (new : KeptRoles D) (restarted : Bool) (s : DurableState D) (d : DeskState) (size : ℕ) → slice_get desks role ≡ Some d → HasKept seen counts job role d.store.entries size restarted s → IsSound seen may_leave counts s → AddsRole restarted s old new → AreKeptTo may_leave counts job (histories_of desks) all new
+  pub next_kept : (new : KeptRoles D) (restarted : Bool) (s : DurableState D) (d : DeskState) (size : ℕ) → slice_get desks role ≡ Some d → HasKept seen counts job role d.store.entries size restarted s → IsSoundStore seen may_leave counts s → AddsRole restarted s old new → AreKeptTo may_leave counts job (histories_of desks) all new
   next_kept new restarted s d size at has sound adds =
       let keeper : IsKeeper counts job count restarted s = subst (λ (r : ℕ). IsKeeper counts job r restarted s) role_is has.keeper in
       let here : slice_get desks count ≡ Some d = subst (λ (r : ℕ). slice_get desks r ≡ Some d) role_is at in
@@ -202,7 +202,7 @@ all_kept may_leave counts job played kept world count whole course finished to d
       course = record { played = played; course = course; same = same };
       written = record {
         count = to.disks_count ∙ sym as_many ∙ ap length (sym same);
-        each = λ role disk at. subst (λ (hs : List (List Entry)). IsWritten may_leave counts (history_at hs role) disk) (sym same) (to.written role disk at);
+        each = λ role disk at. subst (λ (hs : List (List Entry)). IsWrittenDisk may_leave counts (history_at hs role) disk) (sym same) (to.written role disk at);
       };
       counted = to.counted;
     }

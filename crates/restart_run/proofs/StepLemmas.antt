@@ -15,7 +15,7 @@ use Rattle.stamped_history.specs.declared.entry.Entry.{Entry}
 use Rattle.stamped_history.specs.Explained.{AreExplained, AreLocal, IsExplained, history_at}
 use Rattle.stamped_history.specs.Extended.{EmissionKeepsExplained, ReceiptKeepsExplained, extended}
 use Rattle.stamped_history.specs.Local.{IsLocal}
-use Rattle.restart_run.specs.Steps.{AllHappen, Held, MayCome, MayHappen, Step, Acknowledged, Unacknowledged, Restart, after_step, histories_after, no_events, with_event, with_kept, with_pending}
+use Rattle.restart_run.specs.Steps.{AllHappen, Held, MayCome, MayTakeStep, Step, Acknowledged, Unacknowledged, Restart, after_step, histories_after, no_events, with_event, with_kept, with_pending}
 
 -- the role's history has one entry more
 longer : (histories : List (List Entry)) (role : ℕ) (e : Entry) → role < length histories → history_at (extended histories role e) role ≡ history_at histories role ++ e ∷ []
@@ -144,7 +144,7 @@ module _ (emission : EmissionKeepsExplained) (receipt : ReceiptKeepsExplained) (
   restart_sound h role false pending is sound = none_sound h role sound.local sound.explained (λ other f differs also. sound.may_come other f also)
 
   -- one step
-  step_sound : (h : Held) (step : Step) → IsSound x h → MayHappen x h step → IsSound x (after_step h step)
+  step_sound : (h : Held) (step : Step) → IsSound x h → MayTakeStep x h step → IsSound x (after_step h step)
   step_sound h (Acknowledged role e) sound (none, may) = event_sound h role e none sound may
   step_sound h (Unacknowledged role e) sound (none, may) = pending_sound h role e sound may
   step_sound h (Restart role keeps) sound may = restart_sound h role keeps (h.pending role) refl sound

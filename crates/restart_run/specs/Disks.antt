@@ -38,7 +38,7 @@ one_fault = record { faults = 1; late = 0; restarted = true }
 
 -- each image that a crash may leave of the disk is a journal of these entries; no call of it
 -- failed, or one did, and it was restarted
-pub record IsWritten {D : Type 0} (may_leave : D → List ℕ → Type 0) (counts : D → Counts)
+pub record IsWrittenDisk {D : Type 0} (may_leave : D → List ℕ → Type 0) (counts : D → Counts)
     (entries : List Entry) (disk : D) : Type 0 where
   pub journal : (image : List ℕ) → may_leave disk image → IsJournal entries image
   pub once : (counts disk ≡ no_faults) ⊎ (counts disk ≡ one_fault)
@@ -48,7 +48,7 @@ pub record AreWritten {D : Type 0} (may_leave : D → List ℕ → Type 0) (coun
     (histories : List (List Entry)) (disks : List D) : Type 0 where
   pub count : length disks ≡ length histories
   pub each : (role : ℕ) (disk : D) → slice_get disks role ≡ Some disk →
-      IsWritten may_leave counts (history_at histories role) disk
+      IsWrittenDisk may_leave counts (history_at histories role) disk
 
 -- the disks that failed
 abbrev pub faulty : {D : Type 0} → (D → Counts) → List D → List D

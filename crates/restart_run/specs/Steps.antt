@@ -34,10 +34,10 @@ pub record MayCome (x : Expanded) (h : Held) (role : ℕ) (e : Entry) : Type 0 w
 
 -- a role may be restarted at any time; after an event that was not acknowledged it has to be,
 -- before it does anything else
-abbrev pub MayHappen : Expanded → Held → Step → Type 0
-MayHappen x h (Acknowledged role e) = (h.pending role ≡ None) × MayCome x h role e
-MayHappen x h (Unacknowledged role e) = (h.pending role ≡ None) × MayCome x h role e
-MayHappen x h (Restart role keeps) = Unit {0}
+abbrev pub MayTakeStep : Expanded → Held → Step → Type 0
+MayTakeStep x h (Acknowledged role e) = (h.pending role ≡ None) × MayCome x h role e
+MayTakeStep x h (Unacknowledged role e) = (h.pending role ≡ None) × MayCome x h role e
+MayTakeStep x h (Restart role keeps) = Unit {0}
 
 -- the role has the event as its last acknowledged one
 abbrev pub with_event : Held → ℕ → Entry → Held
@@ -63,7 +63,7 @@ after_step h (Restart role keeps) =
 -- each step may happen after those before it
 abbrev pub AllHappen : Expanded → Held → List Step → Type 0
 AllHappen x h [] = Unit {0}
-AllHappen x h (step ∷ steps) = MayHappen x h step × AllHappen x (after_step h step) steps
+AllHappen x h (step ∷ steps) = MayTakeStep x h step × AllHappen x (after_step h step) steps
 
 -- the acknowledged events of each role after all steps
 abbrev pub histories_after : Held → List Step → List (List Entry)

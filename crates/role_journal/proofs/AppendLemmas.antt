@@ -5,7 +5,7 @@ use Rattle.stamped_history.specs.declared.entry.Entry.{Entry}
 use Rattle.role_journal.specs.Crash.{Leaves, LeavesTorn}
 use Rattle.role_journal.specs.EntryBody.{entry_body}
 use Rattle.role_journal.specs.Image.{HasBytes, IsTorn}
-use Rattle.role_journal.specs.Journal.{Holds, IsBeforeOrAfter, IsJournal, places}
+use Rattle.role_journal.specs.Journal.{HoldsBodies, IsBeforeOrAfter, IsJournal, places}
 use Rattle.role_journal.proofs.PlaceLemmas.{body_torn, gate_torn, gate_written}
 
 module _ (entries : List Entry) (entry : Entry) (n gate : ℕ) (body : List ℕ) (counts : n ≡ length entries) (at : gate ≡ 562 * n) (is : body ≡ entry_body entry) (whole : length body ≡ 561) where
@@ -39,12 +39,12 @@ module _ (entries : List Entry) (entry : Entry) (n gate : ℕ) (body : List ℕ)
       let one : IsTorn (562 * n) 1 image c = subst (λ (k : ℕ). IsTorn k 1 image c) at (subst (λ (d : List ℕ). IsTorn gate 1 d c) (only from.0 from.1) from.2) in
       elim (gate_torn (map entry_body entries) body n image c bodies_count journal whole (body_there image has) room one) [
         | inl before ↦ inl before
-        | inr after ↦ inr (subst (λ (bodies : List (List ℕ)). Holds bodies c) bodies_more after)
+        | inr after ↦ inr (subst (λ (bodies : List (List ℕ)). HoldsBodies bodies c) bodies_more after)
       ]
 
   -- once it is written
   pub gate_done : (image c : List ℕ) → IsJournal entries image → HasBytes image (gate + 1) body → n < places (length image) → IsTorn gate 1 image c → HasBytes c gate (1 ∷ []) → IsJournal (entries ++ entry ∷ []) c
   gate_done image c journal has room torn opened =
-      subst (λ (bodies : List (List ℕ)). Holds bodies c) bodies_more
+      subst (λ (bodies : List (List ℕ)). HoldsBodies bodies c) bodies_more
       (gate_written (map entry_body entries) body n image c bodies_count journal whole (body_there image has) room
       (subst (λ (k : ℕ). IsTorn k 1 image c) at torn) (subst (λ (k : ℕ). HasBytes c k (1 ∷ [])) at opened))

@@ -6,18 +6,18 @@ use Rattle.std.proofs.lemmas.Nat.{from_le_bytes-to_le_bytes_8}
 use Rattle.bspl_types.specs.declared.value.Value.{Value}
 use Rattle.bspl_types.specs.declared.value.Value.TheVariants.{Number, Text}
 use Rattle.bspl_types.specs.Value.{IsValue}
-use Rattle.role_journal.specs.EntryBody.{value_field}
+use Rattle.role_journal.specs.EntryBody.{value_body}
 use Rattle.role_journal.specs.inner.Reading.{value_in, values_in}
 
 -- a field has 34 bytes
-pub length-value_field : (v : Value) → IsValue v → length (value_field v) ≡ 34
-length-value_field (Number n) good = refl
-length-value_field (Text bytes) good =
+pub length-value_body : (v : Value) → IsValue v → length (value_body v) ≡ 34
+length-value_body (Number n) good = refl
+length-value_body (Text bytes) good =
     let zeros : length (replicate {A = ℕ} (32 - length bytes) 0) ≡ 32 - length bytes = length-replicate (32 - length bytes) 0 in
     omega (arith, length-append bytes (replicate (32 - length bytes) 0), zeros, good.few)
 
 -- and its value is read again
-pub value_again : (v : Value) → IsValue v → value_in (value_field v) ≡ v
+pub value_again : (v : Value) → IsValue v → value_in (value_body v) ≡ v
 value_again (Number n) good = ap (λ (m : ℕ). let made : Value = Number m in made) (from_le_bytes-to_le_bytes_8 n good)
 value_again (Text bytes) good =
     let few : min (length bytes) 32 ≡ length bytes = omega (arith, good.few) in
@@ -31,21 +31,21 @@ rest_good : (v : Value) (vs : List Value) → All IsValue (v ∷ vs) → All IsV
 rest_good v vs good = λ k d within. good (suc k) d (omega arith)
 
 -- the fields of several values
-pub length-fields : (vs : List Value) → All IsValue vs → length (flat_map value_field vs) ≡ 34 * length vs
+pub length-fields : (vs : List Value) → All IsValue vs → length (flat_map value_body vs) ≡ 34 * length vs
 length-fields [] good = refl
-length-fields (v ∷ vs) good = omega (arith, length-append (value_field v) (flat_map value_field vs), length-value_field v (first_good v vs good), length-fields vs (rest_good v vs good))
+length-fields (v ∷ vs) good = omega (arith, length-append (value_body v) (flat_map value_body vs), length-value_body v (first_good v vs good), length-fields vs (rest_good v vs good))
 
 -- so are the values of several fields
-pub values_again : (vs : List Value) (rest : List ℕ) → All IsValue vs → values_in (length vs) (flat_map value_field vs ++ rest) ≡ vs
+pub values_again : (vs : List Value) (rest : List ℕ) → All IsValue vs → values_in (length vs) (flat_map value_body vs ++ rest) ≡ vs
 values_again [] rest good = refl
 values_again (v ∷ vs) rest good =
     let is = first_good v vs good in
-    let whole : (value_field v ++ flat_map value_field vs) ++ rest ≡ value_field v ++ (flat_map value_field vs ++ rest) = append_assoc (value_field v) (flat_map value_field vs) rest in
-    let size = length-value_field v is in
-    let first : value_in (take 34 ((value_field v ++ flat_map value_field vs) ++ rest)) ≡ v =
-    ap (λ (l : List ℕ). value_in (take 34 l)) whole ∙ ap value_in (take_at (value_field v) (flat_map value_field vs ++ rest) 34 size) ∙ value_again v is in
-    let others : values_in (length vs) (drop 34 ((value_field v ++ flat_map value_field vs) ++ rest)) ≡ vs =
-    ap (λ (l : List ℕ). values_in (length vs) (drop 34 l)) whole ∙ ap (values_in (length vs)) (drop_at (value_field v) (flat_map value_field vs ++ rest) 34 size) ∙ values_again vs rest (rest_good v vs good) in
+    let whole : (value_body v ++ flat_map value_body vs) ++ rest ≡ value_body v ++ (flat_map value_body vs ++ rest) = append_assoc (value_body v) (flat_map value_body vs) rest in
+    let size = length-value_body v is in
+    let first : value_in (take 34 ((value_body v ++ flat_map value_body vs) ++ rest)) ≡ v =
+    ap (λ (l : List ℕ). value_in (take 34 l)) whole ∙ ap value_in (take_at (value_body v) (flat_map value_body vs ++ rest) 34 size) ∙ value_again v is in
+    let others : values_in (length vs) (drop 34 ((value_body v ++ flat_map value_body vs) ++ rest)) ≡ vs =
+    ap (λ (l : List ℕ). values_in (length vs) (drop 34 l)) whole ∙ ap (values_in (length vs)) (drop_at (value_body v) (flat_map value_body vs ++ rest) 34 size) ∙ values_again vs rest (rest_good v vs good) in
     cc
 
 -- one value more of the fields that are left

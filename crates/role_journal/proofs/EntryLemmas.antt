@@ -15,7 +15,7 @@ use Rattle.bspl_types.specs.Expansion.{message_of}
 use Rattle.bspl_types.specs.History.{instance_of}
 use Rattle.bspl_types.specs.Instance.{Fits}
 use Rattle.stamped_history.specs.declared.entry.Entry.{Entry}
-use Rattle.role_journal.specs.EntryBody.{IsEntry, entry_body, kind_of, value_field}
+use Rattle.role_journal.specs.EntryBody.{IsEntry, entry_body, event_tag, value_body}
 use Rattle.role_journal.specs.inner.Reading.{HasValues, event_of, values_in}
 use Rattle.role_journal.proofs.BodyLemmas.{values_again}
 
@@ -24,7 +24,7 @@ pub event_instance : (ev : Event) (kind : ℕ) (i : Instance) → ev ≡ event_o
 event_instance ev kind i is = ap instance_of is ∙ (elim (kind == 0) as (λ b. instance_of (cond b (Emit i) (Receive i)) ≡ i) [ true ↦ refl | false ↦ refl ])
 
 -- of its kind it is that event
-same_event : (ev : Event) (kind : ℕ) (i : Instance) → kind ≡ kind_of ev → instance_of ev ≡ i → event_of kind i ≡ ev
+same_event : (ev : Event) (kind : ℕ) (i : Instance) → kind ≡ event_tag ev → instance_of ev ≡ i → event_of kind i ≡ ev
 same_event (Emit j) kind i is same = ap (λ (k : ℕ). event_of k i) is ∙ ap (λ (o : Instance). let made : Event = Emit o in made) (sym same)
 same_event (Receive j) kind i is same = ap (λ (k : ℕ). event_of k i) is ∙ ap (λ (o : Instance). let made : Event = Receive o in made) (sym same)
 
@@ -42,8 +42,8 @@ entry_again x e body message stamp number count kind values i ev entry is read_m
     let zeros = replicate (34 * (16 - length j.values)) 0 in
     let message_is : j.message ≡ message = message_again x e body message entry is read_message in
     let count_is : count ≡ length j.values = has.count_is ∙ ap (λ (m : ℕ). length (valued (message_of x m).carried)) (sym message_is) ∙ sym entry.fits.each_value in
-    let tail : take (length body - 17) (drop 17 body) ≡ flat_map value_field j.values ++ zeros = take_all (length body - 17) (drop 17 body) (omega (arith, length-drop 17 body)) ∙ ap (λ (b : List ℕ). drop 17 b) is in
-    let values_are : j.values ≡ values = sym (read_values ∙ ap (values_in count) tail ∙ ap (λ (n : ℕ). values_in n (flat_map value_field j.values ++ zeros)) count_is ∙ values_again j.values zeros entry.values) in
+    let tail : take (length body - 17) (drop 17 body) ≡ flat_map value_body j.values ++ zeros = take_all (length body - 17) (drop 17 body) (omega (arith, length-drop 17 body)) ∙ ap (λ (b : List ℕ). drop 17 b) is in
+    let values_are : j.values ≡ values = sym (read_values ∙ ap (values_in count) tail ∙ ap (λ (n : ℕ). values_in n (flat_map value_body j.values ++ zeros)) count_is ∙ values_again j.values zeros entry.values) in
     let instance_is : j ≡ i = only j entry.fits message_is values_are in
     let event_is : ev ≡ e.event = made ∙ same_event e.event kind i (read_kind ∙ ap (λ (b : List ℕ). slice_index b 0) is) instance_is in
     let stamp_is : stamp ≡ e.stamp = read_stamp ∙ ap (λ (b : List ℕ). from_le_bytes w64 (take 8 (drop 5 b))) is ∙ from_le_bytes-to_le_bytes_8 e.stamp entry.stamp in

@@ -1,10 +1,10 @@
 -- A row of calls of a disk, after each of which a crash leaves what has P.
 use Rattle.std.proofs.Common.{ℕ, ⊎_elim, List, arith}
-use Rattle.role_journal.specs.Crash.{LeavesOnly, Stays, TimePasses}
+use Rattle.role_journal.specs.Crash.{CrashLeavesOnly, Stays, TimePasses}
 
 -- so far each crash left what has P, and so does one now
 pub record IsSafe {D : Type 0} (may_leave : D → List ℕ → Type 0) (clock : D → ℕ) (left_since : D → ℕ → List ℕ → Type 0) (P : List ℕ → Type 0) (old now : D) : Type 0 where
-  pub so_far : LeavesOnly clock left_since old now P
+  pub so_far : CrashLeavesOnly clock left_since old now P
   pub here : (c : List ℕ) → may_leave now c → P c
 
 module _ {D : Type 0} (seen : D → List ℕ) (may_leave : D → List ℕ → Type 0) (clock : D → ℕ) (left_since : D → ℕ → List ℕ → Type 0) (P : List ℕ → Type 0) where

@@ -6,7 +6,7 @@ use Rattle.std.proofs.lemmas.List.{length-append}
 use Rattle.std.proofs.lemmas.List.Elements.{All-push}
 use Rattle.std.proofs.lemmas.Option.{get_or_from_slice_get, same_Some, slice_get_within}
 use Rattle.role_journal.specs.Image.{HasBytes, IsTorn}
-use Rattle.role_journal.specs.Journal.{Holds, IsOpen, gate_of, places}
+use Rattle.role_journal.specs.Journal.{HoldsBodies, IsOpen, gate_of, places}
 
 -- a place lies within its disk
 pub place_within : (size place : ℕ) → place < places size → 562 * place + 562 ≤ size
@@ -26,7 +26,7 @@ item_cases (z ∷ xs) x (suc k) y at = elim (item_cases xs x k y at) [
 size_at : (bodies : List (List ℕ)) (k : ℕ) (body : List ℕ) → All (λ b. length b ≡ 561) bodies → slice_get bodies k ≡ Some body → length body ≡ 561
 size_at bodies k body whole at = sym (ap length (get_or_from_slice_get bodies k body body at)) ∙ whole k body (slice_get_within bodies k body at)
 
-module _ (bodies : List (List ℕ)) (d c : List ℕ) (holds : Holds bodies d) (size : length c ≡ length d) where
+module _ (bodies : List (List ℕ)) (d c : List ℕ) (holds : HoldsBodies bodies d) (size : length c ≡ length d) where
   -- an image of the same size has as many places
   few : length bodies ≤ places (length c)
   few = subst (λ (n : ℕ). length bodies ≤ places n) (sym size) holds.few
@@ -40,7 +40,7 @@ module _ (bodies : List (List ℕ)) (d c : List ℕ) (holds : Holds bodies d) (s
   gate_stays place past among same is = holds.closed place past (subst (λ (n : ℕ). place < places n) size among) (sym same ∙ is)
 
 -- a body that is torn behind its closed gate leaves the journal
-pub body_torn : (bodies : List (List ℕ)) (n : ℕ) (d c : List ℕ) → n ≡ length bodies → Holds bodies d → IsTorn (562 * n + 1) 561 d c → Holds bodies c
+pub body_torn : (bodies : List (List ℕ)) (n : ℕ) (d c : List ℕ) → n ≡ length bodies → HoldsBodies bodies d → IsTorn (562 * n + 1) 561 d c → HoldsBodies bodies c
 body_torn bodies n d c counts holds torn = record {
   few = few bodies d c holds torn.size;
   whole = holds.whole;
@@ -55,7 +55,7 @@ body_torn bodies n d c counts holds torn = record {
 }
 
 -- a gate that stays closed leaves the journal
-gate_shut : (bodies : List (List ℕ)) (n : ℕ) (d c : List ℕ) → n ≡ length bodies → Holds bodies d → IsTorn (562 * n) 1 d c → ¬ IsOpen c n → Holds bodies c
+gate_shut : (bodies : List (List ℕ)) (n : ℕ) (d c : List ℕ) → n ≡ length bodies → HoldsBodies bodies d → IsTorn (562 * n) 1 d c → ¬ IsOpen c n → HoldsBodies bodies c
 gate_shut bodies n d c counts holds torn shut = record {
   few = few bodies d c holds torn.size;
   whole = holds.whole;
@@ -70,7 +70,7 @@ gate_shut bodies n d c counts holds torn shut = record {
 }
 
 -- a gate that is open adds the body behind it
-gate_opened : (bodies : List (List ℕ)) (body : List ℕ) (n : ℕ) (d c : List ℕ) → n ≡ length bodies → Holds bodies d → length body ≡ 561 → HasBytes d (562 * n + 1) body → n < places (length d) → IsTorn (562 * n) 1 d c → IsOpen c n → Holds (bodies ++ body ∷ []) c
+gate_opened : (bodies : List (List ℕ)) (body : List ℕ) (n : ℕ) (d c : List ℕ) → n ≡ length bodies → HoldsBodies bodies d → length body ≡ 561 → HasBytes d (562 * n + 1) body → n < places (length d) → IsTorn (562 * n) 1 d c → IsOpen c n → HoldsBodies (bodies ++ body ∷ []) c
 gate_opened bodies body n d c counts holds size has room torn is_open =
     let more : length (bodies ++ body ∷ []) ≡ length bodies + 1 = length-append bodies (body ∷ []) in
     record {
@@ -90,12 +90,12 @@ gate_opened bodies body n d c counts holds size has room torn is_open =
     }
 
 -- a gate that is torn in front of a whole body is open or it is not
-pub gate_torn : (bodies : List (List ℕ)) (body : List ℕ) (n : ℕ) (d c : List ℕ) → n ≡ length bodies → Holds bodies d → length body ≡ 561 → HasBytes d (562 * n + 1) body → n < places (length d) → IsTorn (562 * n) 1 d c → Holds bodies c ⊎ Holds (bodies ++ body ∷ []) c
+pub gate_torn : (bodies : List (List ℕ)) (body : List ℕ) (n : ℕ) (d c : List ℕ) → n ≡ length bodies → HoldsBodies bodies d → length body ≡ 561 → HasBytes d (562 * n + 1) body → n < places (length d) → IsTorn (562 * n) 1 d c → HoldsBodies bodies c ⊎ HoldsBodies (bodies ++ body ∷ []) c
 gate_torn bodies body n d c counts holds size has room torn = elim (cases_eq (slice_index c (562 * n)) 1) [
   | inl is_open ↦ inr (gate_opened bodies body n d c counts holds size has room torn is_open)
   | inr shut ↦ inl (gate_shut bodies n d c counts holds torn shut)
 ]
 
 -- and once it is written it is open
-pub gate_written : (bodies : List (List ℕ)) (body : List ℕ) (n : ℕ) (d c : List ℕ) → n ≡ length bodies → Holds bodies d → length body ≡ 561 → HasBytes d (562 * n + 1) body → n < places (length d) → IsTorn (562 * n) 1 d c → HasBytes c (562 * n) (1 ∷ []) → Holds (bodies ++ body ∷ []) c
+pub gate_written : (bodies : List (List ℕ)) (body : List ℕ) (n : ℕ) (d c : List ℕ) → n ≡ length bodies → HoldsBodies bodies d → length body ≡ 561 → HasBytes d (562 * n + 1) body → n < places (length d) → IsTorn (562 * n) 1 d c → HasBytes c (562 * n) (1 ∷ []) → HoldsBodies (bodies ++ body ∷ []) c
 gate_written bodies body n d c counts holds size has room torn gate = gate_opened bodies body n d c counts holds size has room torn (ap (λ (i : ℕ). slice_index c i) (let e : 562 * n ≡ 562 * n + 0 = omega arith in e) ∙ gate 0 (omega arith))

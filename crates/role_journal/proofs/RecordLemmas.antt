@@ -9,14 +9,14 @@ use Rattle.role_journal.specs.declared.recording.Call.{Call}
 use Rattle.role_journal.specs.declared.recording.Call.TheVariants.{Sync, Write}
 use Rattle.role_journal.specs.Crash.{Leaves, LeavesNoMore, LeavesTorn}
 use Rattle.role_journal.specs.Image.{HasBytes, IsTorn}
-use Rattle.role_journal.specs.Recording.{Content, IsOutside, Range, Record, Suits, after_call, content_of, filled, first_calls, loosened, patched, restarted, unsettled, with_call}
+use Rattle.role_journal.specs.Recording.{Content, IsOutside, Range, Record, Suits, content_after, content_of, filled, first_calls, loosened, patched, restarted, unsettled, with_call}
 use Rattle.role_journal.specs.RecordLaws.{length-patched, patched_outside, seen_suits, sized}
 use Rattle.role_journal.specs.inner.Steps.{IsSync, IsWrite, RecordStays, Restarts, TicksOn}
 use Rattle.role_journal.proofs.PatchLemmas.{patched_has, patched_inside, patched_torn}
 
 -- the content after one more call
-pub content_more : (r : Record) (call : Call) → content_of (with_call r call) ≡ after_call (content_of r) call
-content_more r call = fold-append after_call (record { seen = r.base; settled = r.base }) r.calls (call ∷ [])
+pub content_more : (r : Record) (call : Call) → content_of (with_call r call) ≡ content_after (content_of r) call
+content_more r call = fold-append content_after (record { seen = r.base; settled = r.base }) r.calls (call ∷ [])
 
 -- the unsettled ranges after one more call
 pub unsettled_more : (calls : List Call) (call : Call) → unsettled (calls ++ call ∷ []) ≡ loosened (unsettled calls) call

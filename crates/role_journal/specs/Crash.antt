@@ -31,7 +31,7 @@ pub record Stays {D : Type 0} (seen : D → List ℕ) (may_leave : D → List �
   pub time : TimePasses (clock old) (clock new) (left_since old) (left_since new) (may_leave new)
 
 -- a crash at any moment since the disk was `old` leaves an image that has P
-pub record LeavesOnly {D : Type 0} (clock : D → ℕ) (left_since : D → ℕ → List ℕ → Type 0)
+pub record CrashLeavesOnly {D : Type 0} (clock : D → ℕ) (left_since : D → ℕ → List ℕ → Type 0)
     (old new : D) (P : List ℕ → Type 0) : Type 0 where
   pub later : clock old ≤ clock new
   pub each : (c : List ℕ) → left_since new (clock old) c → P c

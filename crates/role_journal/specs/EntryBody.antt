@@ -15,22 +15,22 @@ use Rattle.stamped_history.specs.declared.entry.Entry.{Entry}
 
 -- the 34 bytes of a value: 0 for a number and 1 for a text; how many bytes it has; these bytes, the
 -- lowest of a number first; zeros
-abbrev pub value_field : Value → List ℕ
-value_field (Number n) = 0 ∷ 8 ∷ [] ++ to_le_bytes w64 n ++ replicate 24 0
-value_field (Text bytes) = 1 ∷ length bytes ∷ [] ++ bytes ++ replicate (32 - length bytes) 0
+abbrev pub value_body : Value → List ℕ
+value_body (Number n) = 0 ∷ 8 ∷ [] ++ to_le_bytes w64 n ++ replicate 24 0
+value_body (Text bytes) = 1 ∷ length bytes ∷ [] ++ bytes ++ replicate (32 - length bytes) 0
 
 -- 0 for an emission and 1 for a receipt
-abbrev pub kind_of : Event → ℕ
-kind_of (Emit i) = 0
-kind_of (Receive i) = 1
+abbrev pub event_tag : Event → ℕ
+event_tag (Emit i) = 0
+event_tag (Receive i) = 1
 
 -- the 561 bytes of an entry: its kind, message, stamp and number, a field for each value, and zeros
 -- up to sixteen fields
 abbrev pub entry_body : Entry → List ℕ
 entry_body e =
-    kind_of e.event ∷ [] ++ to_le_bytes w32 (instance_of e.event).message
+    event_tag e.event ∷ [] ++ to_le_bytes w32 (instance_of e.event).message
     ++ to_le_bytes w64 e.stamp ++ to_le_bytes w32 e.number
-    ++ flat_map value_field (instance_of e.event).values
+    ++ flat_map value_body (instance_of e.event).values
     ++ replicate (34 * (16 - length (instance_of e.event).values)) 0
 
 -- an entry of some history of the protocol, each part of which has a size

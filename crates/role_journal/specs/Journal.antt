@@ -20,7 +20,7 @@ abbrev pub IsOpen : List ℕ → ℕ → Type 0
 IsOpen image place = slice_index image (gate_of place) ≡ 1
 
 -- the first places are open and have these bodies, and all others are closed
-pub record Holds (bodies : List (List ℕ)) (image : List ℕ) : Type 0 where
+pub record HoldsBodies (bodies : List (List ℕ)) (image : List ℕ) : Type 0 where
   pub few : length bodies ≤ places (length image)
   pub whole : All (λ body. length body ≡ 561) bodies
   pub opened : (place : ℕ) → place < length bodies → IsOpen image place
@@ -31,11 +31,11 @@ pub record Holds (bodies : List (List ℕ)) (image : List ℕ) : Type 0 where
 
 -- the image is a journal of these entries
 abbrev pub IsJournal : List Entry → List ℕ → Type 0
-IsJournal entries image = Holds (map entry_body entries) image
+IsJournal entries image = HoldsBodies (map entry_body entries) image
 
 -- the disk has a journal of these entries, and each crash leaves it
-pub record Keeps {D : Type 0} (seen : D → List ℕ) (may_leave : D → List ℕ → Type 0) (disk : D)
-    (entries : List Entry) : Type 0 where
+pub record KeepsJournal {D : Type 0} (seen : D → List ℕ) (may_leave : D → List ℕ → Type 0)
+    (disk : D) (entries : List Entry) : Type 0 where
   pub journal : IsJournal entries (seen disk)
   pub settled : Leaves (seen disk) (may_leave disk)
 

@@ -6,7 +6,7 @@ use Rattle.std.proofs.lemmas.List.{take_all}
 use Rattle.role_journal.specs.declared.recording.Call.{Call}
 use Rattle.role_journal.specs.declared.recording.Call.TheVariants.{Sync, Write}
 use Rattle.role_journal.specs.Recording.{Content, IsOutside, Range, Record, Suits, SuitsSince}
-use Rattle.role_journal.specs.Recording.{after_call, content_of, loosened, patched}
+use Rattle.role_journal.specs.Recording.{content_after, content_of, loosened, patched}
 
 -- bytes that are put into an image leave its size
 pub length-patched : (image : List ℕ) (at : ℕ) (bytes : List ℕ)
@@ -47,13 +47,13 @@ patched_outside image at bytes i (inl below) = patched_below image at bytes i be
 patched_outside image at bytes i (inr above) = patched_above image at bytes i above
 
 -- what is seen is what was settled, but for the unsettled ranges
-abbrev pub Agrees : Content → List Range → Type 0
-Agrees c ranges =
+abbrev pub AgreesOutside : Content → List Range → Type 0
+AgreesOutside c ranges =
     (i : ℕ) → IsOutside ranges i → slice_index c.seen i ≡ slice_index c.settled i
 
 -- so it is after one more call
 agrees_after : (c : Content) (ranges : List Range) (call : Call)
-    → Agrees c ranges → Agrees (after_call c call) (loosened ranges call)
+    → AgreesOutside c ranges → AgreesOutside (content_after c call) (loosened ranges call)
 agrees_after c ranges (Write at bytes true) agrees = λ i outside.
     patched_outside c.seen at bytes i outside.0 ∙ agrees i outside.1
 agrees_after c ranges (Write at bytes false) agrees = λ i outside. agrees i outside.1
@@ -62,10 +62,11 @@ agrees_after c ranges (Sync false) agrees = agrees
 
 -- and after all of them
 pub agrees_after_all : (c : Content) (ranges : List Range) (calls : List Call)
-    → Agrees c ranges → Agrees (fold after_call c calls) (fold loosened ranges calls)
+    → AgreesOutside c ranges
+    → AgreesOutside (fold content_after c calls) (fold loosened ranges calls)
 agrees_after_all c ranges [] agrees = agrees
 agrees_after_all c ranges (call ∷ calls) agrees =
-    agrees_after_all (after_call c call) (loosened ranges call) calls
+    agrees_after_all (content_after c call) (loosened ranges call) calls
     (agrees_after c ranges call agrees)
 
 -- both contents keep their size
@@ -74,7 +75,7 @@ pub record HasSize (size : ℕ) (c : Content) : Type 0 where
   pub settled : length c.settled ≡ size
 
 size_after : (size : ℕ) (c : Content) (call : Call)
-    → HasSize size c → HasSize size (after_call c call)
+    → HasSize size c → HasSize size (content_after c call)
 size_after size c (Write at bytes true) sized =
     record { seen = length-patched c.seen at bytes ∙ sized.seen; settled = sized.settled }
 size_after size c (Write at bytes false) sized = sized
@@ -82,10 +83,10 @@ size_after size c (Sync true) sized = record { seen = sized.seen; settled = size
 size_after size c (Sync false) sized = sized
 
 size_after_all : (size : ℕ) (c : Content) (calls : List Call)
-    → HasSize size c → HasSize size (fold after_call c calls)
+    → HasSize size c → HasSize size (fold content_after c calls)
 size_after_all size c [] sized = sized
 size_after_all size c (call ∷ calls) sized =
-    size_after_all size (after_call c call) calls (size_after size c call sized)
+    size_after_all size (content_after c call) calls (size_after size c call sized)
 
 pub sized : (r : Record) → HasSize (length r.base) (content_of r)
 sized r =

@@ -22,15 +22,15 @@ patched (old ∷ image) zero (new ∷ bytes) = new ∷ patched image 0 bytes
 patched (old ∷ image) (suc at) bytes = old ∷ patched image at bytes
 
 -- a write that succeeds changes what a read gives, and a sync that succeeds settles it
-abbrev pub after_call : Content → Call → Content
-after_call c (Write at bytes true) = record c { seen = patched c.seen at bytes }
-after_call c (Write at bytes false) = c
-after_call c (Sync true) = record c { settled = c.seen }
-after_call c (Sync false) = c
+abbrev pub content_after : Content → Call → Content
+content_after c (Write at bytes true) = record c { seen = patched c.seen at bytes }
+content_after c (Write at bytes false) = c
+content_after c (Sync true) = record c { settled = c.seen }
+content_after c (Sync false) = c
 
 -- the content after all recorded calls
 abbrev pub content_of : Record → Content
-content_of r = fold after_call (record { seen = r.base; settled = r.base }) r.calls
+content_of r = fold content_after (record { seen = r.base; settled = r.base }) r.calls
 
 -- an offset, and how many bytes from there on
 abbrev pub Range : Type 0

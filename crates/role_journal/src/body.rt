@@ -4,7 +4,7 @@ ghost use Rattle.bspl_types.specs.declared.expanded.Expanded.{Expanded};
 ghost use Rattle.bspl_types.specs.History.{instance_of};
 ghost use Rattle.bspl_types.specs.Instance.{Fits};
 ghost use Rattle.bspl_types.specs.Value.{IsValue};
-ghost use Rattle.role_journal.specs.EntryBody.{IsEntry, entry_body, kind_of, value_field};
+ghost use Rattle.role_journal.specs.EntryBody.{IsEntry, entry_body, event_tag, value_body};
 
 use bspl_types::{CARRIED_LIMIT, Event, Value};
 use stamped_history::Entry;
@@ -105,7 +105,7 @@ impl Body {
     /// Puts the field of each value at the end.
     fn push_values(&mut self, values: &[Value])
         requires { length self.old + 34 * length values.now ≤ 561 }
-        ensures fields { self.new ≡ self.old ++ flat_map value_field values.now }
+        ensures fields { self.new ≡ self.old ++ flat_map value_body values.now }
         ensures size { length self.new ≡ length self.old + 34 * length values.now }
         ensures good { All IsValue values.now }
     {
@@ -117,7 +117,7 @@ impl Body {
     /// Puts the field of the value at the end.
     fn push_value(&mut self, value: &Value)
         requires { length self.old + 34 ≤ 561 }
-        ensures field { self.new ≡ self.old ++ value_field value.now }
+        ensures field { self.new ≡ self.old ++ value_body value.now }
         ensures size { length self.new ≡ length self.old + 34 }
         ensures good { IsValue value.now }
     {
@@ -139,7 +139,7 @@ impl Body {
 
 /// The byte that tells an emission from a receipt.
 fn kind(event: &Event) -> u8
-    ensures { result ≡ kind_of event.now }
+    ensures { result ≡ event_tag event.now }
 {
     match event {
         Event::Emit(_) => 0,

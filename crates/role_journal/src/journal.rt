@@ -6,10 +6,10 @@ ghost use Rattle.bspl_types.specs.History.{instance_of};
 ghost use Rattle.bspl_types.specs.Instance.{Fits};
 ghost use Rattle.bspl_io.specs.Faults.{last_count};
 ghost use Rattle.role_journal.specs.Counts.{Costs, after_fault};
-ghost use Rattle.role_journal.specs.Crash.{LeavesOnly, Stays};
+ghost use Rattle.role_journal.specs.Crash.{CrashLeavesOnly, Stays};
 ghost use Rattle.role_journal.specs.EntryBody.{IsEntry};
 ghost use Rattle.role_journal.specs.Image.{HasBytes};
-ghost use Rattle.role_journal.specs.Journal.{IsBeforeOrAfter, IsOpen, Keeps, gate_of, places};
+ghost use Rattle.role_journal.specs.Journal.{IsBeforeOrAfter, IsOpen, KeepsJournal, gate_of, places};
 
 use super::body::Body;
 use super::disk::Disk;
@@ -35,11 +35,11 @@ pub fn append<D: Disk>(disk: &mut D, place: u32, entry: &Entry) -> Result<(), Tr
     requires room { place < places (length (D.seen disk.old)) }
     requires countable { (D.counts disk.old).faults < last_count }
     ensures ok { (entries : List Entry) → place ≡ length entries →
-        Keeps D.seen D.may_leave disk.old entries →
-        OnOk result (Keeps D.seen D.may_leave disk.new (entries ++ entry.now ∷ [])) }
+        KeepsJournal D.seen D.may_leave disk.old entries →
+        OnOk result (KeepsJournal D.seen D.may_leave disk.new (entries ++ entry.now ∷ [])) }
     ensures any_moment { (entries : List Entry) → place ≡ length entries →
-        Keeps D.seen D.may_leave disk.old entries →
-        LeavesOnly D.clock D.left_since disk.old disk.new (IsBeforeOrAfter entries entry.now) }
+        KeepsJournal D.seen D.may_leave disk.old entries →
+        CrashLeavesOnly D.clock D.left_since disk.old disk.new (IsBeforeOrAfter entries entry.now) }
     ensures size { length (D.seen disk.new) ≡ length (D.seen disk.old) }
     ensures sized { (x : Expanded) → Fits x (instance_of entry.now.event) → IsEntry x entry.now }
     ensures costs { Costs D.clock D.counts 4 (IsErrOf result Trouble.Failed) disk.old disk.new }

@@ -20,7 +20,7 @@ use Rattle.wire_form.specs.declared.act.Act.TheVariants.{Arrival, Attempt}
 use Rattle.wire_form.specs.declared.reply.Reply.{Reply}
 use Rattle.wire_form.specs.Meaning.{AsksFor, Means}
 use Rattle.wire_form.specs.Request.{Request, emit, receive}
-use Rattle.role_server.specs.Replies.{Answers, HasNoRoom, KeepsRole, Replies, answered, key_of}
+use Rattle.role_server.specs.Replies.{AnswersAct, HasNoRoom, KeepsRole, Replies, answered, act_key}
 use Rattle.role_server.specs.inner.Acts.{HoldsKey, IsBeforeLast, IsOwn, IsReady}
 
 means_own : (x : Expanded) (role : ℕ) (request : Request) (act : Act) → Means x role request act → IsOwn x role act
@@ -40,7 +40,7 @@ pub own_act : (x : Expanded) (role : ℕ) (line : Line) (act : Act) → AsksFor 
 own_act x role line act asks = means_own x role asks.request act asks.means
 
 -- its key is whole
-pub own_key : (x : Expanded) (role : ℕ) (act : Act) → IsOwn x role act → length (key_of act) ≡ length x.keys
+pub own_key : (x : Expanded) (role : ℕ) (act : Act) → IsOwn x role act → length (act_key act) ≡ length x.keys
 own_key x role (Arrival m) own = own.fits.key_length
 own_key x role (Attempt message key outs) own = own.whole_key
 
@@ -71,7 +71,7 @@ some_spare s key room = elim (cases_lt 0 s.spare) [
 ]
 
 -- the store can do the act
-pub ready : (s held : StoreState) (act : Act) → IsOwn s.protocol s.role act → (¬ HasNoRoom s (key_of act)) → IsBeforeLast s act → HoldsKey s (key_of act) held → IsReady held act
+pub ready : (s held : StoreState) (act : Act) → IsOwn s.protocol s.role act → (¬ HasNoRoom s (act_key act)) → IsBeforeLast s act → HoldsKey s (act_key act) held → IsReady held act
 ready s held (Arrival m) own room before holds =
     subst (λ (t : StoreState). IsReady t (Arrival m)) (sym holds.same) (record {
       fits = own.fits;
@@ -104,7 +104,7 @@ keeps_after s held new key holds keeps =
     }
 
 -- a line gets the answer to what it asks for
-pub line_answered : {E : Type 0} (s : StoreState) (line : Line) (act : Act) (result : Result Reply E) (new : StoreState) → AsksFor s.protocol s.role line act → IfOk result (λ reply. Answers s act reply new) → IfOk result (λ reply. Replies s line reply new)
+pub line_answered : {E : Type 0} (s : StoreState) (line : Line) (act : Act) (result : Result Reply E) (new : StoreState) → AsksFor s.protocol s.role line act → IfOk result (λ reply. AnswersAct s act reply new) → IfOk result (λ reply. Replies s line reply new)
 line_answered s line act (Ok reply) new asks is = answered act asks is
 line_answered s line act (Err error) new asks is = is
 

@@ -3,7 +3,7 @@ use Rattle.std.proofs.Common.{◌≡◌, ◌<◌, ◌≤◌, ◌+◌, ℕ, List,
 use Rattle.std.proofs.KnownBytes.{Appends-trans, Consumes-kept, Consumes-trans}
 use Rattle.std.proofs.Math.Seq.{take-append-add, take-length}
 use Rattle.std.specs.Io.KnownBytes.{Appends, Consumes, IsAtEnd, Keeps}
-use Rattle.bspl_io.specs.Faults.{HasCounted}
+use Rattle.bspl_io.specs.Faults.{HasCounted, FaultCounts}
 use Rattle.bspl_io.specs.Sink.{AppendsPrefix}
 use Rattle.bspl_io.specs.Traffic.{Traffic}
 use Rattle.bspl_io.specs.declared.sink.WriteRefusal.{WriteRefusal}
@@ -15,7 +15,7 @@ use Rattle.role_server.specs.declared.refusal.ServeRefusal.TheVariants as refusa
 use Rattle.role_server.specs.declared.session.Session.{Session}
 use Rattle.role_server.specs.Refusal.{serve_refusal}
 use Rattle.role_server.specs.Served.{ServedUpTo}
-use Rattle.role_server.specs.Stream.{AreFaultsCounted, FaultCounts, IsCutShort, ServesAll, ServesFirst, ServesWhole, Stops}
+use Rattle.role_server.specs.Stream.{AreFaultsCounted, CutsRepliesShort, ServesAll, ServesFirst, ServesWhole, Stops}
 use Rattle.role_server.specs.inner.Coming.{HasCome}
 use Rattle.role_server.specs.inner.Session.{CutsAt, CutsReplies, HasServed, IsFresh, WritesReplies, last_reply}
 use Rattle.role_server.proofs.ServedLemmas.{served_longer}
@@ -57,7 +57,7 @@ comes_first session new ahead r c0 c1 fresh short is = record {
 }
 
 -- they were not all
-pub first_cut : (session : Session) (ahead : List ℕ) (r c0 c1 : Option (List ℕ)) → IsFresh session → length ahead ≤ input_limit → CutsReplies session ahead c0 c1 → IsCutShort session.store ahead (traffic r r c0 c1)
+pub first_cut : (session : Session) (ahead : List ℕ) (r c0 c1 : Option (List ℕ)) → IsFresh session → length ahead ≤ input_limit → CutsReplies session ahead c0 c1 → CutsRepliesShort session.store ahead (traffic r r c0 c1)
 first_cut session ahead r c0 c1 fresh short is =
     let cut : CutsAt session.store ahead [] c0 c1 = is.cuts session.store [] [] (fresh_served session fresh) in
     let first : ServesFirst session.store ahead (traffic r r c0 c1) = record {
@@ -72,7 +72,7 @@ first_cut session ahead r c0 c1 fresh short is =
     inl (first, subst (λ (all : List ℕ). length all ≤ input_limit) (sym (append-nil ahead)) short)
 
 -- nothing was served
-pub cut_none : (s : StoreState) (ahead : List ℕ) (r c : Option (List ℕ)) → length ahead ≤ input_limit → IsCutShort s ahead (traffic r r c c)
+pub cut_none : (s : StoreState) (ahead : List ℕ) (r c : Option (List ℕ)) → length ahead ≤ input_limit → CutsRepliesShort s ahead (traffic r r c c)
 cut_none s ahead r c short =
     let first : ServesFirst s ahead (traffic r r c c) = record {
       bytes = [];
@@ -130,7 +130,7 @@ module _ (s : StoreState) (ahead : List ℕ) (r0 r1 r2 c0 c1 : Option (List ℕ)
       (first, omega (arith, longer ahead come.bytes piece count come.counted, long))
 
   -- the replies to a piece are cut short
-  pub comes_cut : (piece : List ℕ) (c2 : Option (List ℕ)) → Consumes r1 r2 piece → count + length piece ≤ input_limit → CutsReplies session piece c1 c2 → IsCutShort s ahead (traffic r0 r2 c0 c2)
+  pub comes_cut : (piece : List ℕ) (c2 : Option (List ℕ)) → Consumes r1 r2 piece → count + length piece ≤ input_limit → CutsReplies session piece c1 c2 → CutsRepliesShort s ahead (traffic r0 r2 c0 c2)
   comes_cut piece c2 taken short is =
       let cut : CutsAt s ((ahead ++ come.bytes) ++ piece) come.out c1 c2 = is.cuts s (ahead ++ come.bytes) come.out come.served in
       let first : ServesFirst s ahead (traffic r0 r2 c0 c2) = record {
@@ -157,7 +157,7 @@ module _ (s : StoreState) (ahead : List ℕ) (r0 r1 r2 c0 c1 : Option (List ℕ)
   }
 
   -- the input ends, and the replies are cut short
-  pub end_cut : (c2 : Option (List ℕ)) → Consumes r1 r2 [] → IsAtEnd r2 → AppendsPrefix c1 c2 (last_reply session.store.protocol session.begun) → IsCutShort s ahead (traffic r0 r2 c0 c2)
+  pub end_cut : (c2 : Option (List ℕ)) → Consumes r1 r2 [] → IsAtEnd r2 → AppendsPrefix c1 c2 (last_reply session.store.protocol session.begun) → CutsRepliesShort s ahead (traffic r0 r2 c0 c2)
   end_cut c2 taken at_end last = inr (record {
     bytes = come.bytes;
     taken = subst (Consumes r0 r2) (append-nil come.bytes) (Consumes-trans r0 r1 r2 come.bytes [] come.taken taken);
@@ -170,7 +170,7 @@ module _ (s : StoreState) (ahead : List ℕ) (r0 r1 r2 c0 c1 : Option (List ℕ)
   })
 
 -- replies that are cut short are so for either cause
-pub stops_cut : {X : Type 0} (s : StoreState) (ahead : List ℕ) (t : Traffic) (result : Result X ServeRefusal) (w : WriteRefusal) → IsErrAnd result (λ r. r ≡ serve_refusal w) → IsCutShort s ahead t → IfErr result (Stops s ahead t)
+pub stops_cut : {X : Type 0} (s : StoreState) (ahead : List ℕ) (t : Traffic) (result : Result X ServeRefusal) (w : WriteRefusal) → IsErrAnd result (λ r. r ≡ serve_refusal w) → CutsRepliesShort s ahead t → IfErr result (Stops s ahead t)
 stops_cut s ahead t (Ok x) w is cut = tt
 stops_cut s ahead t (Err r) written.WriteFault is cut = subst (Stops s ahead t) (sym is) cut
 stops_cut s ahead t (Err r) written.NoMemory is cut = subst (Stops s ahead t) (sym is) cut

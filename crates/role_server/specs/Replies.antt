@@ -26,9 +26,9 @@ abbrev pub held_limit : ℕ
 held_limit = 10000
 
 -- under which key the act is
-abbrev pub key_of : Act → List Value
-key_of (Arrival m) = m.instance.key
-key_of (Attempt message key outs) = key
+abbrev pub act_key : Act → List Value
+act_key (Arrival m) = m.instance.key
+act_key (Attempt message key outs) = key
 
 -- the stamp that comes with the act, if one does
 abbrev pub stamp_of : Act → ℕ
@@ -77,23 +77,23 @@ Acts held (Attempt message key outs) reply new =
 -- the act was done, after its key was added
 pub record IsDone (s : StoreState) (act : Act) (reply : Reply) (new : StoreState) : Type 0 where
   pub held : StoreState
-  pub adds : AddsKey s (key_of act) held
+  pub adds : AddsKey s (act_key act) held
   pub acts : Acts held act reply new
 
 -- the reply to the act, and the store after it
-pub data Answers (s : StoreState) (act : Act) (reply : Reply) (new : StoreState) : Type 0 where
-  no_room : HasNoRoom s (key_of act) → reply ≡ Refused F3 → new ≡ s → Answers s act reply new
-  last : ¬ HasNoRoom s (key_of act) → IsLast s act → reply ≡ Refused F4 → new ≡ s
-      → Answers s act reply new
-  done : ¬ HasNoRoom s (key_of act) → ¬ IsLast s act → IsDone s act reply new
-      → Answers s act reply new
+pub data AnswersAct (s : StoreState) (act : Act) (reply : Reply) (new : StoreState) : Type 0 where
+  no_room : HasNoRoom s (act_key act) → reply ≡ Refused F3 → new ≡ s → AnswersAct s act reply new
+  last : ¬ HasNoRoom s (act_key act) → IsLast s act → reply ≡ Refused F4 → new ≡ s
+      → AnswersAct s act reply new
+  done : ¬ HasNoRoom s (act_key act) → ¬ IsLast s act → IsDone s act reply new
+      → AnswersAct s act reply new
 
 -- the reply to the line, and the store after it; a line that is refused leaves the store
 pub data Replies (s : StoreState) (line : Line) (reply : Reply) (new : StoreState) : Type 0 where
   nothing : AsksNothing line → reply ≡ Refused F1 → new ≡ s → Replies s line reply new
   in_vain : AsksInVain s.protocol s.role line → reply ≡ Refused F2 → new ≡ s
       → Replies s line reply new
-  answered : (act : Act) → AsksFor s.protocol s.role line act → Answers s act reply new
+  answered : (act : Act) → AsksFor s.protocol s.role line act → AnswersAct s act reply new
       → Replies s line reply new
 
 -- the role and its protocol stay

@@ -1,7 +1,7 @@
 -- How far a role comes with a source and a sink.
 use Rattle.std.specs.Prelude.{◌≡◌, ◌⊎◌, ℕ, ◌<◌, ◌≤◌, List, ◌++◌, Option, Result, IsErrOf, length}
 use Rattle.std.specs.Io.KnownBytes.{Appends, Consumes, IsAtEnd}
-use Rattle.bspl_io.specs.Faults.{HasCounted}
+use Rattle.bspl_io.specs.Faults.{HasCounted, FaultCounts}
 use Rattle.bspl_io.specs.Sink.{AppendsPrefix}
 use Rattle.bspl_io.specs.Traffic.{Traffic}
 use Rattle.bspl_types.specs.Limits.{input_limit}
@@ -63,8 +63,8 @@ pub record ServesEnd (s : StoreState) (ahead : List ℕ) (t : Traffic) : Type 0 
   pub written : AppendsPrefix t.contents t.contents_after out
 
 -- no more bytes came than may come, and the replies are cut short
-abbrev pub IsCutShort : StoreState → List ℕ → Traffic → Type 0
-IsCutShort s ahead t =
+abbrev pub CutsRepliesShort : StoreState → List ℕ → Traffic → Type 0
+CutsRepliesShort s ahead t =
     ((first : ServesFirst s ahead t) × (length (ahead ++ first.bytes) ≤ input_limit))
     ⊎ ServesEnd s ahead t
 
@@ -72,17 +72,10 @@ IsCutShort s ahead t =
 -- of the source no reply is owed
 abbrev pub Stops : StoreState → List ℕ → Traffic → ServeRefusal → Type 0
 Stops s ahead t refusal.ReadFault = ServesWhole s ahead t
-Stops s ahead t refusal.WriteFault = IsCutShort s ahead t
+Stops s ahead t refusal.WriteFault = CutsRepliesShort s ahead t
 Stops s ahead t refusal.TooLong =
     (first : ServesFirst s ahead t) × (input_limit < length (ahead ++ first.bytes))
-Stops s ahead t refusal.NoMemory = IsCutShort s ahead t
-
--- the counts of faults of the source and of the sink, before the call and after it
-pub record FaultCounts : Type 0 where
-  pub reads : ℕ
-  pub reads_after : ℕ
-  pub writes : ℕ
-  pub writes_after : ℕ
+Stops s ahead t refusal.NoMemory = CutsRepliesShort s ahead t
 
 -- these counts, when a source and a sink change so
 abbrev pub counts : {R W : Type 0} → (R → ℕ) → (W → ℕ) → R → R → W → W → FaultCounts

@@ -1,6 +1,6 @@
 ghost use Rattle.std.specs.Prelude.{◌≡◌, ◌↔◌, ◌++◌, ◌∷◌, [], length, IfOk, IsSome, IsTrue, OnErr, OnOk};
 ghost use Rattle.std.specs.List.{Contains};
-ghost use Rattle.role_server.specs.Replies.{Acts, Answers, HasNoRoom, IsLast, KeepsRole, Replies, key_of, stamp_of};
+ghost use Rattle.role_server.specs.Replies.{Acts, AnswersAct, HasNoRoom, IsLast, KeepsRole, Replies, act_key, stamp_of};
 ghost use Rattle.role_server.specs.inner.Acts.{HoldsKey, IsBeforeLast, IsOwn, IsReady};
 
 use bspl_types::Key;
@@ -37,7 +37,7 @@ pub fn answer_line(
 #[tactic(auto, using(crate::proofs::ActLemmas::own_key, crate::proofs::ActLemmas::found_held, crate::proofs::ActLemmas::ready, crate::proofs::ActLemmas::keeps_after))]
 fn answer_act(store: &mut Store, act: &Act) -> Result<Reply, NoMemory>
     requires { IsOwn store.old.protocol store.old.role act.now }
-    ensures reply { IfOk result (λ reply. Answers store.old act.now reply store.new) }
+    ensures reply { IfOk result (λ reply. AnswersAct store.old act.now reply store.new) }
     ensures err { OnErr result (store.new ≡ store.old) }
     ensures role { KeepsRole store.old store.new }
 {
@@ -57,7 +57,7 @@ fn answer_act(store: &mut Store, act: &Act) -> Result<Reply, NoMemory>
 
 /// The key under which the act is.
 fn key_of(act: &Act) -> &Key
-    ensures { result.now ≡ key_of act.now }
+    ensures { result.now ≡ act_key act.now }
 {
     match act {
         Act::Arrival(message) => &message.instance.key,

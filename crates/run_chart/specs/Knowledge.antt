@@ -15,7 +15,8 @@ use Rattle.role_knowledge.specs.inner.FirstValue.{first_value}
 -- the value that a role's acts under a key make known first
 abbrev pub value_known : Expanded → List Event → ℕ → List Value → ℕ → Option Value
 value_known x events role key p =
-    first_value (flat_map (λ e. pairs x (instance_of e)) (run_under key (history_of x role events))) p
+    first_value (flat_map (λ e. pairs x (instance_of e)) (run_under key (history_of x role events)))
+    p
 
 -- the value of the parameter that the event's role knew from the events before it
 abbrev pub value_before : Expanded → List Event → Event → ℕ → Option Value

@@ -8,7 +8,7 @@ use Rattle.bspl_types.specs.declared.value.Value.{Value}
 use Rattle.bspl_types.specs.Expansion.{message_of}
 use Rattle.enactment_model.specs.declared.quietness.Loose.{Loose}
 use Rattle.enactment_model.specs.FirstLoose.{IsFirstLoose, IsLoose}
-use Rattle.enactment_model.specs.FirstUnbound.{IsComplete, IsFirstUnbound}
+use Rattle.enactment_model.specs.FirstUnbound.{BindsPublic, IsFirstUnbound}
 use Rattle.enactment_model.specs.Liveness.{Bound, IsEmitted, Quiet}
 use Rattle.run_index.proofs.PartLemmas.{AgreeUnder, can_from, flipped, known_from}
 
@@ -68,7 +68,7 @@ bound_from x key events others agree p bound =
     record { role = bound.role; known = known_from x key events others agree bound.role p bound.known }
 
 -- what is public is bound in both, or in neither
-pub complete_from : (x : Expanded) (key : List Value) (events others : List Event) → AgreeUnder key events others → IsComplete x events key → IsComplete x others key
+pub complete_from : (x : Expanded) (key : List Value) (events others : List Event) → AgreeUnder key events others → BindsPublic x events key → BindsPublic x others key
 complete_from x key events others agree complete p public = bound_from x key events others agree p (complete p public)
 
 -- the first unbound parameter is one for both

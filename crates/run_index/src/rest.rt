@@ -1,7 +1,7 @@
 ghost use Rattle.std.specs.Prelude.{◌≡◌, ◌↔◌, length, IfErr, IfOk, IfSome, IsNone, IsOk};
 ghost use Rattle.bspl_types.specs.History.{IsRun};
 ghost use Rattle.enactment_model.specs.FirstLoose.{IsFirstLoose};
-ghost use Rattle.enactment_model.specs.FirstUnbound.{IsComplete, IsFirstUnbound};
+ghost use Rattle.enactment_model.specs.FirstUnbound.{BindsPublic, IsFirstUnbound};
 ghost use Rattle.enactment_model.specs.Liveness.{Quiet};
 
 use super::index::RunIndex;
@@ -37,7 +37,7 @@ pub fn unbound(
 ) -> Result<Option<u32>, NoMemory>
     requires fits { IsRun x.now index.now }
     requires key { length key.now ≡ length x.now.keys }
-    ensures none { IfOk result (λ found. IsNone found ↔ IsComplete x.now index.now key.now) }
+    ensures none { IfOk result (λ found. IsNone found ↔ BindsPublic x.now index.now key.now) }
     ensures first { IfOk result (λ found. IfSome found (IsFirstUnbound x.now index.now key.now)) }
 {
     let events = index.enactment(alloc, key)?;

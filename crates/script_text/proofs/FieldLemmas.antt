@@ -6,8 +6,8 @@ use Rattle.std.proofs.lemmas.Bool.{cases_Bool}
 use Rattle.std.proofs.lemmas.Bool.Decides.{nat_tests}
 use Rattle.std.proofs.Math.Seq.{take-length}
 use Rattle.std.proofs.lemmas.List.Splits.{slice_split-cons_no}
-use Rattle.agent_scripts.specs.Lines.{fields_of}
 use Rattle.script_text.specs.inner.Blanks.{is_blank}
+use Rattle.text_lines.specs.Fields.{fields_of}
 
 -- not empty
 abbrev pub is_some_field : List ℕ → Bool

@@ -14,9 +14,9 @@ use Rattle.agent_scripts.specs.declared.statement.Rule.{Rule}
 use Rattle.agent_scripts.specs.declared.statement.Setting.{Setting}
 use Rattle.agent_scripts.specs.declared.statement.Setting.TheVariants as settings
 use Rattle.agent_scripts.specs.declared.statement.Statement.{Statement}
-use Rattle.agent_scripts.specs.Lines.{Field}
-use Rattle.agent_scripts.specs.Statement.{HasForm, Means, line_form}
+use Rattle.agent_scripts.specs.Statement.{HasLineForm, Means, line_form}
 use Rattle.agent_scripts.specs.Table.{LineForm, Set, Key, Order, Decline, Bind, written, setting_word, every_fields, rule_fields, IsInTable, IsSetting, IsEvery, IsRule}
+use Rattle.text_lines.specs.Fields.{Field}
 
 -- what stands after the word of a setting
 pub record FormsSetting (setting : Setting) (fields : List Field) : Type 0 where
@@ -115,7 +115,7 @@ setting_line keys setting fields (Order role messages) has same = absurd (order_
 setting_line keys setting fields (Decline message every) has same = absurd (decline_is_other setting (cc))
 setting_line keys setting fields (Bind message param rule) has same = absurd (value_is_other setting (cc))
 
-pub setting_form : (x : Expanded) (setting : Setting) (fields : List Field) → HasForm x (setting_word setting ∷ fields) → FormsSetting setting fields
+pub setting_form : (x : Expanded) (setting : Setting) (fields : List Field) → HasLineForm x (setting_word setting ∷ fields) → FormsSetting setting fields
 setting_form x setting fields form = setting_line (length x.keys) setting fields form.0 form.1 form.2
 
 -- after `key`
@@ -126,7 +126,7 @@ key_line keys fields (Order role messages) has same = absurd (words_differ (code
 key_line keys fields (Decline message every) has same = absurd (words_differ (codes "key") (codes "decline") refl (cc))
 key_line keys fields (Bind message param rule) has same = absurd (words_differ (codes "key") (codes "value") refl (cc))
 
-pub key_form : (x : Expanded) (fields : List Field) → HasForm x (codes "key" ∷ fields) → FormsKey (length x.keys) fields
+pub key_form : (x : Expanded) (fields : List Field) → HasLineForm x (codes "key" ∷ fields) → FormsKey (length x.keys) fields
 key_form x fields form = key_line (length x.keys) fields form.0 form.1 form.2
 
 -- after `order`
@@ -137,7 +137,7 @@ order_line keys fields (Key values) has same = absurd (words_differ (codes "orde
 order_line keys fields (Decline message every) has same = absurd (words_differ (codes "order") (codes "decline") refl (cc))
 order_line keys fields (Bind message param rule) has same = absurd (words_differ (codes "order") (codes "value") refl (cc))
 
-pub order_form : (x : Expanded) (fields : List Field) → HasForm x (codes "order" ∷ fields) → FormsOrder fields
+pub order_form : (x : Expanded) (fields : List Field) → HasLineForm x (codes "order" ∷ fields) → FormsOrder fields
 order_form x fields form = order_line (length x.keys) fields form.0 form.1 form.2
 
 -- after `decline`
@@ -148,7 +148,7 @@ decline_line keys fields (Key values) has same = absurd (words_differ (codes "de
 decline_line keys fields (Order role messages) has same = absurd (words_differ (codes "decline") (codes "order") refl (cc))
 decline_line keys fields (Bind message param rule) has same = absurd (words_differ (codes "decline") (codes "value") refl (cc))
 
-pub decline_form : (x : Expanded) (fields : List Field) → HasForm x (codes "decline" ∷ fields) → FormsDecline fields
+pub decline_form : (x : Expanded) (fields : List Field) → HasLineForm x (codes "decline" ∷ fields) → FormsDecline fields
 decline_form x fields form = decline_line (length x.keys) fields form.0 form.1 form.2
 
 -- after `value`
@@ -159,15 +159,15 @@ value_line keys fields (Key values) has same = absurd (words_differ (codes "valu
 value_line keys fields (Order role messages) has same = absurd (words_differ (codes "value") (codes "order") refl (cc))
 value_line keys fields (Decline message every) has same = absurd (words_differ (codes "value") (codes "decline") refl (cc))
 
-pub value_form : (x : Expanded) (fields : List Field) → HasForm x (codes "value" ∷ fields) → FormsValue fields
+pub value_form : (x : Expanded) (fields : List Field) → HasLineForm x (codes "value" ∷ fields) → FormsValue fields
 value_form x fields form = value_line (length x.keys) fields form.0 form.1 form.2
 
 -- what is said has a form
-pub said_has_form : (x : Expanded) (fields : List Field) (s : Statement) → Means x fields s → HasForm x fields
+pub said_has_form : (x : Expanded) (fields : List Field) (s : Statement) → Means x fields s → HasLineForm x fields
 said_has_form x fields s says = (line_form x s, says.in_table, says.fields_are)
 
 -- a first field that is no word of the table has no form
-pub no_word : (x : Expanded) (word : Field) (fields : List Field) → IsOther word → (word ≡ codes "key" → ⊥) → (word ≡ codes "order" → ⊥) → (word ≡ codes "decline" → ⊥) → (word ≡ codes "value" → ⊥) → HasForm x (word ∷ fields) → ⊥
+pub no_word : (x : Expanded) (word : Field) (fields : List Field) → IsOther word → (word ≡ codes "key" → ⊥) → (word ≡ codes "order" → ⊥) → (word ≡ codes "decline" → ⊥) → (word ≡ codes "value" → ⊥) → HasLineForm x (word ∷ fields) → ⊥
 no_word x word fields setting key order decline value form = go form.0 form.2
   where
     go : (form : LineForm) → word ∷ fields ≡ written form → ⊥

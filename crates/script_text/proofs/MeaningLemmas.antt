@@ -6,14 +6,13 @@ use Rattle.std.proofs.lemmas.List.Elements.{All-head, All-tail}
 use Rattle.bspl_types.specs.declared.value.Value.{Value}
 use Rattle.bspl_types.specs.Value.{IsValue}
 use Rattle.bspl_types.specs.ValueSpelling.{value_spelling}
-use Rattle.bspl_types.specs.Expansion.{message_name}
+use Rattle.bspl_types.specs.Expansion.{message_name, role_name}
 use Rattle.bspl_types.specs.declared.expanded.Expanded.{Expanded}
 use Rattle.agent_scripts.specs.declared.statement.Rule.{Rule}
 use Rattle.agent_scripts.specs.declared.statement.Setting.{Setting}
 use Rattle.agent_scripts.specs.declared.statement.Statement.{Statement}
 use Rattle.agent_scripts.specs.declared.statement.Statement.TheVariants.{Set, Key, Order, Decline, Bind}
-use Rattle.agent_scripts.specs.Lines.{Field}
-use Rattle.agent_scripts.specs.Statement.{Means, IsFreeOut, IsSentBy, param_name, line_form, role_name}
+use Rattle.agent_scripts.specs.Statement.{Means, IsFreeOut, IsSentBy, param_field, line_form}
 use Rattle.agent_scripts.specs.Table.{setting_word, every_fields, rule_fields, IsSetting, IsEvery, IsRule, IsInTable, written}
 use Rattle.agent_scripts.specs.Table.{Order as order_form, Decline as decline_form, Bind as bind_form}
 use Rattle.script_text.specs.inner.LineReading.{ReadsFields, ReadsOrder}
@@ -22,6 +21,7 @@ use Rattle.script_text.specs.declared.line_error.LineError.TheVariants as errors
 use Rattle.std.specs.Prelude.{Err}
 use Rattle.script_text.proofs.NameLemmas.{one_message, one_role}
 use Rattle.script_text.proofs.FormLemmas.{words_differ, key_is_other, order_is_other, decline_is_other, value_is_other, one_setting}
+use Rattle.text_lines.specs.Fields.{Field}
 
 -- after the word of a setting
 pub record SaysSetting (setting : Setting) (fields : List Field) (s : Statement) : Type 0 where
@@ -64,7 +64,7 @@ pub record SaysValue (x : Expanded) (fields : List Field) (s : Statement) : Type
   pub known : message < length x.messages
   pub free : IsFreeOut x message param
   pub has : IsRule rule
-  pub fields_are : fields ≡ message_name x message ∷ param_name x param ∷ rule_fields rule
+  pub fields_are : fields ≡ message_name x message ∷ param_field x param ∷ rule_fields rule
 
 setting_parts : (x : Expanded) (setting : Setting) (fields : List Field) (s : Statement) → IsInTable (length x.keys) (line_form x s) → setting_word setting ∷ fields ≡ written (line_form x s) → SaysSetting setting fields s
 setting_parts x setting fields (Set other n) has same =
@@ -128,20 +128,20 @@ unknown_message x name param fields rule has whole none = (
   (bind_form name param rule, has, ap (λ fs. codes "value" ∷ fs) whole),
   λ s says.
       let said = value_said x fields s says in
-      let both : name ∷ param ∷ rule_fields rule ≡ message_name x said.message ∷ param_name x said.param ∷ rule_fields said.rule = sym whole ∙ said.fields_are in
+      let both : name ∷ param ∷ rule_fields rule ≡ message_name x said.message ∷ param_field x said.param ∷ rule_fields said.rule = sym whole ∙ said.fields_are in
       let same : name ≡ message_name x said.message = cc in
       none said.message said.known same,
 )
 
 -- a parameter whose value the message does not give
-pub unknown_param : (x : Expanded) (m : ℕ) (name param : Field) (fields : List Field) (rule : Rule) → IsRule rule → fields ≡ name ∷ param ∷ rule_fields rule → m < length x.messages → name ≡ message_name x m → ((p : ℕ) → IsFreeOut x m p → param ≢ param_name x p) → ReadsFields x (codes "value" ∷ fields) (Err errors.Unknown)
+pub unknown_param : (x : Expanded) (m : ℕ) (name param : Field) (fields : List Field) (rule : Rule) → IsRule rule → fields ≡ name ∷ param ∷ rule_fields rule → m < length x.messages → name ≡ message_name x m → ((p : ℕ) → IsFreeOut x m p → param ≢ param_field x p) → ReadsFields x (codes "value" ∷ fields) (Err errors.Unknown)
 unknown_param x m name param fields rule has whole known is none = (
   (bind_form name param rule, has, ap (λ fs. codes "value" ∷ fs) whole),
   λ s says.
       let said = value_said x fields s says in
-      let both : name ∷ param ∷ rule_fields rule ≡ message_name x said.message ∷ param_name x said.param ∷ rule_fields said.rule = sym whole ∙ said.fields_are in
+      let both : name ∷ param ∷ rule_fields rule ≡ message_name x said.message ∷ param_field x said.param ∷ rule_fields said.rule = sym whole ∙ said.fields_are in
       let same : message_name x said.message ≡ message_name x m = cc in
-      let other : param ≡ param_name x said.param = cc in
+      let other : param ≡ param_field x said.param = cc in
       let one : said.message ≡ m = one_message x said.message m said.known known same in
       none said.param (subst (λ n. IsFreeOut x n said.param) one said.free) other,
 )

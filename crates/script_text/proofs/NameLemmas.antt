@@ -12,8 +12,8 @@ use Rattle.bspl_types.specs.declared.expanded.Expanded.{Expanded}
 use Rattle.bspl_types.specs.declared.protocol.Adornment.TheVariants.{Out}
 use Rattle.bspl_types.specs.declared.protocol.Carried.{Carried}
 use Rattle.bspl_types.specs.declared.protocol.ParamInfo.{ParamInfo}
-use Rattle.bspl_types.specs.Expansion.{message_of, no_message, message_name}
-use Rattle.agent_scripts.specs.Statement.{IsFreeOut, param_name, role_name}
+use Rattle.bspl_types.specs.Expansion.{message_of, no_message, message_name, role_name}
+use Rattle.agent_scripts.specs.Statement.{IsFreeOut, param_field}
 use Rattle.list_base.proofs.FirstIndex.{named_index}
 
 -- what is found has the name
@@ -49,11 +49,11 @@ pub one_message : (x : Expanded) (j k : ℕ) → j < length x.messages → k < l
 one_message x j k known also same = one_named (λ m. m.name) x.messages no_message j k x.shape.message_names.distinct known also same
 
 -- the name of a parameter is that of its declaration
-pub name_of_param : (x : Expanded) (p : ℕ) (d : ParamInfo) → p < length x.params → param_name x p ≡ (get_or x.params p d).name
+pub name_of_param : (x : Expanded) (p : ℕ) (d : ParamInfo) → p < length x.params → param_field x p ≡ (get_or x.params p d).name
 name_of_param x p d known = get_or-map (λ (info : ParamInfo). info.name) x.params p d [] known
 
 -- parameters of one name are one
-pub one_param : (x : Expanded) (j k : ℕ) (d : ParamInfo) → j < length x.params → k < length x.params → param_name x j ≡ param_name x k → j ≡ k
+pub one_param : (x : Expanded) (j k : ℕ) (d : ParamInfo) → j < length x.params → k < length x.params → param_field x j ≡ param_field x k → j ≡ k
 one_param x j k d known also same = one_named (λ info. info.name) x.params d j k x.shape.param_names.distinct known also (sym (name_of_param x j d known) ∙ same ∙ name_of_param x k d also)
 
 -- a parameter whose value a message gives is declared

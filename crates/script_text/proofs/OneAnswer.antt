@@ -11,7 +11,7 @@ use Rattle.agent_scripts.specs.declared.statement.Statement.{Statement}
 use Rattle.agent_scripts.specs.StatedScript.{IsGivenPlan, IsGivenScript}
 use Rattle.agent_scripts.specs.Refusal.{IsFirstOutOfRange, IsRefusedScript, IsScriptText}
 use Rattle.agent_scripts.specs.Script.{Script}
-use Rattle.agent_scripts.specs.ScriptText.{IsInRange, IsOutOfForm, IsRefusedNext, IsUnknown, statements_of}
+use Rattle.agent_scripts.specs.ScriptText.{HasValueInRange, IsBadLine, IsRefusedNext, NamesUndeclared, statements_of}
 use Rattle.script_text.specs.Laws.{IsSamePlan, IsSameScript}
 use Rattle.script_text.proofs.OneReading.{read_alike}
 use Rattle.script_text.proofs.OneOutOfRange.{none_out, one_out}
@@ -19,7 +19,7 @@ use Rattle.script_text.proofs.OneOutOfRange.{none_out, one_out}
 -- a line is bad, and refused in that way
 abbrev IsBad : Expanded → List Stated → List (ℕ × List ℕ) → ScriptRefusal → Type 0
 IsBad x stated rest refusal = ((n : ℕ) × (refusal ≡ Form n) × IsFirstOutOfRange x stated n)
-    ⊎ (All (IsInRange x stated) stated × IsRefusedNext x stated rest refusal)
+    ⊎ (All (HasValueInRange x stated) stated × IsRefusedNext x stated rest refusal)
 
 -- statements give one script
 one_script : (x : Expanded) (statements : List Statement) (script other : Script) → IsGivenScript x statements script → IsGivenScript x statements other → IsSameScript script other
@@ -47,7 +47,7 @@ gives_one once x text script other plan another one two =
     )
 
 -- a line that is out of form is not one of unknown names
-form_or_unknown : (x : Expanded) (stated : List Stated) (line : List ℕ) → IsOutOfForm x stated line → IsUnknown x line → ⊥
+form_or_unknown : (x : Expanded) (stated : List Stated) (line : List ℕ) → IsBadLine x stated line → NamesUndeclared x line → ⊥
 form_or_unknown x stated line form unknown = elim form [
   | inl none ↦ none unknown.0
   | inr breaks ↦ unknown.1 breaks.0 breaks.1

@@ -9,8 +9,8 @@ use Rattle.bspl_types.specs.declared.expanded.Expanded.{Expanded}
 use Rattle.bspl_types.specs.declared.protocol.Adornment.TheVariants.{Out}
 use Rattle.bspl_types.specs.declared.protocol.Carried.{Carried}
 use Rattle.bspl_types.specs.declared.protocol.ParamInfo.{ParamInfo}
-use Rattle.bspl_types.specs.Expansion.{message_of, no_message, message_name}
-use Rattle.agent_scripts.specs.Statement.{IsFreeOut, IsSentBy, param_name, role_name}
+use Rattle.bspl_types.specs.Expansion.{message_of, no_message, message_name, role_name}
+use Rattle.agent_scripts.specs.Statement.{IsFreeOut, IsSentBy, param_field}
 
 -- items of one name are one
 one_named : {X : Type 0} (name : X → List ℕ) (xs : List X) (d : X) (j k : ℕ) → AllPairs (λ y z. name y ≢ name z) xs → j < length xs → k < length xs → name (get_or xs j d) ≡ name (get_or xs k d) → j ≡ k
@@ -44,7 +44,7 @@ same_messages x role other (m ∷ ms) (n ∷ ns) sent also same =
     cc
 
 -- the name of a parameter is that of its declaration
-name_of_param : (x : Expanded) (p : ℕ) (d : ParamInfo) → p < length x.params → param_name x p ≡ (get_or x.params p d).name
+name_of_param : (x : Expanded) (p : ℕ) (d : ParamInfo) → p < length x.params → param_field x p ≡ (get_or x.params p d).name
 name_of_param x p d known = get_or-map (λ (info : ParamInfo). info.name) x.params p d [] known
 
 -- a parameter whose value a message gives is declared
@@ -53,7 +53,7 @@ free_known x m p known free =
     All-contains (λ (c : Carried). c.param < length x.params) (message_of x m).carried (record { param = p; adornment = Out }) (x.shape.each_message m no_message known).known_params free.0
 
 -- parameters of one name, whose values messages give, are one
-pub one_param : (x : Expanded) (m n p q : ℕ) → m < length x.messages → n < length x.messages → IsFreeOut x m p → IsFreeOut x n q → param_name x p ≡ param_name x q → p ≡ q
+pub one_param : (x : Expanded) (m n p q : ℕ) → m < length x.messages → n < length x.messages → IsFreeOut x m p → IsFreeOut x n q → param_field x p ≡ param_field x q → p ≡ q
 one_param x m n p q known also free free_too same =
     let d : ParamInfo = record { name = []; adornment = None; key = false } in
     let declared = free_known x m p known free in

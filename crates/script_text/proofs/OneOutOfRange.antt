@@ -5,7 +5,7 @@ use Rattle.std.proofs.lemmas.List.Elements.{All-head, All-tail}
 use Rattle.bspl_types.specs.declared.expanded.Expanded.{Expanded}
 use Rattle.agent_scripts.specs.declared.statement.Stated.{Stated}
 use Rattle.agent_scripts.specs.Refusal.{IsFirstOutOfRange}
-use Rattle.agent_scripts.specs.ScriptText.{IsInRange}
+use Rattle.agent_scripts.specs.ScriptText.{HasValueInRange}
 
 -- where all are good, none is bad
 all_good : {X : Type 0} (P : X → Type 0) (before : List X) (s : X) (after : List X) → All P (before ++ s ∷ after) → P s
@@ -28,9 +28,9 @@ one_first P (y ∷ before) s after (z ∷ also) t rest whole good bad good_too b
 -- the first line with a value out of range is one
 pub one_out : (x : Expanded) (stated : List Stated) (n m : ℕ) → IsFirstOutOfRange x stated n → IsFirstOutOfRange x stated m → n ≡ m
 one_out x stated n m one two =
-    let same = one_first (IsInRange x stated) one.before one.s one.after two.before two.s two.after (sym one.parts ∙ two.parts) one.in_range one.out two.in_range two.out in
+    let same = one_first (HasValueInRange x stated) one.before one.s one.after two.before two.s two.after (sym one.parts ∙ two.parts) one.in_range one.out two.in_range two.out in
     one.number ∙ ap (λ (s : Stated). s.line) same ∙ sym two.number
 
 -- there is none if all values are in range
-pub none_out : (x : Expanded) (stated : List Stated) (n : ℕ) → All (IsInRange x stated) stated → IsFirstOutOfRange x stated n → ⊥
-none_out x stated n all first = first.out (all_good (IsInRange x stated) first.before first.s first.after (subst (All (IsInRange x stated)) first.parts all))
+pub none_out : (x : Expanded) (stated : List Stated) (n : ℕ) → All (HasValueInRange x stated) stated → IsFirstOutOfRange x stated n → ⊥
+none_out x stated n all first = first.out (all_good (HasValueInRange x stated) first.before first.s first.after (subst (All (HasValueInRange x stated)) first.parts all))

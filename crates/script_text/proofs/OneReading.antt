@@ -8,11 +8,11 @@ use Rattle.agent_scripts.specs.declared.refusal.ScriptRefusal.{ScriptRefusal}
 use Rattle.agent_scripts.specs.declared.refusal.ScriptRefusal.TheVariants.{Form, Unknown, NoMemory}
 use Rattle.agent_scripts.specs.declared.statement.Stated.{Stated}
 use Rattle.agent_scripts.specs.declared.statement.Statement.{Statement}
-use Rattle.agent_scripts.specs.Lines.{fields_of}
 use Rattle.agent_scripts.specs.Rules.{KeepsRules}
-use Rattle.agent_scripts.specs.ScriptText.{IsEnd, IsReadTo, IsRefusedNext, KeepRules, MeansAt, statements_of, telling_lines}
+use Rattle.agent_scripts.specs.ScriptText.{EndsScript, IsReadTo, IsRefusedNext, KeepRules, MeansAt, statements_of, telling_lines}
 use Rattle.agent_scripts.specs.Statement.{Means, line_form}
 use Rattle.script_text.proofs.OneStatement.{says_one}
+use Rattle.text_lines.specs.Fields.{fields_of}
 
 -- a bad line says nothing that keeps the rules
 bad_says_nothing : ValuesAreSpelledOnce → (x : Expanded) (stated : List Stated) (n : ℕ) (line : List ℕ) (rest : List (ℕ × List ℕ)) (refusal : ScriptRefusal) (s : Statement) → IsRefusedNext x stated ((n, line) ∷ rest) refusal → Means x (fields_of line) s → KeepsRules (statements_of stated) s → ⊥
@@ -24,7 +24,7 @@ bad_says_nothing once x stated n line rest (Unknown k) s bad said keeps = bad.1.
 bad_says_nothing once x stated n line rest NoMemory s bad said keeps = bad
 
 -- no reading ends before such a line
-no_end : ValuesAreSpelledOnce → (x : Expanded) (stated : List Stated) (n : ℕ) (line : List ℕ) (rest left : List (ℕ × List ℕ)) (s : Statement) → IsEnd x stated left → left ≡ (n, line) ∷ rest → Means x (fields_of line) s → KeepsRules (statements_of stated) s → ⊥
+no_end : ValuesAreSpelledOnce → (x : Expanded) (stated : List Stated) (n : ℕ) (line : List ℕ) (rest left : List (ℕ × List ℕ)) (s : Statement) → EndsScript x stated left → left ≡ (n, line) ∷ rest → Means x (fields_of line) s → KeepsRules (statements_of stated) s → ⊥
 no_end once x stated n line rest left s end is said keeps = elim end [
   | inl none ↦ absurd (cc)
   | inr bad ↦ bad_says_nothing once x stated n line rest bad.0 s (subst (λ lines. IsRefusedNext x stated lines bad.0) is bad.1) said keeps
@@ -35,7 +35,7 @@ record GoesOn (x : Expanded) (done : List Stated) (lines before rest : List (ℕ
   lines_are : lines ≡ before ++ rest
   said : AllZip (MeansAt x) before stated
   rules : KeepRules (statements_of (done ++ stated))
-  end : IsEnd x (done ++ stated) rest
+  end : EndsScript x (done ++ stated) rest
 
 -- its first statement keeps the rules
 first_keeps : (done stated : List Stated) (s : Stated) → KeepRules (statements_of (done ++ s ∷ stated)) → KeepsRules (statements_of done) s.statement
@@ -44,7 +44,7 @@ first_keeps done stated s rules = rules (statements_of done) (statements_of stat
 -- a reading that ends here and one that goes on are not both
 not_both : ValuesAreSpelledOnce → (x : Expanded) (done : List Stated) (lines rest also left : List (ℕ × List ℕ)) (n : ℕ) (line : List ℕ) (s : Stated) (other : List Stated) → GoesOn x done lines [] rest [] → GoesOn x done lines ((n, line) ∷ also) left (s ∷ other) → ⊥
 not_both once x done lines rest also left n line s other ends goes =
-    let end : IsEnd x done rest = subst (λ d. IsEnd x d rest) (append-nil done) ends.end in
+    let end : EndsScript x done rest = subst (λ d. EndsScript x d rest) (append-nil done) ends.end in
     let is : rest ≡ (n, line) ∷ (also ++ left) = sym ends.lines_are ∙ goes.lines_are in
     no_end once x done n line (also ++ left) rest s.statement end is goes.said.0.1 (first_keeps done other s goes.rules)
 
@@ -56,7 +56,7 @@ after_first x done lines before rest l s stated next goes is =
       lines_are = is;
       said = goes.said.1;
       rules = subst (λ all. KeepRules (statements_of all)) joined goes.rules;
-      end = subst (λ all. IsEnd x all rest) joined goes.end;
+      end = subst (λ all. EndsScript x all rest) joined goes.end;
     }
 
 -- statements at one line are one

@@ -2,16 +2,16 @@
 use Rattle.std.proofs.Common.{◌≡◌, List, length, map, sym, ◌∙◌}
 use Rattle.bspl_types.specs.declared.expanded.Expanded.{Expanded}
 use Rattle.bspl_types.specs.ValueSpelling.{ValuesAreSpelledOnce}
-use Rattle.bspl_types.specs.Expansion.{message_name}
+use Rattle.bspl_types.specs.Expansion.{message_name, role_name}
 use Rattle.agent_scripts.specs.declared.statement.Statement.{Statement}
 use Rattle.agent_scripts.specs.declared.statement.Statement.TheVariants as says
-use Rattle.agent_scripts.specs.Lines.{Field}
-use Rattle.agent_scripts.specs.Statement.{IsKnown, Means, param_name, line_form, role_name}
+use Rattle.agent_scripts.specs.Statement.{IsDeclaredIn, Means, param_field, line_form}
 use Rattle.script_text.proofs.OneName.{one_message, one_param, one_role, same_messages}
 use Rattle.script_text.proofs.OneForm.{one_form}
+use Rattle.text_lines.specs.Fields.{Field}
 
 -- what is the same in names is the same by number
-one_statement : (x : Expanded) (s t : Statement) → IsKnown x s → IsKnown x t → line_form x s ≡ line_form x t → s ≡ t
+one_statement : (x : Expanded) (s t : Statement) → IsDeclaredIn x s → IsDeclaredIn x t → line_form x s ≡ line_form x t → s ≡ t
 one_statement x (says.Set s m) (says.Set t n) known also same = cc
 one_statement x (says.Key k) (says.Key l) known also same = cc
 one_statement x (says.Order r ms) (says.Order q ns) known also same =
@@ -26,7 +26,7 @@ one_statement x (says.Decline m e) (says.Decline n f) known also same =
     cc
 one_statement x (says.Bind m p r) (says.Bind n q t) known also same =
     let names : message_name x m ≡ message_name x n = cc in
-    let params : param_name x p ≡ param_name x q = cc in
+    let params : param_field x p ≡ param_field x q = cc in
     let message = one_message x m n known.0 also.0 names in
     let param = one_param x m n p q known.0 also.0 known.1 also.1 params in
     cc

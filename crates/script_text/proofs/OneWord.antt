@@ -3,8 +3,8 @@ use Rattle.std.proofs.Common.{◌≡◌, ℕ, cond, List, [], ◌∷◌, codes, 
 use Rattle.std.specs.Str.{bytes_eq}
 use Rattle.agent_scripts.specs.declared.statement.Setting.{Setting}
 use Rattle.agent_scripts.specs.declared.statement.Setting.TheVariants as settings
-use Rattle.agent_scripts.specs.Lines.{Field}
 use Rattle.agent_scripts.specs.Table.{LineForm, Set, Key, Order, Decline, Bind, written, setting_word}
+use Rattle.text_lines.specs.Fields.{Field}
 
 -- the setting of a word
 abbrev word_setting : Field → Setting

@@ -10,13 +10,14 @@ use Rattle.agent_scripts.specs.declared.statement.Setting.TheVariants as setting
 use Rattle.agent_scripts.specs.declared.statement.Stated.{Stated}
 use Rattle.agent_scripts.specs.declared.statement.Statement.{Statement}
 use Rattle.agent_scripts.specs.declared.statement.Statement.TheVariants.{Set, Key, Order, Decline, Bind}
-use Rattle.agent_scripts.specs.Lines.{fields_of, lines_of, Field}
+use Rattle.agent_scripts.specs.Lines.{script_lines}
 use Rattle.agent_scripts.specs.Rules.{KeepsRules}
 use Rattle.agent_scripts.specs.ScriptText.{IsRefusedNext, KeepRules, MeansAt, is_passed_over, statements_of, telling_lines}
 use Rattle.agent_scripts.specs.Statement.{Means}
-use Rattle.script_text.specs.Reading.{HasNumbers, IsRead}
+use Rattle.script_text.specs.Reading.{HasNumbers, IsScriptRead}
 use Rattle.script_text.specs.inner.TextReading.{GoesOn, HasOneMore}
 use Rattle.script_text.proofs.StatementLemmas.{rules_push, statements_push}
+use Rattle.text_lines.specs.Fields.{Field, fields_of}
 
 -- ---- one line
 
@@ -50,7 +51,7 @@ pub record AreLinesRead (x : Expanded) (text : List ℕ) (left : List (List ℕ)
   pub said : AllZip (MeansAt x) before stated
   pub rules : KeepRules (statements_of stated)
 
-pub no_lines : (x : Expanded) (text : List ℕ) → AreLinesRead x text (lines_of text) [] 1
+pub no_lines : (x : Expanded) (text : List ℕ) → AreLinesRead x text (script_lines text) [] 1
 no_lines x text = record { before = []; lines = refl; said = tt; rules = λ before after s whole. none before after s whole }
   where
     none : (before after : List Statement) (s : Statement) → [] ≡ before ++ s ∷ after → KeepsRules before s
@@ -83,7 +84,7 @@ line_more x text line left stated more number read how = elim how [
 ]
 
 -- all lines were read
-pub all_read : (x : Expanded) (text : List ℕ) (stated : List Stated) (number : ℕ) → AreLinesRead x text [] stated number → IsRead x text stated None
+pub all_read : (x : Expanded) (text : List ℕ) (stated : List Stated) (number : ℕ) → AreLinesRead x text [] stated number → IsScriptRead x text stated None
 all_read x text stated number read = record {
   rest = [];
   to = record { before = read.before; lines = read.lines; said = read.said; rules = read.rules; end = inl refl };
@@ -91,7 +92,7 @@ all_read x text stated number read = record {
 }
 
 -- or the next is refused
-pub refused_next : (x : Expanded) (text line : List ℕ) (left : List (List ℕ)) (stated : List Stated) (number : ℕ) (refusal : ScriptRefusal) → AreLinesRead x text (line ∷ left) stated number → is_passed_over (fields_of line) ≡ false → IsRefusedNext x stated ((number, line) ∷ []) refusal → IsRead x text stated (Some refusal)
+pub refused_next : (x : Expanded) (text line : List ℕ) (left : List (List ℕ)) (stated : List Stated) (number : ℕ) (refusal : ScriptRefusal) → AreLinesRead x text (line ∷ left) stated number → is_passed_over (fields_of line) ≡ false → IsRefusedNext x stated ((number, line) ∷ []) refusal → IsScriptRead x text stated (Some refusal)
 refused_next x text line left stated number refusal read some bad =
     let refused = refused_whatever x stated (number, line) (telling_of (number + 1) left) refusal bad in
     record {

@@ -8,7 +8,7 @@ use Rattle.bspl_types.specs.ValueSpelling.{SpellsValue, ValuesAreSpelledOnce, va
 use Rattle.agent_scripts.specs.declared.statement.Rule.{Rule}
 use Rattle.agent_scripts.specs.declared.statement.Rule.TheVariants.{Linear, Fixed}
 use Rattle.agent_scripts.specs.Table.{IsRule, rule_fields}
-use Rattle.agent_scripts.specs.Lines.{Field}
+use Rattle.text_lines.specs.Fields.{Field}
 
 -- its value, and what follows
 pub record BeginsRule (first : Field) (after : List Field) (factor : ℕ) (offset : ℕ) : Type 0 where

@@ -9,7 +9,7 @@ use Rattle.agent_scripts.specs.ScriptText.{IsReadTo, IsRefusedNext}
 use Rattle.agent_scripts.specs.Table.{IsSetting, IsEvery}
 
 -- the lines of the text were read up to the first that is bad, which is refused in that way
-pub record IsRead
+pub record IsScriptRead
     (x : Expanded) (text : List ℕ) (stated : List Stated) (refusal : Option ScriptRefusal)
     : Type 0 where
   pub rest : List (ℕ × List ℕ)

@@ -1,7 +1,7 @@
 ghost use Rattle.std.specs.Prelude.{◌<◌, length, IfOk};
 ghost use Rattle.std.specs.List.{All};
 ghost use Rattle.agent_scripts.specs.StatedScript.{IsGivenPlan, IsGivenScript};
-ghost use Rattle.agent_scripts.specs.ScriptText.{IsInRange, statements_of};
+ghost use Rattle.agent_scripts.specs.ScriptText.{HasValueInRange, statements_of};
 
 use super::keys::keys_of;
 use super::orders::orders_of;
@@ -19,7 +19,7 @@ pub(crate) fn agents_of(
     statements: StatementList,
 ) -> Result<Agents, NoMemory>
     requires some_key { 0 < length x.now.keys }
-    requires in_range { All (IsInRange x.now statements) statements }
+    requires in_range { All (HasValueInRange x.now statements) statements }
     ensures script { IfOk result (λ agents.
         IsGivenScript x.now (statements_of statements) agents.script) }
     ensures plan { IfOk result (λ agents. IsGivenPlan (statements_of statements) agents.plan) }

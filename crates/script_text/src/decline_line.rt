@@ -1,7 +1,7 @@
 ghost use Rattle.std.specs.Prelude.{◌≡◌, ◌≢◌, ◌∷◌, ℕ, Option, codes, MatchOption};
-ghost use Rattle.agent_scripts.specs.Lines.{fields_of};
 ghost use Rattle.agent_scripts.specs.Table.{IsEvery, every_fields};
 ghost use Rattle.script_text.specs.inner.LineReading.{ReadsFields};
+ghost use Rattle.text_lines.specs.Fields.{fields_of};
 
 use super::fields::first_field;
 use super::line_error::LineError;

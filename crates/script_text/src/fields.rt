@@ -1,7 +1,7 @@
 ghost use Rattle.std.specs.Prelude.{◌≡◌, ◌<◌, ◌≤◌, ◌∷◌, [], length, MatchOption};
 ghost use Rattle.std.specs.List.{position_or_len};
-ghost use Rattle.agent_scripts.specs.Lines.{fields_of};
 ghost use Rattle.script_text.specs.inner.Blanks.{is_blank, BeginsField};
+ghost use Rattle.text_lines.specs.Fields.{fields_of};
 
 /// The first field of a line, and what follows it.
 pub(crate) fn first_field(line: &[u8]) -> Option<(&[u8], &[u8])>

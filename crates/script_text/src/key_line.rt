@@ -5,8 +5,8 @@ ghost use Rattle.bspl_types.specs.Admission.{IsAdmitted};
 ghost use Rattle.bspl_types.specs.Limits.{key_limit};
 ghost use Rattle.bspl_types.specs.Value.{IsValue};
 ghost use Rattle.bspl_types.specs.ValueSpelling.{value_spelling};
-ghost use Rattle.agent_scripts.specs.Lines.{fields_of};
 ghost use Rattle.script_text.specs.inner.LineReading.{ReadsFields};
+ghost use Rattle.text_lines.specs.Fields.{fields_of};
 
 use super::fields::first_field;
 use super::line_error::LineError;

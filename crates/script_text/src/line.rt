@@ -1,6 +1,6 @@
 ghost use Rattle.bspl_types.specs.Admission.{IsAdmitted};
-ghost use Rattle.agent_scripts.specs.Lines.{fields_of};
 ghost use Rattle.script_text.specs.inner.LineReading.{ReadsFields};
+ghost use Rattle.text_lines.specs.Fields.{fields_of};
 
 use super::decline_line::decline_statement;
 use super::fields::first_field;

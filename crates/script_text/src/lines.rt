@@ -1,15 +1,16 @@
 ghost use Rattle.std.specs.Prelude.{◌≡◌, ◌<◌, ◌≤◌, [], ◌∷◌, length, IfSome, MatchOption};
 ghost use Rattle.std.specs.List.{position_or_len};
-ghost use Rattle.agent_scripts.specs.Lines.{fields_of, lines_of, without_return};
+ghost use Rattle.agent_scripts.specs.Lines.{script_lines, without_return};
 ghost use Rattle.agent_scripts.specs.ScriptText.{is_passed_over};
 ghost use Rattle.script_text.specs.inner.Blanks.{is_line_end};
+ghost use Rattle.text_lines.specs.Fields.{fields_of};
 
 use super::fields::first_field;
 
 /// The first line of a text without its end, and the text after it, if the line has an end.
 pub(crate) fn first_line(text: &[u8]) -> (&[u8], Option<&[u8]>)
-    ensures lines { MatchOption result.1 (lines_of text.now ≡ result.0.now ∷ [])
-        (λ after. lines_of text.now ≡ result.0.now ∷ lines_of after.now) }
+    ensures lines { MatchOption result.1 (script_lines text.now ≡ result.0.now ∷ [])
+        (λ after. script_lines text.now ≡ result.0.now ∷ script_lines after.now) }
     ensures shorter { IfSome result.1 (λ after. length after.now < length text.now) }
 {
     let end = line_len(text);

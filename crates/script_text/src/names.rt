@@ -1,9 +1,9 @@
 ghost use Rattle.std.specs.Prelude.{◌≡◌, ◌≢◌, ◌↔◌, ℕ, ◌<◌, length, IsTrue, MatchOption};
 ghost use Rattle.std.specs.List.{Contains};
 ghost use Rattle.bspl_types.specs.declared.protocol.Adornment.TheVariants.{Out};
-ghost use Rattle.agent_scripts.specs.Statement.{role_name, param_name};
+ghost use Rattle.agent_scripts.specs.Statement.{param_field};
 ghost use Rattle.agent_scripts.specs.Statement.{IsSentBy, IsFreeOut};
-ghost use Rattle.bspl_types.specs.Expansion.{message_name};
+ghost use Rattle.bspl_types.specs.Expansion.{message_name, role_name};
 
 use bspl_types::{Adornment, Carried, Expanded, index_of};
 
@@ -45,8 +45,8 @@ pub(crate) fn sent_message(x: &Expanded, role: u32, name: &[u8]) -> Option<u32>
 pub(crate) fn free_out(x: &Expanded, message: u32, name: &[u8]) -> Option<u32>
     requires { message < length x.now.messages }
     ensures { MatchOption result
-        ((p : ℕ) → IsFreeOut x.now message p → name.now ≢ param_name x.now p)
-        (λ p. IsFreeOut x.now message p × (name.now ≡ param_name x.now p)) }
+        ((p : ℕ) → IsFreeOut x.now message p → name.now ≢ param_field x.now p)
+        (λ p. IsFreeOut x.now message p × (name.now ≡ param_field x.now p)) }
 {
     let param = param_of(x, name)?;
     let carried = x.messages.at(message as usize).carried.as_slice();
@@ -60,8 +60,8 @@ pub(crate) fn free_out(x: &Expanded, message: u32, name: &[u8]) -> Option<u32>
 /// The parameter of that name.
 fn param_of(x: &Expanded, name: &[u8]) -> Option<u32>
     ensures { MatchOption result
-        ((p : ℕ) → p < length x.now.params → name.now ≢ param_name x.now p)
-        (λ p. (p < length x.now.params) × (name.now ≡ param_name x.now p)) }
+        ((p : ℕ) → p < length x.now.params → name.now ≢ param_field x.now p)
+        (λ p. (p < length x.now.params) × (name.now ≡ param_field x.now p)) }
 {
     let index = index_of(x.params.as_slice(), name)?;
     Some(index as u32)

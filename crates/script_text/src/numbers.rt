@@ -1,6 +1,6 @@
 ghost use Rattle.std.specs.Prelude.{◌≡◌, ◌≢◌, ℕ, ◌<◌, ◌^◌, [], ◌∷◌, MatchOption};
 ghost use Rattle.std.specs.Fmt.{decimal};
-ghost use Rattle.agent_scripts.specs.Lines.{fields_of};
+ghost use Rattle.text_lines.specs.Fields.{fields_of};
 
 use super::fields::first_field;
 use bspl_types::{Value, spells_once};

@@ -1,6 +1,6 @@
 ghost use Rattle.std.specs.Prelude.{◌∷◌, codes};
-ghost use Rattle.agent_scripts.specs.Lines.{fields_of};
 ghost use Rattle.script_text.specs.inner.LineReading.{ReadsFields, ReadsOrder};
+ghost use Rattle.text_lines.specs.Fields.{fields_of};
 
 use super::fields::first_field;
 use super::line_error::LineError;

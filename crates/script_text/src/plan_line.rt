@@ -1,8 +1,8 @@
 ghost use Rattle.std.specs.Prelude.{◌∷◌};
 ghost use Rattle.bspl_types.specs.declared.expanded.Expanded.{Expanded};
-ghost use Rattle.agent_scripts.specs.Lines.{fields_of};
 ghost use Rattle.agent_scripts.specs.Table.{setting_word};
 ghost use Rattle.script_text.specs.inner.LineReading.{ReadsFields};
+ghost use Rattle.text_lines.specs.Fields.{fields_of};
 
 use super::line_error::LineError;
 use super::numbers::last_number;

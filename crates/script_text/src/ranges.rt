@@ -4,7 +4,7 @@ ghost use Rattle.bspl_types.specs.declared.expanded.Expanded.{Expanded};
 ghost use Rattle.agent_scripts.specs.StatedScript.{keys_given};
 ghost use Rattle.agent_scripts.specs.Refusal.{IsFirstOutOfRange};
 ghost use Rattle.agent_scripts.specs.Rules.{RuleFits, ValueFits};
-ghost use Rattle.agent_scripts.specs.ScriptText.{IsInRange, statements_of};
+ghost use Rattle.agent_scripts.specs.ScriptText.{HasValueInRange, statements_of};
 
 use agent_scripts::{Rule, Stated, Statement};
 
@@ -12,7 +12,7 @@ use agent_scripts::{Rule, Stated, Statement};
 pub(crate) fn first_out_of_range(stated: &[Stated], count: u64) -> Option<u64>
     ensures { (x : Expanded) →
         count ≡ length (keys_given (length x.keys) (statements_of stated.now)) →
-        MatchOption result (All (IsInRange x stated.now) stated.now)
+        MatchOption result (All (HasValueInRange x stated.now) stated.now)
         (IsFirstOutOfRange x stated.now) }
 {
     for s in stated {

@@ -1,6 +1,6 @@
 ghost use Rattle.std.specs.Prelude.{IfOk};
 ghost use Rattle.bspl_types.specs.Admission.{IsAdmitted};
-ghost use Rattle.script_text.specs.Reading.{IsRead};
+ghost use Rattle.script_text.specs.Reading.{IsScriptRead};
 
 use super::lines::first_line;
 use super::next_line::{Progress, read_line};
@@ -21,7 +21,7 @@ pub(crate) struct Reading {
 /// it.
 pub(crate) fn read_lines(alloc: Global, x: &Expanded, text: &[u8]) -> Result<Reading, NoMemory>
     requires { IsAdmitted x.now }
-    ensures { IfOk result (λ read. IsRead x.now text.now read.statements read.refusal) }
+    ensures { IfOk result (λ read. IsScriptRead x.now text.now read.statements read.refusal) }
 {
     let mut statements = StatementList::new(alloc);
     let mut number = 1;

@@ -1,8 +1,8 @@
 ghost use Rattle.std.specs.Prelude.{◌≡◌, ◌≢◌, ◌∷◌, codes, MatchOption};
 ghost use Rattle.agent_scripts.specs.declared.statement.Rule.{Rule};
-ghost use Rattle.agent_scripts.specs.Lines.{fields_of};
 ghost use Rattle.agent_scripts.specs.Table.{IsRule, rule_fields};
 ghost use Rattle.script_text.specs.inner.LineReading.{ReadsFields};
+ghost use Rattle.text_lines.specs.Fields.{fields_of};
 
 use super::fields::first_field;
 use super::line_error::LineError;

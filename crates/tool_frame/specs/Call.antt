@@ -1,8 +1,9 @@
 -- What one call of a program reads and writes.
 use Rattle.std.specs.Prelude.{ℕ, List, Option}
 use Rattle.bspl_io.specs.Traffic.{Traffic}
+use Rattle.bspl_io.specs.Faults.{FaultCounts}
 use Rattle.bspl_types.specs.Limits.{input_limit}
-use Rattle.program_frame.specs.Call.{FaultCounts, IsCall}
+use Rattle.program_frame.specs.Call.{IsCall}
 use Rattle.program_frame.specs.declared.ending.Ending.{Ending}
 use Rattle.tool_input.specs.declared.status.Status.{Status}
 use Rattle.tool_frame.specs.Interface.{Interface, RequestsInput}

@@ -7,7 +7,7 @@ use Rattle.bspl_parser.specs.declared.document.Document.{Document}
 use Rattle.bspl_parser.specs.Judgement.{IsText}
 use Rattle.protocol_names.specs.Fault.{HasNoFault}
 use Rattle.protocol_expand.specs.Expansion.{IsExpansion}
-use Rattle.protocol_expand.specs.Request.{IsWithinLimits}
+use Rattle.protocol_expand.specs.Request.{HasCountsWithinLimits}
 
 -- the text is no longer than its limit, and it spells the document
 pub record IsSpelled (text : List ℕ) (d : Document) : Type 0 where
@@ -20,6 +20,6 @@ pub record Declares (name text : List ℕ) (x : Expanded) : Type 0 where
   pub document : Document
   pub read : IsSpelled text document
   pub faultless : HasNoFault document
-  pub within : IsWithinLimits document name
+  pub within : HasCountsWithinLimits document name
   pub expands : IsExpansion document name x
   pub admitted : IsAdmitted x

@@ -6,7 +6,7 @@ use Rattle.bspl_types.specs.declared.expanded.Expanded.{Expanded}
 use Rattle.bspl_types.specs.declared.property.Property.TheVariants.{Liveness, Safety}
 use Rattle.bspl_types.specs.declared.value.Value.{Value}
 use Rattle.enactment_model.specs.declared.conflicts.Conflict.{Conflict as SpecConflict}
-use Rattle.enactment_model.specs.FirstUnbound.{IsComplete, IsFirstUnbound}
+use Rattle.enactment_model.specs.FirstUnbound.{BindsPublic, IsFirstUnbound}
 use Rattle.enactment_model.specs.LeastConflict.{IsLeastConflict}
 use Rattle.enactment_model.specs.Safety.{HasNoConflict}
 use Rattle.witness_replay.specs.Refuting.{EndsInConflict, RestsUnbound}
@@ -56,7 +56,7 @@ at_rest Q x y run whole key same_x same_run ones holds =
     (subst (λ (events : List Event). Q x events (key_of_ones x)) same_run (subst (λ (k : List Value). Q x run k) ones holds))
 
 -- a run that rests leaves some parameter unbound
-pub some_unbound : (o : Option ℕ) (x : Expanded) (run : List Event) → (IsNone o → IsComplete x run (key_of_ones x)) → RestsUnbound x run → IsSome o
+pub some_unbound : (o : Option ℕ) (x : Expanded) (run : List Event) → (IsNone o → BindsPublic x run (key_of_ones x)) → RestsUnbound x run → IsSome o
 some_unbound None x run none rests = absurd (rests.unbound (none refl rests.param rests.public))
 some_unbound (Some param) x run none rests = refl
 

@@ -12,7 +12,7 @@ use Rattle.refutation_log.specs.declared.refutation.Log.{Log}
 use Rattle.refutation_log.specs.LogText.{LogInRange}
 use Rattle.refutation_log.specs.Resolution.{Accepts, IsNew, LogResolves}
 use Rattle.sat_solver.specs.Outcome.{IsEmptyLog}
-use Rattle.witness_replay.specs.Refuting.{IsRefutation}
+use Rattle.witness_replay.specs.Refuting.{IsCounterexample}
 use Rattle.verdict.specs.declared.outcome.Decision.{Decision}
 use Rattle.verdict.specs.declared.outcome.Decision.TheVariants.{Proved, Refuted, Undecided}
 
@@ -29,7 +29,7 @@ pub record IsHeldVerdict (property : Property) (x : Expanded) (budget : ℕ) (lo
 -- the protocol does not have it; the run is that of an assignment, and refutes the property
 pub record IsRefuted (property : Property) (x : Expanded) (run : List Event) : Type 0 where
   pub assignment : ℕ → Bool
-  pub refutation : IsRefutation property x assignment run
+  pub refutation : IsCounterexample property x assignment run
 
 -- the log is new over such a formula, has exactly as many steps as the budget allows, and derives
 -- no empty clause

@@ -10,7 +10,7 @@ use Rattle.verdict.specs.Right.{IsRight}
 use Rattle.verdict.specs.RightLiveness.{IsRightLiveness}
 
 -- each answer is right
-pub record AreRight (x : Expanded) (budget : ℕ) (verdicts : Verdicts) : Type 0 where
+pub record AreRightAnswers (x : Expanded) (budget : ℕ) (verdicts : Verdicts) : Type 0 where
   pub safety : IsRight x budget verdicts.safety
   pub liveness : IsRightLiveness x budget verdicts.liveness
 

@@ -5,7 +5,7 @@ ghost use Rattle.verdict.specs.Decision.{IsRefuted};
 ghost use Rattle.verdict.specs.Numbers.{HasNumbersInRange};
 ghost use Rattle.verdict.specs.Right.{IsRight, IsSafeByEmptyLog};
 ghost use Rattle.verdict.specs.RightLiveness.{IsRightLiveness};
-ghost use Rattle.verdict.specs.Verdicts.{AreInRange, AreRight, HasLivenessInRange};
+ghost use Rattle.verdict.specs.Verdicts.{AreInRange, AreRightAnswers, HasLivenessInRange};
 ghost use Rattle.verdict.specs.inner.Answer.{IsNotLiveBy, IsUnsafeBy};
 
 use super::decision::decide;
@@ -21,7 +21,7 @@ use witness_replay::key_of_ones;
 pub fn verify(alloc: Global, a: &Admitted, budget: u32) -> Result<Verdicts, NoMemory>
     requires some { 1 ≤ budget }
     requires few { budget ≤ 2147483647 }
-    ensures right { IfOk result (AreRight a.now budget) }
+    ensures right { IfOk result (AreRightAnswers a.now budget) }
     ensures single { HasOneProducer a.now → IfOk result (λ v. IsSafeByEmptyLog v.safety) }
     ensures numbers { budget ≤ 1000000 → IfOk result AreInRange }
 {

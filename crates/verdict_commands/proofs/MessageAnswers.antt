@@ -8,19 +8,19 @@ use Rattle.std.proofs.lemmas.List.Folds.{list_any-append}
 use Rattle.bspl_types.specs.declared.expanded.Expanded.{Expanded}
 use Rattle.enactability.specs.declared.outcome.Enact.{Enact}
 use Rattle.enactability.specs.declared.outcome.Enact.TheVariants.{Dead, Enacted, Undecided}
-use Rattle.enactability.specs.Answer.{IsAnswered}
+use Rattle.enactability.specs.Answer.{IsRightEnact}
 use Rattle.report.specs.VerdictText.{protocol_line}
 use Rattle.tool_input.specs.declared.status.Status.{Status}
 use Rattle.tool_input.specs.Lines.{line}
 use Rattle.verdict_commands.specs.declared.dead_text.Answered.{Answered}
 use Rattle.verdict_commands.specs.declared.wording.TheConstants.{MESSAGE, UNDECIDED}
 use Rattle.verdict_commands.specs.DeadAnswer.{IsDeadAnswer, is_dead, is_undecided, message_text, messages_text, status_of}
-use Rattle.verdict_commands.specs.MessageLines.{undecided_line}
+use Rattle.verdict_commands.specs.MessageLines.{undecided_message_line}
 use Rattle.verdict_commands.specs.inner.Messages.{HasAnswered}
 use Rattle.verdict_commands.specs.EnactedRun.{EnactedRunFits}
 
 -- the run of a right answer fits the protocol
-pub right_run_fits : (x : Expanded) (m budget : ℕ) (answer : Enact) → IsAnswered x m budget answer → EnactedRunFits x answer
+pub right_run_fits : (x : Expanded) (m budget : ℕ) (answer : Enact) → IsRightEnact x m budget answer → EnactedRunFits x answer
 right_run_fits x m budget (Enacted run) right = right.enacted.legal.fits
 right_run_fits x m budget (Dead log) right = tt
 right_run_fits x m budget (Undecided log) right = tt
@@ -51,7 +51,7 @@ none_answered brief budget x so_far text dead undecided = record {
 }
 
 -- after one message more
-pub one_answered : (brief : Bool) (budget : ℕ) (x : Expanded) (count : ℕ) (old new : Answered) (answer : Enact) → HasAnswered brief budget x count old → IsAnswered x count budget answer → new.text ≡ old.text ++ message_text x brief count answer → new.dead ≡ (old.dead || is_dead answer) → new.undecided ≡ (old.undecided || is_undecided answer) → HasAnswered brief budget x (count + 1) new
+pub one_answered : (brief : Bool) (budget : ℕ) (x : Expanded) (count : ℕ) (old new : Answered) (answer : Enact) → HasAnswered brief budget x count old → IsRightEnact x count budget answer → new.text ≡ old.text ++ message_text x brief count answer → new.dead ≡ (old.dead || is_dead answer) → new.undecided ≡ (old.undecided || is_undecided answer) → HasAnswered brief budget x (count + 1) new
 one_answered brief budget x count old new answer so_far right text dead undecided =
     let before = so_far.answers in
     let at : count ≡ 0 + length before = (let counted = so_far.counted in omega (arith, counted)) in
@@ -59,7 +59,7 @@ one_answered brief budget x count old new answer so_far right text dead undecide
     let written = λ (one : ℕ × Enact). message_text x brief one.0 one.1 in record {
       answers = before ++ answer ∷ [];
       counted = (let counted = so_far.counted in omega (arith, counted, length-append before (answer ∷ [])));
-      right = subst (All (λ (one : ℕ × Enact). IsAnswered x one.0 budget one.1)) numbered (All-push (λ (one : ℕ × Enact). IsAnswered x one.0 budget one.1) (enumerate_from 0 before) (0 + length before, answer) so_far.right (subst (λ k. IsAnswered x k budget answer) at right));
+      right = subst (All (λ (one : ℕ × Enact). IsRightEnact x one.0 budget one.1)) numbered (All-push (λ (one : ℕ × Enact). IsRightEnact x one.0 budget one.1) (enumerate_from 0 before) (0 + length before, answer) so_far.right (subst (λ k. IsRightEnact x k budget answer) at right));
       text = text ∙ ap (λ t. t ++ message_text x brief count answer) so_far.text
           ∙ ap (λ k. messages_text x brief before ++ message_text x brief k answer) at
           ∙ flat_map_more written (protocol_line x) (enumerate_from 0 before) (0 + length before, answer)
@@ -79,11 +79,11 @@ all_answered brief budget x count so_far out status answered all text ends = rec
 }
 
 -- what is answered of a protocol and within a budget is so of the same ones
-pub answered_of : (x y : Expanded) (m budget other : ℕ) (answer : Enact) → x ≡ y → budget ≡ other → IsAnswered x m budget answer → IsAnswered y m other answer
-answered_of x y m budget other answer same same_budget right = subst (λ b. IsAnswered y m b answer) same_budget (subst (λ z. IsAnswered z m budget answer) same right)
+pub answered_of : (x y : Expanded) (m budget other : ℕ) (answer : Enact) → x ≡ y → budget ≡ other → IsRightEnact x m budget answer → IsRightEnact y m other answer
+answered_of x y m budget other answer same same_budget right = subst (λ b. IsRightEnact y m b answer) same_budget (subst (λ z. IsRightEnact z m budget answer) same right)
 
 -- the line of an undecided message, after its first pieces
-pub undecided_written : (old mid new name : List ℕ) (steps count : ℕ) → mid ≡ old ++ MESSAGE.now → new ≡ mid ++ name → count ≡ steps → new ++ line (UNDECIDED.now ++ decimal count) ≡ old ++ line (undecided_line name steps)
+pub undecided_written : (old mid new name : List ℕ) (steps count : ℕ) → mid ≡ old ++ MESSAGE.now → new ≡ mid ++ name → count ≡ steps → new ++ line (UNDECIDED.now ++ decimal count) ≡ old ++ line (undecided_message_line name steps)
 undecided_written old mid new name steps count one two same =
     let front = MESSAGE.now ++ name in
     let rest = line (UNDECIDED.now ++ decimal steps) in

@@ -5,7 +5,7 @@ use Rattle.bspl_types.specs.declared.expanded.Expanded.{Expanded}
 use Rattle.bspl_types.specs.Expansion.{message_name}
 use Rattle.enactability.specs.declared.outcome.Enact.{Enact}
 use Rattle.enactability.specs.declared.outcome.Enact.TheVariants.{Dead, Enacted, Undecided}
-use Rattle.enactability.specs.Answer.{IsAnswered}
+use Rattle.enactability.specs.Answer.{IsRightEnact}
 use Rattle.enactability.specs.DeadText.{dead_text}
 use Rattle.report.specs.VerdictText.{protocol_line}
 use Rattle.run_text.specs.RunText.{run_text}
@@ -14,13 +14,13 @@ use Rattle.tool_input.specs.declared.status.Status.TheVariants as status
 use Rattle.tool_input.specs.Lines.{line}
 use Rattle.tool_frame.specs.declared.need.Need.TheVariants.{Nothing}
 use Rattle.tool_frame.specs.Rules.{CommandRules, NeverRefuses}
-use Rattle.verdict_commands.specs.MessageLines.{dead_line, enacted_line, undecided_line}
+use Rattle.verdict_commands.specs.MessageLines.{dead_line, enacted_line, undecided_message_line}
 
 -- the line of the answer on the message of that name
-abbrev pub message_line : List ℕ → Enact → List ℕ
-message_line name (Enacted run) = enacted_line name
-message_line name (Dead log) = dead_line name
-message_line name (Undecided log) = undecided_line name (length log.steps)
+abbrev pub enact_line : List ℕ → Enact → List ℕ
+enact_line name (Enacted run) = enacted_line name
+enact_line name (Dead log) = dead_line name
+enact_line name (Undecided log) = undecided_message_line name (length log.steps)
 
 -- its evidence: a run that ends with the message, or a log on it
 abbrev pub message_evidence : Expanded → ℕ → Enact → List ℕ
@@ -35,7 +35,7 @@ message_part x brief m answer = if brief then [] else message_evidence x m answe
 -- the answer on a message
 abbrev pub message_text : Expanded → Bool → ℕ → Enact → List ℕ
 message_text x brief m answer =
-    line (message_line (message_name x m) answer) ++ message_part x brief m answer
+    line (enact_line (message_name x m) answer) ++ message_part x brief m answer
 
 -- the protocol, and the answers on its messages from the first one on
 abbrev pub messages_text : Expanded → Bool → List Enact → List ℕ
@@ -46,7 +46,7 @@ messages_text x brief answers =
 -- the answers on the messages from the first one on are right
 abbrev pub AreAnswersFromFirst : Expanded → ℕ → List Enact → Type 0
 AreAnswersFromFirst x budget answers =
-    All (λ one. IsAnswered x one.0 budget one.1) (enumerate_from 0 answers)
+    All (λ one. IsRightEnact x one.0 budget one.1) (enumerate_from 0 answers)
 
 -- the message is dead
 abbrev pub is_dead : Enact → Bool

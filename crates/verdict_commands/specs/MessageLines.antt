@@ -12,5 +12,5 @@ abbrev pub enacted_line : List ℕ → List ℕ
 enacted_line name = MESSAGE.now ++ name ++ ENACTED.now
 
 -- that the search came to its budget, with the steps of its log
-abbrev pub undecided_line : List ℕ → ℕ → List ℕ
-undecided_line name steps = MESSAGE.now ++ name ++ UNDECIDED.now ++ decimal steps
+abbrev pub undecided_message_line : List ℕ → ℕ → List ℕ
+undecided_message_line name steps = MESSAGE.now ++ name ++ UNDECIDED.now ++ decimal steps

@@ -6,7 +6,7 @@ use Rattle.report.specs.ExitStatus.{verdict_status}
 use Rattle.report.specs.VerdictText.{verdict_text}
 use Rattle.verdict.specs.declared.outcome.Verdicts.{Verdicts}
 use Rattle.verdict.specs.Right.{IsSafeByEmptyLog}
-use Rattle.verdict.specs.Verdicts.{AreRight}
+use Rattle.verdict.specs.Verdicts.{AreRightAnswers}
 use Rattle.tool_input.specs.declared.status.Status.{Status}
 use Rattle.tool_frame.specs.declared.need.Need.TheVariants.{Nothing}
 use Rattle.tool_frame.specs.Rules.{CommandRules, NeverRefuses}
@@ -15,7 +15,7 @@ use Rattle.tool_frame.specs.Rules.{CommandRules, NeverRefuses}
 -- an empty log
 pub record IsVerdictAnswer (brief : Bool) (budget : ℕ) (x : Expanded) (v : Verdicts)
     (out : List ℕ) : Type 0 where
-  pub right : AreRight x budget v
+  pub right : AreRightAnswers x budget v
   pub single : HasOneProducer x → IsSafeByEmptyLog v.safety
   pub text : out ≡ verdict_text x v brief
 

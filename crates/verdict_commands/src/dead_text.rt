@@ -1,10 +1,10 @@
 ghost use Rattle.std.specs.Prelude.{◌≡◌, ◌<◌, ◌++◌, ◌||◌, false, length, IfOk, OnOk};
 ghost use Rattle.std.specs.Fmt.{decimal};
 ghost use Rattle.bspl_types.specs.Expansion.{message_name};
-ghost use Rattle.enactability.specs.Answer.{HasNumbersInRange};
+ghost use Rattle.enactability.specs.Answer.{HasEnactLogInRange};
 ghost use Rattle.report.specs.VerdictText.{protocol_line};
 ghost use Rattle.tool_input.specs.Lines.{line};
-ghost use Rattle.verdict_commands.specs.DeadAnswer.{is_dead, is_undecided, message_evidence, message_line};
+ghost use Rattle.verdict_commands.specs.DeadAnswer.{is_dead, is_undecided, message_evidence, enact_line};
 ghost use Rattle.verdict_commands.specs.DeadAnswer.{message_text, status_of};
 ghost use Rattle.verdict_commands.specs.EnactedRun.{EnactedRunFits};
 
@@ -25,7 +25,7 @@ pub struct Answered {
 
 impl Answered {
     ghost use Rattle.std.specs.Prelude.{◌≡◌, ◌<◌, ◌++◌, ◌||◌, false, length, IfOk, OnOk};
-    ghost use Rattle.enactability.specs.Answer.{HasNumbersInRange};
+    ghost use Rattle.enactability.specs.Answer.{HasEnactLogInRange};
     ghost use Rattle.report.specs.VerdictText.{protocol_line};
     ghost use Rattle.verdict_commands.specs.DeadAnswer.{is_dead, is_undecided, message_text, status_of};
     ghost use Rattle.verdict_commands.specs.EnactedRun.{EnactedRunFits};
@@ -57,7 +57,7 @@ impl Answered {
     ) -> Result<(), NoMemory>
         requires known { message < length a.now.messages }
         requires fits { EnactedRunFits a.now answer.now }
-        requires numbers { HasNumbersInRange answer.now }
+        requires numbers { HasEnactLogInRange answer.now }
         ensures text { OnOk result
             (self.new.text ≡ self.old.text ++ message_text a.now brief message answer.now) }
         ensures dead { OnOk result (self.new.dead ≡ (self.old.dead || is_dead answer.now)) }
@@ -108,7 +108,7 @@ fn push_answer(
 ) -> Result<(), NoMemory>
     requires known { message < length a.now.messages }
     requires fits { EnactedRunFits a.now answer.now }
-    requires numbers { HasNumbersInRange answer.now }
+    requires numbers { HasEnactLogInRange answer.now }
     ensures { OnOk result (text.new ≡ text.old ++ message_text a.now brief message answer.now) }
 {
     let schema = a.expanded().message_at(message);
@@ -122,7 +122,7 @@ fn push_answer(
 
 /// Appends the line of the answer on the message of that name.
 fn push_line(alloc: Global, text: &mut Bytes, name: &[u8], answer: &Enact) -> Result<(), NoMemory>
-    ensures { OnOk result (text.new ≡ text.old ++ line (message_line name.now answer.now)) }
+    ensures { OnOk result (text.new ≡ text.old ++ line (enact_line name.now answer.now)) }
 {
     text.append(MESSAGE)?;
     text.append(name)?;
@@ -159,7 +159,7 @@ fn evidence_text(
 ) -> Result<Bytes, NoMemory>
     requires known { message < length a.now.messages }
     requires fits { EnactedRunFits a.now answer.now }
-    requires numbers { HasNumbersInRange answer.now }
+    requires numbers { HasEnactLogInRange answer.now }
     ensures { IfOk result (λ text. text ≡ message_evidence a.now message answer.now) }
 {
     match answer {

@@ -13,19 +13,19 @@ use Rattle.bspl_types.specs.ValueSpelling.{SpellsValue}
 use Rattle.wire_form.specs.declared.act.Act.{Act}
 use Rattle.wire_form.specs.declared.act.Act.TheVariants.{Arrival, Attempt}
 use Rattle.wire_form.specs.Meaning.{IsGiven, Means, MeansAttempt}
-use Rattle.wire_form.specs.Request.{Field, emit, receive}
+use Rattle.wire_form.specs.Request.{NamedField, emit, receive}
 use Rattle.wire_form.specs.inner.Arriving.{IsArriving}
 use Rattle.wire_form.proofs.MeaningLemmas.{same_message}
 
 -- ---- a receipt
 
 -- no message has the name
-pub no_arrival_named : (x : Expanded) (role : ℕ) (name : List ℕ) (count stamp : ℕ) (fields : List Field) → ((m : ℕ) → m < length x.messages → message_name x m ≢ name) → (act : Act) → ¬ Means x role (receive name count stamp fields) act
+pub no_arrival_named : (x : Expanded) (role : ℕ) (name : List ℕ) (count stamp : ℕ) (fields : List NamedField) → ((m : ℕ) → m < length x.messages → message_name x m ≢ name) → (act : Act) → ¬ Means x role (receive name count stamp fields) act
 no_arrival_named x role name count stamp fields none (Arrival m) means = none m.instance.message means.0.fits.known means.0.named
 no_arrival_named x role name count stamp fields none (Attempt m key outs) means = means
 
 -- it could only be of the message that was found
-pub no_arrival_of : (x : Expanded) (role : ℕ) (name : List ℕ) (count stamp : ℕ) (fields : List Field) (k : ℕ) → (k < length x.messages) × (message_name x k ≡ name)
+pub no_arrival_of : (x : Expanded) (role : ℕ) (name : List ℕ) (count stamp : ℕ) (fields : List NamedField) (k : ℕ) → (k < length x.messages) × (message_name x k ≡ name)
     → ((values : List Value) → (message_of x k).receiver ≡ role → AllZip (IsGiven x fields) (valued (message_of x k).carried) values → length fields ≡ length values → ⊥)
     → (act : Act) → ¬ Means x role (receive name count stamp fields) act
 no_arrival_of x role name count stamp fields k found none (Arrival m) means =
@@ -36,11 +36,11 @@ no_arrival_of x role name count stamp fields k found none (Arrival m) means =
 no_arrival_of x role name count stamp fields k found none (Attempt m key outs) means = means
 
 -- as many fields as the message's values
-pub arrival_long : (x : Expanded) (fields : List Field) (k : ℕ) (values others : List Value) → AllZip (IsGiven x fields) (valued (message_of x k).carried) values → AllZip (IsGiven x fields) (valued (message_of x k).carried) others → length values ≡ length others
+pub arrival_long : (x : Expanded) (fields : List NamedField) (k : ℕ) (values others : List Value) → AllZip (IsGiven x fields) (valued (message_of x k).carried) values → AllZip (IsGiven x fields) (valued (message_of x k).carried) others → length values ≡ length others
 arrival_long x fields k values others one other = AllZip-long (IsGiven x fields) (valued (message_of x k).carried) values one ∙ sym (AllZip-long (IsGiven x fields) (valued (message_of x k).carried) others other)
 
 -- the message that is received
-pub arrival_means : (x : Expanded) (role : ℕ) (name : List ℕ) (count stamp : ℕ) (fields : List Field) (k : ℕ) (values : List Value) (i : Instance) → IsArriving x role name fields k values → Fits x i → i.message ≡ k → i.values ≡ values
+pub arrival_means : (x : Expanded) (role : ℕ) (name : List ℕ) (count stamp : ℕ) (fields : List NamedField) (k : ℕ) (values : List Value) (i : Instance) → IsArriving x role name fields k values → Fits x i → i.message ≡ k → i.values ≡ values
     → Means x role (receive name count stamp fields) (Arrival (record { instance = i; stamp = stamp; number = count }))
 arrival_means x role name count stamp fields k values i at fits message_is values_are = (
   record {
@@ -55,7 +55,7 @@ arrival_means x role name count stamp fields k values i at fits message_is value
 )
 
 -- as many values as the message's parameters that have one
-pub arriving_long : (x : Expanded) (role : ℕ) (name : List ℕ) (fields : List Field) (k : ℕ) (values : List Value) → IsArriving x role name fields k values → length values ≡ length (valued (message_of x k).carried)
+pub arriving_long : (x : Expanded) (role : ℕ) (name : List ℕ) (fields : List NamedField) (k : ℕ) (values : List Value) → IsArriving x role name fields k values → length values ≡ length (valued (message_of x k).carried)
 arriving_long x role name fields k values at = AllZip-long (IsGiven x fields) (valued (message_of x k).carried) values at.given
 
 -- ---- an emission

@@ -3,13 +3,13 @@ use Rattle.std.proofs.Common.{◌≡◌, ◌≢◌, ℕ, ◌<◌, List, map, All
 use Rattle.serde_json.specs.Data.{Data, Items, string}
 use Rattle.serde_json.specs.View.{items_of, items_view, members_view}
 use Rattle.serde_json.specs.declared.value.Value.{Value}
-use Rattle.wire_form.specs.Request.{Field, attempt_data, fields_data, sent_data}
+use Rattle.wire_form.specs.Request.{NamedField, attempt_data, fields_data, sent_data}
 use Rattle.wire_form.specs.inner.Found.{AttemptForm, IsText, SentForm, attempt_form, fields_in, sent_form, texts_in}
 use Rattle.wire_form.proofs.TextLemmas.{Entry, fields_are, items_are_texts, members_are_texts, texts_are}
 
 -- the number or the values of a receipt are not right
 pub no_receipt : (d : Data) (m : List ℕ) (n s : ℕ) (es : List Entry) → d ≡ sent_data m n s (members_view es) → (n < 4294967296 → All (λ e. IsText e.1) es → ⊥)
-    → (message : List ℕ) (count stamp : ℕ) (fields : List Field) → count < 4294967296 → d ≢ sent_data message count stamp (fields_data fields)
+    → (message : List ℕ) (count stamp : ℕ) (fields : List NamedField) → count < 4294967296 → d ≢ sent_data message count stamp (fields_data fields)
 no_receipt d m n s es is none message count stamp fields few same =
     let whole : sent_data m n s (members_view es) ≡ sent_data message count stamp (fields_data fields) = sym is ∙ same in
     let number : n ≡ count = cc in
@@ -21,7 +21,7 @@ pub a_receipt : (d : Data) (m : List ℕ) (n s : ℕ) (es : List Entry) → d �
 a_receipt d m n s es is texts = is ∙ ap (sent_data m n s) (sym (fields_are es texts))
 
 -- it has not the members of a receipt
-pub no_sent_form : (d : Data) → ((form : SentForm) → d ≢ sent_form form) → (message : List ℕ) (count stamp : ℕ) (fields : List Field) → d ≢ sent_data message count stamp (fields_data fields)
+pub no_sent_form : (d : Data) → ((form : SentForm) → d ≢ sent_form form) → (message : List ℕ) (count stamp : ℕ) (fields : List NamedField) → d ≢ sent_data message count stamp (fields_data fields)
 no_sent_form d none message count stamp fields same = none (record { message = message; number = count; stamp = stamp; values = fields_data fields }) same
 
 -- the values of an emission are not right

@@ -28,7 +28,7 @@ use Rattle.serde_json.specs.Data.{Data, string}
 use Rattle.serde_json.specs.Find.{get_member}
 use Rattle.bspl_types.specs.ValueSpelling.{value_spelling}
 use Rattle.wire_form.specs.Meaning.{IsGiven}
-use Rattle.wire_form.specs.Request.{Field, fields_data}
+use Rattle.wire_form.specs.Request.{NamedField, fields_data}
 use Rattle.wire_form.specs.declared.asked.Field.{Field as TextField}
 use Rattle.wire_form.specs.inner.Asked.{fields_of, texts_of}
 
@@ -93,17 +93,17 @@ differ xs ys true is other = absurd (other ((bytes_eq-Decides xs ys).0 is))
 differ xs ys false is other = refl
 
 -- a field of another name is passed over
-pub field_later : (name k text : List ℕ) (fields : List Field) → (k ≡ name → ⊥) → get_member name (fields_data ((k, text) ∷ fields)) ≡ get_member name (fields_data fields)
+pub field_later : (name k text : List ℕ) (fields : List NamedField) → (k ≡ name → ⊥) → get_member name (fields_data ((k, text) ∷ fields)) ≡ get_member name (fields_data fields)
 field_later name k text fields other = passed (slice_cmp nat_cmp name k) _ _ (is_eq-slice_cmp name k ∙ differ name k _ refl (λ same. other (sym same)))
 
 -- the field of the name is found
-pub field_here : (name k text : List ℕ) (fields : List Field) → k ≡ name → get_member name (fields_data ((k, text) ∷ fields)) ≡ Some (string text)
+pub field_here : (name k text : List ℕ) (fields : List NamedField) → k ≡ name → get_member name (fields_data ((k, text) ∷ fields)) ≡ Some (string text)
 field_here name k text fields is =
     ap (λ (o : Ordering). match_ordering o (get_member name (fields_data fields)) (Some (string text)) (get_member name (fields_data fields)))
     (ap (slice_cmp nat_cmp name) is ∙ tied_itself nat_list_cmp_total name)
 
 -- the value that the field's text spells is given
-pub given_by : (x : Expanded) (fields : List Field) (c : Carried) (text : List ℕ) (r : Option Value) → get_member (param_name x c.param) (fields_data fields) ≡ Some (string text) → MatchOption r ((v : Value) → ¬ SpellsValue text v) (SpellsValue text)
+pub given_by : (x : Expanded) (fields : List NamedField) (c : Carried) (text : List ℕ) (r : Option Value) → get_member (param_name x c.param) (fields_data fields) ≡ Some (string text) → MatchOption r ((v : Value) → ¬ SpellsValue text v) (SpellsValue text)
     → MatchOption r ((v : Value) → ¬ IsGiven x fields c v) (IsGiven x fields c)
 given_by x fields c text None at none = λ v given. none v (record { value = given.value; spelled = text_is v (sym at ∙ given.given) })
   where

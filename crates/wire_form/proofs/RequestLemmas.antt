@@ -6,7 +6,7 @@ use Rattle.list_base.specs.Lines.{Line}
 use Rattle.serde_json.specs.Data.{string}
 use Rattle.serde_json.specs.Read.{read}
 use Rattle.serde_json.specs.View.{items_of}
-use Rattle.wire_form.specs.Request.{Asks, Field, Request, emit, fields_data, receive, request_data}
+use Rattle.wire_form.specs.Request.{Asks, NamedField, Request, emit, fields_data, receive, request_data}
 
 -- texts are known by their strings
 texts_once : (ts us : List (List ℕ)) → items_of (map string ts) ≡ items_of (map string us) → ts ≡ us
@@ -19,7 +19,7 @@ texts_once (t ∷ ts) (u ∷ us) same =
     ap₂ (λ (a : List ℕ) (bs : List (List ℕ)). a ∷ bs) first (texts_once ts us rest)
 
 -- fields are known by their members
-fields_once : (fs gs : List Field) → fields_data fs ≡ fields_data gs → fs ≡ gs
+fields_once : (fs gs : List NamedField) → fields_data fs ≡ fields_data gs → fs ≡ gs
 fields_once [] [] same = refl
 fields_once [] (g ∷ gs) same = absurd (cc)
 fields_once (f ∷ fs) [] same = absurd (cc)

@@ -7,7 +7,7 @@ use Rattle.serde_json.specs.Data.{Data, null, boolean, number, string, array, ob
 use Rattle.serde_json.specs.Find.{as_str}
 use Rattle.serde_json.specs.View.{view, items_of, items_view, members_view}
 use Rattle.serde_json.specs.declared.value.Value.{Value}
-use Rattle.wire_form.specs.Request.{Field, fields_data}
+use Rattle.wire_form.specs.Request.{NamedField, fields_data}
 use Rattle.wire_form.specs.declared.asked.Field.{Field as TextField}
 use Rattle.wire_form.specs.inner.Asked.{fields_of}
 use Rattle.wire_form.specs.inner.Found.{IsText, fields_in, texts_in}
@@ -49,7 +49,7 @@ fields_are [] each = refl
 fields_are (e ∷ es) each = ap₂ (member (string_bytes e.0)) (string_is (view e.1) (All-head (λ (f : Entry). IsText f.1) e es each)) (fields_are es (All-tail (λ (f : Entry). IsText f.1) e es each))
 
 -- an object of fields has strings
-pub members_are_texts : (es : List Entry) (fields : List Field) → members_view es ≡ fields_data fields → All (λ e. IsText e.1) es
+pub members_are_texts : (es : List Entry) (fields : List NamedField) → members_view es ≡ fields_data fields → All (λ e. IsText e.1) es
 members_are_texts [] fields same = All-nil (λ (f : Entry). IsText f.1)
 members_are_texts (e ∷ es) [] same = absurd (cc)
 members_are_texts (e ∷ es) (field ∷ fields) same =

@@ -18,16 +18,17 @@ use Rattle.wire_form.specs.declared.act.Act.{Act}
 use Rattle.wire_form.specs.declared.act.Act.TheVariants.{Arrival, Attempt}
 use Rattle.wire_form.specs.declared.act.Reading.{Reading}
 use Rattle.wire_form.specs.declared.act.Reading.TheVariants.{NotRead, NotMeant, Meant}
-use Rattle.wire_form.specs.Request.{Asks, Field, Request, emit, fields_data, receive}
+use Rattle.wire_form.specs.Request.{Asks, NamedField, Request, emit, fields_data, receive}
 
 -- the text under the parameter's name spells the value
-pub record IsGiven (x : Expanded) (fields : List Field) (c : Carried) (v : Value) : Type 0 where
+pub record IsGiven (x : Expanded) (fields : List NamedField) (c : Carried) (v : Value)
+    : Type 0 where
   pub value : IsValue v
   pub given : get_member (param_name x c.param) (fields_data fields)
       ≡ Some (string (value_spelling v))
 
 -- a message that the role receives, with exactly these values
-pub record MeansArrival (x : Expanded) (role : ℕ) (message : List ℕ) (fields : List Field)
+pub record MeansArrival (x : Expanded) (role : ℕ) (message : List ℕ) (fields : List NamedField)
     (m : Stamped) : Type 0 where
   pub fits : Fits x m.instance
   pub named : message_name x m.instance.message ≡ message
@@ -73,7 +74,7 @@ abbrev pub AsksNothing : Line → Type 0
 AsksNothing line = (request : Request) → ¬ Asks line request
 
 -- what is read of a line
-abbrev pub IsReading : Expanded → ℕ → Line → Reading → Type 0
-IsReading x role line NotRead = AsksNothing line
-IsReading x role line NotMeant = AsksInVain x role line
-IsReading x role line (Meant act) = AsksFor x role line act
+abbrev pub IsLineReading : Expanded → ℕ → Line → Reading → Type 0
+IsLineReading x role line NotRead = AsksNothing line
+IsLineReading x role line NotMeant = AsksInVain x role line
+IsLineReading x role line (Meant act) = AsksFor x role line act

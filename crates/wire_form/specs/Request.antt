@@ -6,17 +6,17 @@ use Rattle.serde_json.specs.View.{items_of}
 use Rattle.list_base.specs.Lines.{Line}
 
 -- a name and a text
-abbrev pub Field : Type 0
-Field = List ℕ × List ℕ
+abbrev pub NamedField : Type 0
+NamedField = List ℕ × List ℕ
 
 -- to receive a message with a number, a stamp and values by name, or to emit a message under a key
 -- with values for what its sender chooses
 pub data Request : Type 0 where
-  receive : (message : List ℕ) → (number stamp : ℕ) → (values : List Field) → Request
+  receive : (message : List ℕ) → (number stamp : ℕ) → (values : List NamedField) → Request
   emit : (key : List (List ℕ)) → (message : List ℕ) → (outs : List (List ℕ)) → Request
 
 -- an object with these texts
-abbrev pub fields_data : List Field → Members
+abbrev pub fields_data : List NamedField → Members
 fields_data [] = no_members
 fields_data ((name, text) ∷ fields) = member name (string text) (fields_data fields)
 

@@ -1,7 +1,7 @@
 ghost use Rattle.std.specs.Prelude.{◌≡◌, ◌≢◌, ◌<◌, ◌↔◌, ℕ, IfOk, IsTrue, List, MatchOption};
 ghost use Rattle.std.specs.List.{All};
 ghost use Rattle.serde_json.specs.View.{items_view, members_view, view};
-ghost use Rattle.wire_form.specs.Request.{Field, IsNumbered, Request, attempt_data, fields_data};
+ghost use Rattle.wire_form.specs.Request.{NamedField, IsNumbered, Request, attempt_data, fields_data};
 ghost use Rattle.wire_form.specs.Request.{request_data, sent_data};
 ghost use Rattle.wire_form.specs.inner.Asked.{request_of};
 ghost use Rattle.wire_form.specs.inner.Found.{AttemptForm, IsText, SentForm, attempt_form, fields_in};
@@ -60,7 +60,7 @@ pub(crate) fn found_in(value: &Value) -> Option<Found<'_>>
 /// The receipt that the inner value asks for: its number has 32 bits, and its values are strings.
 fn receipt_in(value: &Value) -> Option<FoundReceipt<'_>>
     ensures { MatchOption result
-        ((message : List ℕ) (count stamp : ℕ) (fields : List Field) → count < 4294967296 →
+        ((message : List ℕ) (count stamp : ℕ) (fields : List NamedField) → count < 4294967296 →
         view value.now ≢ sent_data message count stamp (fields_data fields))
         (λ r. (r.number < 4294967296) × (view value.now ≡
         sent_data r.message.now r.number r.stamp (fields_data (fields_in r.values.now.entries)))) }

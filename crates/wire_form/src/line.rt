@@ -2,7 +2,7 @@ ghost use Rattle.std.specs.Prelude.{◌≡◌, ◌++◌, ◌∷◌, [], IfOk, Is
 ghost use Rattle.std.specs.Prelude.{◌≤◌, Some, length};
 ghost use Rattle.serde_json.specs.Read.{read};
 ghost use Rattle.serde_json.specs.View.{view};
-ghost use Rattle.wire_form.specs.Meaning.{IsReading};
+ghost use Rattle.wire_form.specs.Meaning.{IsLineReading};
 ghost use Rattle.wire_form.specs.Request.{IsNumbered, line_limit, request_data};
 ghost use Rattle.wire_form.specs.inner.Asked.{request_of};
 
@@ -39,7 +39,7 @@ impl LineReader {
     /// What the line with this body, and an LF after it, asks of the role. Only where its members
     /// stand in another order than that of their names is a tree made of them.
     pub fn read(&mut self, a: &Admitted, role: u32, body: &[u8]) -> Result<Reading, NoMemory>
-        ensures { IfOk result (IsReading a.now role (body.now ++ 10 ∷ [])) }
+        ensures { IfOk result (IsLineReading a.now role (body.now ++ 10 ∷ [])) }
     {
         if body.len() > LINE_LIMIT {
             return Ok(Reading::NotRead);
@@ -59,7 +59,7 @@ fn read_in_any_order(
     body: &[u8],
 ) -> Result<Reading, NoMemory>
     requires short { length body.now ≤ line_limit }
-    ensures { IfOk result (IsReading a.now role (body.now ++ 10 ∷ [])) }
+    ensures { IfOk result (IsLineReading a.now role (body.now ++ 10 ∷ [])) }
 {
     match Value::from_slice(alloc, body) {
         Ok(value) => read_value(alloc, a, role, body, &value),
@@ -79,7 +79,7 @@ fn read_value(
     requires short { length body.now ≤ line_limit }
     requires utf8 { IsUtf8 body.now }
     requires reads { read body.now ≡ Some (view value.now) }
-    ensures { IfOk result (IsReading a.now role (body.now ++ 10 ∷ [])) }
+    ensures { IfOk result (IsLineReading a.now role (body.now ++ 10 ∷ [])) }
 {
     let Some(found) = found_in(value) else {
         return Ok(Reading::NotRead);
@@ -94,7 +94,7 @@ fn reading_of(a: &Admitted, role: u32, body: &[u8], asked: &Asked<'_>) -> Readin
     requires utf8 { IsUtf8 body.now }
     requires reads { read body.now ≡ Some (request_data (request_of asked.now)) }
     requires numbered { IsNumbered (request_of asked.now) }
-    ensures { IsReading a.now role (body.now ++ 10 ∷ []) result }
+    ensures { IsLineReading a.now role (body.now ++ 10 ∷ []) result }
 {
     match act_of(a, role, asked) {
         None => Reading::NotMeant,

@@ -24,7 +24,7 @@ use Rattle.enactment_model.specs.Safety.{Conflict, HasNoConflict, ProducesAt}
 use Rattle.first_occurrences.specs.Occurrence.{kind_of}
 use Rattle.first_occurrences.specs.Report.{AreVariablesOf}
 use Rattle.witness_replay.specs.Refuting.{IsCutAtConflict}
-use Rattle.witness_replay.specs.Witness.{IsRunOf, key_of_ones}
+use Rattle.witness_replay.specs.Witness.{IsRunOfAssignment, key_of_ones}
 use Rattle.witness_replay.proofs.FamilyLemmas.{all_right}
 use Rattle.witness_replay.proofs.RivalLemmas.{some_sent}
 use Rattle.witness_replay.proofs.RunLemmas.{event_of, under_ones}
@@ -41,7 +41,7 @@ record HasProducer (x : Expanded) (run : List Event) (m p : ℕ) : Type 0 where
   message : instance.message ≡ m
   produces : ProducesAt x run (key_of_ones x) p position
 
-module _ (x : Expanded) (v : ℕ → Bool) (run : List Event) (is_run : IsRunOf x (safety_variables x) v run) where
+module _ (x : Expanded) (v : ℕ → Bool) (run : List Event) (is_run : IsRunOfAssignment x (safety_variables x) v run) where
   -- an event of the emission of a producer
   producer_of_event : (m p : ℕ) (e : Event) → Contains run e → kind_of e ≡ sent m → Adorns x m Out p → HasProducer x run m p
   producer_of_event m p (Emit i) among of_kind adorned =

@@ -31,7 +31,7 @@ use Rattle.enactment_model.specs.Laws.{HistoryIsRun, KnownExactlyIfSomeEventBind
 use Rattle.first_occurrences.specs.Occurrence.{kind_of}
 use Rattle.first_occurrences.specs.Report.{AreVariablesOf}
 use Rattle.role_knowledge.specs.FirstKnown.{IsFirstKnown}
-use Rattle.witness_replay.specs.Witness.{AreOrdered, IsRunOf, IsRunOfKinds, IsWitness, IsWitnessEvent, key_of_ones}
+use Rattle.witness_replay.specs.Witness.{AreOrdered, IsRunOfAssignment, IsRunOfKinds, IsWitness, IsWitnessEvent, key_of_ones}
 use Rattle.witness_replay.specs.inner.Order.{AreOrderedBelow, inserted}
 use Rattle.witness_replay.specs.inner.Steps.{MayHappen}
 use Rattle.witness_replay.specs.inner.Values.{HasValueOf}
@@ -162,7 +162,7 @@ module _ (x : Expanded) (known : KnownExactlyIfSomeEventBinds) where
       )
 
   -- so the assignment has a run
-  pub run_exists : HistoryIsRun → (vars : Variables) (v : ℕ → Bool) → AreVariablesOf x vars → SatisfiesAll v (shared_clauses x vars) → (run : List Event) × IsRunOf x vars v run
+  pub run_exists : HistoryIsRun → (vars : Variables) (v : ℕ → Bool) → AreVariablesOf x vars → SatisfiesAll v (shared_clauses x vars) → (run : List Event) × IsRunOfAssignment x vars v run
   run_exists histories vars v are satisfied =
       let (kinds, ordered) = kinds_exist vars v (families x vars v satisfied).order in
       let (run, is_run) = run_of_first histories vars v kinds are satisfied ordered (length kinds) (omega arith) in

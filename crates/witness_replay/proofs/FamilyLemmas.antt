@@ -13,7 +13,7 @@ use Rattle.clause_core.specs.Literal.{MakesTrue, negated}
 use Rattle.clause_encoding.specs.declared.variables.Variables.{Variables}
 use Rattle.clause_encoding.specs.Carriers.{fresh_parameters, in_parameters, is_in, sender_carriers}
 use Rattle.clause_encoding.specs.Families.{delivery_clauses, fresh_clauses_of, freshness_clauses, occurrence_clauses, order_clauses, premise_clause, premise_clauses, shared_clauses, Written}
-use Rattle.clause_encoding.specs.Variables.{IsKind, kinds_after, message_numbers, occurs, received, sent, stands_before}
+use Rattle.clause_encoding.specs.Variables.{IsKind, kinds_following, message_numbers, occurs, received, sent, stands_before}
 use Rattle.witness_replay.specs.inner.Order.{is_before}
 use Rattle.witness_replay.proofs.KindLemmas.{among_after}
 use Rattle.witness_replay.proofs.ListedLemmas.{each_member, joined_member, mapped_from, mapped_member, range_member}
@@ -64,9 +64,9 @@ module _ (x : Expanded) (vars : Variables) (v : ℕ → Bool) (satisfied : Satis
       let clause = negated (occurs i) ∷ occurs j ∷ stands_before vars i j ∷ [] in
       let holds : Satisfies v clause =
       All-contains (Satisfies v) (occurrence_clauses vars) clause satisfied.occurrence
-      (joined_member (λ a. map (λ b. negated (occurs a) ∷ occurs b ∷ stands_before vars a b ∷ []) (filter (λ b. not (b == a)) (kinds_after vars 0))) (kinds_after vars 0) i clause (among_after vars 0 i kind_i.from_one kind_i)
-      (mapped_member (λ b. negated (occurs i) ∷ occurs b ∷ stands_before vars i b ∷ []) (filter (λ b. not (b == i)) (kinds_after vars 0)) j
-      (kept_member (λ b. not (b == i)) (kinds_after vars 0) j (other_kind i j apart) (among_after vars 0 j kind_j.from_one kind_j)))) in
+      (joined_member (λ a. map (λ b. negated (occurs a) ∷ occurs b ∷ stands_before vars a b ∷ []) (filter (λ b. not (b == a)) (kinds_following vars 0))) (kinds_following vars 0) i clause (among_after vars 0 i kind_i.from_one kind_i)
+      (mapped_member (λ b. negated (occurs i) ∷ occurs b ∷ stands_before vars i b ∷ []) (filter (λ b. not (b == i)) (kinds_following vars 0)) j
+      (kept_member (λ b. not (b == i)) (kinds_following vars 0) j (other_kind i j apart) (among_after vars 0 j kind_j.from_one kind_j)))) in
       elim (satisfied_cases v (occurs j) (stands_before vars i j ∷ []) (satisfied_rest v i (occurs j ∷ stands_before vars i j ∷ []) occurring holds)) [
         | inl occurs_j ↦ occurs_j
         | inr last ↦ absurd (both_ways (is_before vars v i j) not_before (passes_if_true v (stands_before vars i j) (satisfied_only v (stands_before vars i j) last)))

@@ -31,7 +31,7 @@ use Rattle.enactment_model.specs.Laws.{HistoryIsRun, KnownExactlyIfSomeEventBind
 use Rattle.enactment_model.specs.Legal.{IsLegalRun, MayFollow}
 use Rattle.first_occurrences.specs.Report.{AreVariablesOf}
 use Rattle.role_knowledge.specs.FirstKnown.{IsFirstKnown}
-use Rattle.witness_replay.specs.Witness.{AreOrdered, IsRunOf, IsRunOfKinds, IsWitness, IsWitnessValue, key_of_ones}
+use Rattle.witness_replay.specs.Witness.{AreOrdered, IsRunOfAssignment, IsRunOfKinds, IsWitness, IsWitnessValue, key_of_ones}
 use Rattle.witness_replay.proofs.HappenLemmas.{may_happen}
 use Rattle.witness_replay.proofs.ListedLemmas.{some_member}
 use Rattle.witness_replay.proofs.RunLemmas.{kind_at, run_fits, run_prefix, under_ones}
@@ -102,7 +102,7 @@ may_follow known histories x vars v kinds run are satisfied ordered is_run posit
     enabled x (take position kinds) (take position run) before i (is_run.each position (Emit i) at) (may.sending i.message refl)
 
 -- so the run is legal
-pub run_is_legal : LegalByPositions → KnownExactlyIfSomeEventBinds → HistoryIsRun → (x : Expanded) (vars : Variables) (v : ℕ → Bool) (run : List Event) → AreVariablesOf x vars → SatisfiesAll v (shared_clauses x vars) → IsRunOf x vars v run → IsLegalRun x run
+pub run_is_legal : LegalByPositions → KnownExactlyIfSomeEventBinds → HistoryIsRun → (x : Expanded) (vars : Variables) (v : ℕ → Bool) (run : List Event) → AreVariablesOf x vars → SatisfiesAll v (shared_clauses x vars) → IsRunOfAssignment x vars v run → IsLegalRun x run
 run_is_legal by_positions known histories x vars v run are satisfied is_run_of =
     record {
       fits = run_fits x is_run_of.kinds run is_run_of.run_of;

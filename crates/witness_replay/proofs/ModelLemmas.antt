@@ -18,8 +18,8 @@ use Rattle.enactment_model.specs.Property.{HasConflict, ViolatedDoesNotHold, Vio
 use Rattle.enactment_model.specs.ShortestConflict.{ShortestConflict}
 use Rattle.first_occurrences.specs.Report.{AreVariablesOf}
 use Rattle.witness_replay.specs.Laws.{HasRefutation, ModelDoesNotHold, ModelRefutes, RunIsUnderOnes, SharedModelHasRun}
-use Rattle.witness_replay.specs.Refuting.{IsCut, IsRefutation, Refutes, RestsUnbound}
-use Rattle.witness_replay.specs.Witness.{IsRunOf, IsRunOfKinds, key_of_ones}
+use Rattle.witness_replay.specs.Refuting.{IsCut, IsCounterexample, Refutes, RestsUnbound}
+use Rattle.witness_replay.specs.Witness.{IsRunOfAssignment, IsRunOfKinds, key_of_ones}
 use Rattle.witness_replay.proofs.ConflictLemmas.{are_safety_variables, has_conflict}
 use Rattle.witness_replay.proofs.ExistenceLemmas.{run_exists}
 use Rattle.witness_replay.proofs.FamilyLemmas.{all_left}
@@ -39,7 +39,7 @@ refuted Safety x run ends = record { key = ends.key; param = ends.param; first =
 refuted Liveness x run rests = record { key = key_of_ones x; quiet = rests.quiet; param = rests.param; public = rests.public; unbound = rests.unbound }
 
 -- the run of a model does so
-pub model_violates : KnownExactlyIfSomeEventBinds → HistoryIsRun → (property : Property) (x : Expanded) (v : ℕ → Bool) (run : List Event) → IsRunOf x (variables_of property x) v run → SatisfiesAll v (clauses_of property x) → Violates property x run
+pub model_violates : KnownExactlyIfSomeEventBinds → HistoryIsRun → (property : Property) (x : Expanded) (v : ℕ → Bool) (run : List Event) → IsRunOfAssignment x (variables_of property x) v run → SatisfiesAll v (clauses_of property x) → Violates property x run
 model_violates known histories Safety x v run is_run satisfied = has_conflict x v run is_run satisfied
 model_violates known histories Liveness x v run is_run satisfied =
     refuted Liveness x run (model_rests_unbound known histories x v run is_run satisfied)
@@ -71,7 +71,7 @@ cut_ones property x kinds whole run is_run cut =
     (All-take (HasOnes x) n whole (is_under_ones x kinds whole is_run))
 
 -- and it refutes the property
-cut_refutes : KnownExactlyIfSomeEventBinds → HistoryIsRun → (property : Property) (x : Expanded) (v : ℕ → Bool) (whole run : List Event) → IsRunOf x (variables_of property x) v whole → SatisfiesAll v (clauses_of property x) → IsCut property x whole run → Refutes property x run
+cut_refutes : KnownExactlyIfSomeEventBinds → HistoryIsRun → (property : Property) (x : Expanded) (v : ℕ → Bool) (whole run : List Event) → IsRunOfAssignment x (variables_of property x) v whole → SatisfiesAll v (clauses_of property x) → IsCut property x whole run → Refutes property x run
 cut_refutes known histories Safety x v whole run is_run satisfied cut =
     let least = cut.least in
     record { key = least.key; param = cut.found.param; first = least.first; second = least.second; conflict = least.conflict; last = sym cut.last ∙ least.second_is }
@@ -79,7 +79,7 @@ cut_refutes known histories Liveness x v whole run is_run satisfied same =
     subst (RestsUnbound x) (sym same) (model_rests_unbound known histories x v whole is_run satisfied)
 
 -- all of this together
-pub cut_refutation : KnownExactlyIfSomeEventBinds → HistoryIsRun → PrefixIsLegalRun → ViolatedDoesNotHold → (property : Property) (x : Expanded) (v : ℕ → Bool) (whole run : List Event) → IsRunOf x (variables_of property x) v whole → IsLegalRun x whole → SatisfiesAll v (clauses_of property x) → IsCut property x whole run → IsRefutation property x v run
+pub cut_refutation : KnownExactlyIfSomeEventBinds → HistoryIsRun → PrefixIsLegalRun → ViolatedDoesNotHold → (property : Property) (x : Expanded) (v : ℕ → Bool) (whole run : List Event) → IsRunOfAssignment x (variables_of property x) v whole → IsLegalRun x whole → SatisfiesAll v (clauses_of property x) → IsCut property x whole run → IsCounterexample property x v run
 cut_refutation known histories prefix violated property x v whole run is_run is_legal satisfied cut =
     record {
       refuting = record { whole = whole; run_of = is_run; cut = cut; ones = cut_ones property x is_run.kinds whole run is_run.run_of cut };
@@ -124,7 +124,7 @@ model_refutes_each by_positions known histories shortest property x v admitted s
     let found = has_run by_positions known histories x vars v are shared in
     by_property property found.run found.run_of found.legal satisfied
   where
-    by_property : (p : Property) (run : List Event) → IsRunOf x (variables_of p x) v run → IsLegalRun x run → SatisfiesAll v (clauses_of p x) → HasRefutation p x
+    by_property : (p : Property) (run : List Event) → IsRunOfAssignment x (variables_of p x) v run → IsLegalRun x run → SatisfiesAll v (clauses_of p x) → HasRefutation p x
     by_property Safety run is_run is_legal all = refutation_from shortest x run is_legal (has_conflict x v run is_run all)
     by_property Liveness run is_run is_legal all = resting_from x run is_legal (model_rests_unbound known histories x v run is_run all)
 

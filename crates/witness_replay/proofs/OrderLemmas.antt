@@ -8,7 +8,7 @@ use Rattle.clause_core.specs.Clause.{Satisfies, SatisfiesAll}
 use Rattle.clause_core.specs.Literal.{negated}
 use Rattle.clause_encoding.specs.declared.variables.Variables.{Variables}
 use Rattle.clause_encoding.specs.Families.{order_clauses, order_of_three, Written}
-use Rattle.clause_encoding.specs.Variables.{IsKind, kinds_after, stands_before}
+use Rattle.clause_encoding.specs.Variables.{IsKind, kinds_following, stands_before}
 use Rattle.witness_replay.specs.inner.Order.{is_before, StandsBefore}
 use Rattle.witness_replay.proofs.KindLemmas.{among_after}
 use Rattle.witness_replay.proofs.ListedLemmas.{joined_member}
@@ -19,9 +19,9 @@ module _ (vars : Variables) (v : ℕ → Bool) (satisfied : SatisfiesAll v (orde
   clause_of_three : (i j k : ℕ) (clause : Written) → IsKind vars i → IsKind vars j → IsKind vars k → i < j → j < k → Contains (order_of_three vars i j k) clause → Satisfies v clause
   clause_of_three i j k clause kind_i kind_j kind_k less more among =
       All-contains (Satisfies v) (order_clauses vars) clause satisfied
-      (joined_member (λ a. flat_map (λ b. flat_map (order_of_three vars a b) (kinds_after vars b)) (kinds_after vars a)) (kinds_after vars 0) i clause (among_after vars 0 i kind_i.from_one kind_i)
-      (joined_member (λ b. flat_map (order_of_three vars i b) (kinds_after vars b)) (kinds_after vars i) j clause (among_after vars i j less kind_j)
-      (joined_member (order_of_three vars i j) (kinds_after vars j) k clause (among_after vars j k more kind_k) among)))
+      (joined_member (λ a. flat_map (λ b. flat_map (order_of_three vars a b) (kinds_following vars b)) (kinds_following vars a)) (kinds_following vars 0) i clause (among_after vars 0 i kind_i.from_one kind_i)
+      (joined_member (λ b. flat_map (order_of_three vars i b) (kinds_following vars b)) (kinds_following vars i) j clause (among_after vars i j less kind_j)
+      (joined_member (order_of_three vars i j) (kinds_following vars j) k clause (among_after vars j k more kind_k) among)))
 
   -- two steps forward make one
   forward : (i j k : ℕ) → IsKind vars i → IsKind vars j → IsKind vars k → i < j → j < k → is_before vars v i j ≡ true → is_before vars v j k ≡ true → is_before vars v i k ≡ true

@@ -27,7 +27,7 @@ use Rattle.enactment_model.specs.Liveness.{Bound, IsEmitted, Quiet}
 use Rattle.first_occurrences.specs.Occurrence.{kind_of}
 use Rattle.first_occurrences.specs.Report.{AreVariablesOf}
 use Rattle.witness_replay.specs.Refuting.{RestsUnbound}
-use Rattle.witness_replay.specs.Witness.{IsRunOf, key_of_ones}
+use Rattle.witness_replay.specs.Witness.{IsRunOfAssignment, key_of_ones}
 use Rattle.witness_replay.proofs.CarrierLemmas.{binds_from, carrier_event, carrier_from, carrier_kind, carrier_member, IsCarrier}
 use Rattle.witness_replay.proofs.FamilyLemmas.{all_right}
 use Rattle.witness_replay.proofs.HappenLemmas.{other_kind}
@@ -51,7 +51,7 @@ fresh_from x m p listed =
     by_adornment q Out passes among = inl among
     by_adornment q Nil passes among = inr among
 
-module _ (x : Expanded) (v : ℕ → Bool) (run : List Event) (is_run : IsRunOf x (liveness_variables x) v run) where
+module _ (x : Expanded) (v : ℕ → Bool) (run : List Event) (is_run : IsRunOfAssignment x (liveness_variables x) v run) where
   -- the kind of an event of the run occurs
   occurs_in : (e : Event) → Contains run e → v (kind_of e) ≡ true
   occurs_in e among = ((is_run.ordered.occurring (kind_of e)).0 (kind_among x is_run.kinds run is_run.run_of e among)).1
@@ -191,7 +191,7 @@ module _ (x : Expanded) (v : ℕ → Bool) (run : List Event) (is_run : IsRunOf 
           record { quiet = quiet; param = found.param; public = found.public; unbound = not_bound found }
 
 -- the run of an assignment that satisfies the liveness clauses is quiet in this way
-pub model_rests_unbound : KnownExactlyIfSomeEventBinds → HistoryIsRun → (x : Expanded) (v : ℕ → Bool) (run : List Event) → IsRunOf x (liveness_variables x) v run → SatisfiesAll v (liveness_clauses x) → RestsUnbound x run
+pub model_rests_unbound : KnownExactlyIfSomeEventBinds → HistoryIsRun → (x : Expanded) (v : ℕ → Bool) (run : List Event) → IsRunOfAssignment x (liveness_variables x) v run → SatisfiesAll v (liveness_clauses x) → RestsUnbound x run
 model_rests_unbound known histories x v run is_run satisfied =
     let rest = rest_families x v (all_right (Satisfies v) (shared_clauses x (liveness_variables x)) (rest_clauses x) satisfied) in
     rests_unbound x v run is_run rest known histories

@@ -14,12 +14,12 @@ use Rattle.enactment_model.specs.Legal.{IsLegalRun}
 use Rattle.enactment_model.specs.Property.{Holds}
 use Rattle.first_occurrences.specs.Report.{AreVariablesOf}
 use Rattle.witness_replay.specs.Refuting.{Refutes}
-use Rattle.witness_replay.specs.Witness.{IsRunOf, IsRunOfKinds, key_of_ones}
+use Rattle.witness_replay.specs.Witness.{IsRunOfAssignment, IsRunOfKinds, key_of_ones}
 
 -- the run of an assignment, which is legal
 pub record HasRunOf (x : Expanded) (vars : Variables) (v : ℕ → Bool) : Type 0 where
   pub run : List Event
-  pub run_of : IsRunOf x vars v run
+  pub run_of : IsRunOfAssignment x vars v run
   pub legal : IsLegalRun x run
 
 -- an assignment that satisfies the clauses that all formulas share has such a run

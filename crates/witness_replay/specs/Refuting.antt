@@ -14,7 +14,7 @@ use Rattle.enactment_model.specs.Legal.{IsLegalRun}
 use Rattle.enactment_model.specs.Liveness.{Bound, HasPublicValue, Quiet}
 use Rattle.enactment_model.specs.Property.{Holds}
 use Rattle.enactment_model.specs.Safety.{Conflict}
-use Rattle.witness_replay.specs.Witness.{IsRunOf, key_of_ones}
+use Rattle.witness_replay.specs.Witness.{IsRunOfAssignment, key_of_ones}
 
 -- the run is cut after the second producer of its least conflict, which is that of the whole run
 pub record IsCutAtConflict (x : Expanded) (whole run : List Event) : Type 0 where
@@ -33,7 +33,7 @@ IsCut Liveness x whole run = run ≡ whole
 pub record IsRefutingRun (property : Property) (x : Expanded) (v : ℕ → Bool) (run : List Event)
     : Type 0 where
   pub whole : List Event
-  pub run_of : IsRunOf x (variables_of property x) v whole
+  pub run_of : IsRunOfAssignment x (variables_of property x) v whole
   pub cut : IsCut property x whole run
   pub ones : All (λ e. (instance_of e).key ≡ key_of_ones x) run
 
@@ -59,7 +59,7 @@ Refutes Safety x run = EndsInConflict x run
 Refutes Liveness x run = RestsUnbound x run
 
 -- the run of the assignment is legal and refutes the property, so the protocol does not have it
-pub record IsRefutation (property : Property) (x : Expanded) (v : ℕ → Bool) (run : List Event)
+pub record IsCounterexample (property : Property) (x : Expanded) (v : ℕ → Bool) (run : List Event)
     : Type 0 where
   pub refuting : IsRefutingRun property x v run
   pub legal : IsLegalRun x run

@@ -55,7 +55,7 @@ pub record IsRunOfKinds (x : Expanded) (kinds : List ℕ) (run : List Event) : T
       IsWitnessEvent x (take position run) event
 
 -- the run of an assignment
-pub record IsRunOf (x : Expanded) (vars : Variables) (v : ℕ → Bool) (run : List Event)
+pub record IsRunOfAssignment (x : Expanded) (vars : Variables) (v : ℕ → Bool) (run : List Event)
     : Type 0 where
   pub kinds : List ℕ
   pub ordered : AreOrdered vars v kinds

@@ -5,7 +5,7 @@ ghost use Rattle.clause_encoding.specs.Families.{shared_clauses};
 ghost use Rattle.clause_encoding.specs.Variables.{IsSmall, variable_count};
 ghost use Rattle.enactment_model.specs.Legal.{IsLegalRun};
 ghost use Rattle.first_occurrences.specs.Report.{AreVariablesOf};
-ghost use Rattle.witness_replay.specs.Witness.{AreOrdered, IsRunOf, IsRunOfKinds};
+ghost use Rattle.witness_replay.specs.Witness.{AreOrdered, IsRunOfAssignment, IsRunOfKinds};
 
 use super::events::event_after;
 use super::order::ordered_kinds;
@@ -28,7 +28,7 @@ pub fn order_run(
     requires small { IsSmall vars }
     requires all { variable_count vars ≤ length s.now }
     requires satisfied { SatisfiesAll (valuation s.now) (shared_clauses a.now vars) }
-    ensures run { IfOk result (IsRunOf a.now vars (valuation s.now)) }
+    ensures run { IfOk result (IsRunOfAssignment a.now vars (valuation s.now)) }
     ensures legal { IfOk result (IsLegalRun a.now) }
 {
     // law: each event of a legal run may follow those before it

@@ -7,7 +7,7 @@ ghost use Rattle.clause_encoding.specs.Variables.{variable_count};
 ghost use Rattle.bspl_types.specs.History.{IsRun};
 ghost use Rattle.bspl_types.specs.declared.property.Property.TheVariants.{Liveness, Safety};
 ghost use Rattle.enactment_model.specs.Property.{HasConflict, Violates};
-ghost use Rattle.witness_replay.specs.Refuting.{IsCut, IsCutAtConflict, IsRefutation};
+ghost use Rattle.witness_replay.specs.Refuting.{IsCut, IsCutAtConflict, IsCounterexample};
 
 use super::replay::order_run;
 use bspl_types::{Admitted, Event, Expanded, Property, Run};
@@ -29,7 +29,7 @@ pub fn witness_of(
 ) -> Result<Run, NoMemory>
     requires all { variable_count (variables_of property a.now) ≤ length s.now }
     requires satisfied { SatisfiesAll (valuation s.now) (clauses_of property a.now) }
-    ensures { IfOk result (IsRefutation property a.now (valuation s.now)) }
+    ensures { IfOk result (IsCounterexample property a.now (valuation s.now)) }
 {
     // law: the first events of a legal run are legal
     prefix_is_legal();
@@ -46,7 +46,7 @@ pub fn witness_of(
 pub fn run_of(alloc: Global, a: &Admitted, s: &Assignment) -> Result<Run, NoMemory>
     requires all { variable_count (safety_variables a.now) ≤ length s.now }
     requires satisfied { SatisfiesAll (valuation s.now) (safety_clauses a.now) }
-    ensures { IfOk result (IsRefutation Safety a.now (valuation s.now)) }
+    ensures { IfOk result (IsCounterexample Safety a.now (valuation s.now)) }
 {
     witness_of(alloc, Property::Safety, a, s)
 }
@@ -56,7 +56,7 @@ pub fn run_of(alloc: Global, a: &Admitted, s: &Assignment) -> Result<Run, NoMemo
 pub fn resting_run_of(alloc: Global, a: &Admitted, s: &Assignment) -> Result<Run, NoMemory>
     requires all { variable_count (liveness_variables a.now) ≤ length s.now }
     requires satisfied { SatisfiesAll (valuation s.now) (liveness_clauses a.now) }
-    ensures { IfOk result (IsRefutation Liveness a.now (valuation s.now)) }
+    ensures { IfOk result (IsCounterexample Liveness a.now (valuation s.now)) }
 {
     witness_of(alloc, Property::Liveness, a, s)
 }

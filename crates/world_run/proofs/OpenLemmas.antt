@@ -18,7 +18,7 @@ use Rattle.bspl_types.specs.declared.expanded.Expanded.{Expanded}
 use Rattle.bspl_types.specs.declared.protocol.Message.{Message}
 use Rattle.bspl_types.specs.declared.value.Value.{Value}
 use Rattle.adapter.specs.Desk.{DeskState}
-use Rattle.adapter.specs.Kept.{AreDistinct, IsFor}
+use Rattle.adapter.specs.Kept.{AreDistinctEvents, IsFor}
 use Rattle.adapter.specs.Pending.{is_of_pair, messages_of, pairs_of, pending}
 use Rattle.adapter.specs.Rules.{rules_of}
 use Rattle.agent_scripts.specs.Job.{Job}
@@ -80,7 +80,7 @@ opened job role d consistent store_is empty envelopes =
         protocol_is = ap (λ (s : StoreState). s.protocol) store_is;
         role_is = ap (λ (s : StoreState). s.role) store_is;
         consistent = consistent;
-        once = subst (AllPairs AreDistinct) (sym acts) (λ i j e before within. absurd (omega (arith, within)));
+        once = subst (AllPairs AreDistinctEvents) (sym acts) (λ i j e before within. absurd (omega (arith, within)));
         held = subst (λ ks. All (Contains ks) job.script.keys) (sym (ap (λ (s : StoreState). s.keys) store_is)) (All-contains_itself job.script.keys);
         room = subst (λ h. length (pending h (pairs_of job.script.keys (messages_of job.protocol role))) < d.store.spare) (sym acts) (omega (arith, ap (λ (s : StoreState). s.spare) store_is, room_needed job role));
         played = subst (Played job.protocol (rules_of job)) (sym acts) (played_none job);

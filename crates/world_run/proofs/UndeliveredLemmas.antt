@@ -15,7 +15,7 @@ use Rattle.bspl_types.specs.declared.event.Event.TheVariants.{Emit, Receive}
 use Rattle.bspl_types.specs.declared.event.Instance.{Instance}
 use Rattle.bspl_types.specs.Expansion.{message_of}
 use Rattle.adapter.specs.Desk.{DeskState}
-use Rattle.adapter.specs.Kept.{AreDistinct, IsFor, IsKept}
+use Rattle.adapter.specs.Kept.{AreDistinctEvents, IsFor, IsKept}
 use Rattle.adapter.specs.Pending.{messages_of, pairs_of, pending}
 use Rattle.adapter.specs.Rules.{rules_of}
 use Rattle.agent_scripts.specs.Job.{Job}
@@ -146,12 +146,12 @@ whole_of job desks arrive role d at i receiver among survives r_at =
     arrive role (slice_get_within desks role d at) entry.0 entry.1 (slice_get_within (history_at (histories_of desks) role) entry.0 entry.1 there) there i receiver entry.3 survives r_at
 
 -- of two emissions of one message under one key there is one
-one_emission : (acts : List Event) (i j : Instance) → AllPairs AreDistinct acts → Contains acts (Emit i) → Contains acts (Emit j) → i.key ≡ j.key → i.message ≡ j.message → i ≡ j
+one_emission : (acts : List Event) (i j : Instance) → AllPairs AreDistinctEvents acts → Contains acts (Emit i) → Contains acts (Emit j) → i.key ≡ j.key → i.message ≡ j.message → i ≡ j
 one_emission acts i j apart first second key message = elim (cases_order first.0 second.0) [
   | inl same ↦ ap emitted_in (sym first.2 ∙ ap (λ k. get_or acts k (Emit i)) same ∙ one_default acts second.0 (Emit i) (Emit j) second.1 ∙ second.2)
   | inr differ ↦ elim differ [
-    | inl lower ↦ absurd (subst (λ (f : Event). AreDistinct f (Emit j)) first.2 (subst (λ (f : Event). AreDistinct (get_or acts first.0 (Emit i)) f) (one_default acts second.0 (Emit i) (Emit j) second.1 ∙ second.2) (apart first.0 second.0 (Emit i) lower second.1)) key message)
-    | inr higher ↦ absurd (subst (λ (f : Event). AreDistinct f (Emit i)) (one_default acts second.0 (Emit i) (Emit j) second.1 ∙ second.2) (subst (λ (f : Event). AreDistinct (get_or acts second.0 (Emit i)) f) first.2 (apart second.0 first.0 (Emit i) higher first.1)) (sym key) (sym message))
+    | inl lower ↦ absurd (subst (λ (f : Event). AreDistinctEvents f (Emit j)) first.2 (subst (λ (f : Event). AreDistinctEvents (get_or acts first.0 (Emit i)) f) (one_default acts second.0 (Emit i) (Emit j) second.1 ∙ second.2) (apart first.0 second.0 (Emit i) lower second.1)) key message)
+    | inr higher ↦ absurd (subst (λ (f : Event). AreDistinctEvents f (Emit i)) (one_default acts second.0 (Emit i) (Emit j) second.1 ∙ second.2) (subst (λ (f : Event). AreDistinctEvents (get_or acts second.0 (Emit i)) f) first.2 (apart second.0 first.0 (Emit i) higher first.1)) (sym key) (sym message))
   ]
 ]
   where
@@ -201,7 +201,7 @@ cleared_kept job old new kept cleared =
           protocol_is = ap (λ (s : StoreState). s.protocol) same ∙ is.protocol_is;
           role_is = ap (λ (s : StoreState). s.role) same ∙ is.role_is;
           consistent = subst IsConsistent (sym same) is.consistent;
-          once = subst (λ (s : StoreState). AllPairs AreDistinct (acts_of s)) (sym same) is.once;
+          once = subst (λ (s : StoreState). AllPairs AreDistinctEvents (acts_of s)) (sym same) is.once;
           held = subst (λ (s : StoreState). All (Contains s.keys) job.script.keys) (sym same) is.held;
           room = subst (λ (s : StoreState). length (pending (acts_of s) (pairs_of job.script.keys (messages_of job.protocol role))) < s.spare) (sym same) is.room;
           played = subst (λ (s : StoreState). Played job.protocol (rules_of job) (acts_of s)) (sym same) is.played;

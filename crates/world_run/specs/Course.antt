@@ -6,7 +6,7 @@ use Rattle.rand_pcg.specs.Lcg.{Lcg}
 use Rattle.rand_pcg.specs.Pcg.{pcg32_of_seed}
 use Rattle.bspl_types.specs.declared.envelope.Envelope.{Envelope}
 use Rattle.adapter.specs.Desk.{DeskState}
-use Rattle.adapter.specs.Steps.{Accepts, IsNextEnvelope, IsTaking, after_emission, after_pick}
+use Rattle.adapter.specs.Steps.{AcceptsEnvelope, IsNextEnvelope, IsTaking, after_emission, after_pick}
 use Rattle.agent_scripts.specs.Job.{Job}
 use Rattle.local_store.specs.declared.receipt.Receipt.{Receipt}
 
@@ -24,7 +24,7 @@ abbrev pub generator_of : Job → Lcg
 generator_of job = pcg32_of_seed (pcg32_seed 16 job.plan.seed)
 
 -- the role's agent takes what the generator picks, if its inbox holds an envelope
-pub record Takes (role : ℕ) (old new : PlayState) : Type 0 where
+pub record TakesPicked (role : ℕ) (old new : PlayState) : Type 0 where
   pub desk : DeskState
   pub at : slice_get old.desks role ≡ Some desk
   pub receipt : Option Receipt
@@ -38,7 +38,7 @@ pub record Posts (old : List DeskState) (e : Envelope) (new : List DeskState) : 
   pub receiver : DeskState
   pub at : slice_get old e.to ≡ Some receiver
   pub after : DeskState
-  pub accepted : Accepts receiver e after
+  pub accepted : AcceptsEnvelope receiver e after
   pub desks : new ≡ slice_set old e.to after
 
 -- the same of an envelope, if there is one
@@ -47,7 +47,7 @@ PostsAny old None new = new ≡ old
 PostsAny old (Some e) new = Posts old e new
 
 -- the role's agent emits its next message at the number, if it has one, and posts the envelope
-pub record Emits (job : Job) (role n : ℕ) (old new : List DeskState) : Type 0 where
+pub record EmitsByAgent (job : Job) (role n : ℕ) (old new : List DeskState) : Type 0 where
   pub desk : DeskState
   pub at : slice_get old role ≡ Some desk
   pub envelope : Option Envelope
@@ -59,8 +59,8 @@ pub record Emits (job : Job) (role n : ℕ) (old new : List DeskState) : Type 0 
 -- the agent takes and then emits; only the taking draws a word of the generator
 pub record IsTurn (job : Job) (role n : ℕ) (old new : PlayState) : Type 0 where
   pub middle : PlayState
-  pub taken : Takes role old middle
-  pub emitted : Emits job role n middle.desks new.desks
+  pub taken : TakesPicked role old middle
+  pub emitted : EmitsByAgent job role n middle.desks new.desks
   pub word : new.generator ≡ middle.generator
 
 -- the steps of the first numbers, from 0, one after another

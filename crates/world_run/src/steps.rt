@@ -1,5 +1,5 @@
 ghost use Rattle.adapter.specs.Next.{IsWorkload};
-ghost use Rattle.world_run.specs.Course.{Emits, IsTurn, Takes, state};
+ghost use Rattle.world_run.specs.Course.{EmitsByAgent, IsTurn, TakesPicked, state};
 ghost use Rattle.world_run.specs.inner.Idle.{EmitsNothing, HoldsNothing, IsIdleRoleAt};
 ghost use Rattle.world_run.specs.inner.InProgress.{Extend};
 ghost use Rattle.world_run.specs.inner.Steps.{IsAtPlay, IsStep, IsStepOr};
@@ -35,7 +35,7 @@ fn take(desks: &mut DeskList, job: &Job, role: usize, rng: &mut Pcg32) -> bool
     requires { IsAtPlay job.now desks.old role }
     ensures extend { Extend job.now desks.old desks.new }
     ensures step { IsStep job.now desks.old result desks.new (HoldsNothing desks.new role)
-        (Takes role (state desks.old rng.old) (state desks.new rng.new)) }
+        (TakesPicked role (state desks.old rng.old) (state desks.new rng.new)) }
 {
     // law: one entry more leaves all receipts explained
     extended_stay_explained();
@@ -47,7 +47,7 @@ fn emit(desks: &mut DeskList, job: &Job, role: usize, n: u64) -> Result<bool, No
     requires at_play { IsAtPlay job.now desks.old role }
     requires number { IsWorkload job.now n }
     ensures { IsStepOr job.now desks.old result desks.new (EmitsNothing job.now desks.new role n)
-        (Emits job.now role n desks.old desks.new) }
+        (EmitsByAgent job.now role n desks.old desks.new) }
 {
     // law: one entry more leaves all receipts explained
     extended_stay_explained();

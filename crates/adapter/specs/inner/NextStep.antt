@@ -3,7 +3,7 @@ use Rattle.std.specs.Prelude.{◌≡◌, ℕ, ◌<◌, Some, slice_get}
 use Rattle.bspl_types.specs.Knowledge.{CanEmit}
 use Rattle.stamped_history.specs.Entries.{clock_limit, last_stamp}
 use Rattle.agent_scripts.specs.Job.{Job}
-use Rattle.agent_scripts.specs.Script.{values_of}
+use Rattle.agent_scripts.specs.Script.{message_values}
 use Rattle.local_store.specs.Emission.{IsAttempt, IsPlannedAt}
 use Rattle.local_store.specs.State.{StoreState, acts_of}
 use Rattle.reorder_net.specs.Mail.{IsPosted}
@@ -26,7 +26,7 @@ pub record IsNextStep (job : Job) (s : StoreState) (n : ℕ) (t : Step) : Type 0
   pub next : IsNext job s n (Some t.message)
   pub key_is : t.key ≡ key_of job n
   pub row_is : slice_get s.keys t.row ≡ Some t.key
-  pub outs_are : t.outs ≡ values_of job.protocol job.script t.message n
+  pub outs_are : t.outs ≡ message_values job.protocol job.script t.message n
 
 -- the store can emit the step's message
 pub record IsPossible (s : StoreState) (t : Step) : Type 0 where

@@ -1,7 +1,7 @@
 -- The line that names a role.
 use Rattle.std.specs.Prelude.{◌≡◌, ℕ, ◌<◌, List, ◌++◌, length}
 use Rattle.bspl_types.specs.declared.expanded.Expanded.{Expanded}
-use Rattle.history_audit.specs.HistoryText.{role_name}
+use Rattle.bspl_types.specs.Expansion.{role_name}
 use Rattle.agent_commands.specs.declared.wording.TheConstants.{ROLE}
 
 -- without its LF the line is that of the role

@@ -4,7 +4,7 @@ use Rattle.std.specs.List.{flat_map}
 use Rattle.clause_core.specs.Literal.{negated}
 use Rattle.clause_encoding.specs.declared.variables.Variables.{Variables}
 use Rattle.clause_encoding.specs.Families.{Written}
-use Rattle.clause_encoding.specs.Variables.{kinds_after, occurs, stands_before}
+use Rattle.clause_encoding.specs.Variables.{kinds_following, occurs, stands_before}
 
 -- the clause of two kinds
 abbrev pub occurrence_clause : Variables → ℕ → ℕ → Written
@@ -16,4 +16,4 @@ occurrence_of_two vars i j = if not (j == i) then occurrence_clause vars i j ∷
 
 -- the clauses of one kind with each other one
 abbrev pub occurrence_of_one : Variables → ℕ → List Written
-occurrence_of_one vars i = flat_map (occurrence_of_two vars i) (kinds_after vars 0)
+occurrence_of_one vars i = flat_map (occurrence_of_two vars i) (kinds_following vars 0)

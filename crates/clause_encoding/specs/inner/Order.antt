@@ -6,15 +6,15 @@ use Rattle.bspl_types.specs.declared.property.Property.{Property}
 use Rattle.clause_encoding.specs.declared.variables.Variables.{Variables}
 use Rattle.clause_encoding.specs.Families.{Written, delivery_clauses, freshness_clauses, occurrence_clauses, order_of_three, premise_clauses}
 use Rattle.clause_encoding.specs.Formula.{own_clauses, variables_of}
-use Rattle.clause_encoding.specs.Variables.{kinds_after}
+use Rattle.clause_encoding.specs.Variables.{kinds_following}
 
 -- the order clauses of two kinds with each later one
 abbrev pub order_of_two : Variables → ℕ → ℕ → List Written
-order_of_two vars i j = flat_map (order_of_three vars i j) (kinds_after vars j)
+order_of_two vars i j = flat_map (order_of_three vars i j) (kinds_following vars j)
 
 -- the order clauses of one kind with each two later ones
 abbrev pub order_of_one : Variables → ℕ → List Written
-order_of_one vars i = flat_map (order_of_two vars i) (kinds_after vars i)
+order_of_one vars i = flat_map (order_of_two vars i) (kinds_following vars i)
 
 -- the families of every formula that come after the order clauses
 abbrev pub families_after_order : Expanded → Variables → List Written

@@ -8,7 +8,7 @@ use Rattle.clause_core.specs.Clause.{SatisfiesAll}
 use Rattle.clause_encoding.specs.Families.{shared_clauses}
 use Rattle.clause_encoding.specs.Formula.{safety_variables}
 use Rattle.enactment_model.specs.Legal.{IsLegalRun}
-use Rattle.witness_replay.specs.Witness.{IsRunOf}
+use Rattle.witness_replay.specs.Witness.{IsRunOfAssignment}
 use Rattle.enactability.specs.declared.outcome.Enact.{Enact}
 use Rattle.enactability.specs.declared.outcome.Enact.TheVariants.{Enacted}
 use Rattle.enactability.specs.Answer.{AreEnacted}
@@ -19,7 +19,7 @@ use Rattle.enactability.specs.inner.Emission.{IsCut}
 pub record IsModelRun (x : Expanded) (run : List Event) : Type 0 where
   pub assignment : ℕ → Bool
   pub satisfied : SatisfiesAll assignment (shared_clauses x (safety_variables x))
-  pub run_of : IsRunOf x (safety_variables x) assignment run
+  pub run_of : IsRunOfAssignment x (safety_variables x) assignment run
   pub legal : IsLegalRun x run
 
 -- the formula asks for no message yet, and each run is that of a model

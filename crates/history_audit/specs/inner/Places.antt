@@ -6,7 +6,7 @@ use Rattle.bspl_types.specs.declared.expanded.Expanded.{Expanded}
 use Rattle.bspl_types.specs.History.{role_of}
 use Rattle.history_audit.specs.declared.bad_place.BadPlace.{BadPlace}
 use Rattle.history_audit.specs.BadPlace.{IsBadAt, MayHappen}
-use Rattle.history_audit.specs.Histories.{history_at}
+use Rattle.history_audit.specs.Histories.{events_at}
 use Rattle.history_audit.specs.inner.Waits.{IsSent}
 
 -- the events are all the role's own
@@ -38,5 +38,5 @@ pub record IsFirstBadOf (x : Expanded) (histories : List (List Event)) (role : �
   pub same_role : found.role ≡ role
   pub place_is : found.place ≡ index + 1
   pub bad : IsBadAt x histories role index found.why
-  pub before : (k : ℕ) (e : Event) → k < index → slice_get (history_at histories role) k ≡ Some e →
-      MayHappen x histories (take k (history_at histories role)) e
+  pub before : (k : ℕ) (e : Event) → k < index → slice_get (events_at histories role) k ≡ Some e →
+      MayHappen x histories (take k (events_at histories role)) e

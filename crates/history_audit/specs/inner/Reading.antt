@@ -4,11 +4,11 @@ use Rattle.std.specs.List.{All, Any, join_with_byte}
 use Rattle.bspl_types.specs.declared.event.Event.{Event}
 use Rattle.bspl_types.specs.declared.expanded.Expanded.{Expanded}
 use Rattle.bspl_types.specs.History.{instance_of, role_of}
+use Rattle.bspl_types.specs.Expansion.{role_name}
 use Rattle.run_text.specs.RunText.{event_body, IsFitting}
 use Rattle.history_audit.specs.declared.section.Section.{Section}
-use Rattle.history_audit.specs.HistoryText.{role_name}
 use Rattle.history_audit.specs.Refusal.{ExtendsSection, OpensSection}
-use Rattle.history_audit.specs.Histories.{history_at}
+use Rattle.history_audit.specs.Histories.{events_at}
 
 -- the line that begins a role's section, without its LF
 abbrev pub role_body : Expanded → ℕ → List ℕ
@@ -67,5 +67,5 @@ pub record BreaksOff (x : Expanded) (sections : List Section) (line : List ℕ) 
 pub record AreHistoriesOf (x : Expanded) (sections : List Section)
     (histories : List (List Event)) : Type 0 where
   pub count : length histories ≡ length x.roles
-  pub named : All (λ s. history_at histories s.role ≡ s.events) sections
-  pub unnamed : (role : ℕ) → All (λ s. s.role ≢ role) sections → history_at histories role ≡ []
+  pub named : All (λ s. events_at histories s.role ≡ s.events) sections
+  pub unnamed : (role : ℕ) → All (λ s. s.role ≢ role) sections → events_at histories role ≡ []

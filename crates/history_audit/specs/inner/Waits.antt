@@ -7,13 +7,13 @@ use Rattle.bspl_types.specs.declared.expanded.Expanded.{Expanded}
 use Rattle.bspl_types.specs.Expansion.{message_of}
 use Rattle.run_index.specs.FirstEmission.{IsFirstEmission}
 use Rattle.history_audit.specs.BadPlace.{AllMayHappen}
-use Rattle.history_audit.specs.Histories.{history_at}
+use Rattle.history_audit.specs.Histories.{events_at}
 
 -- a receipt waits for the first emission of its instance: this is its index in its sender's history
 abbrev pub IsWait : Expanded → List (List Event) → Event → ℕ → Type 0
 IsWait x histories (Emit i) wait = Unit {0}
 IsWait x histories (Receive i) wait =
-    IsFirstEmission (history_at histories (message_of x i.message).sender) i wait
+    IsFirstEmission (events_at histories (message_of x i.message).sender) i wait
 
 -- so for each event of a history
 abbrev pub AreWaits : Expanded → List (List Event) → List Event → List ℕ → Type 0
@@ -33,4 +33,4 @@ pub record IsJudged (x : Expanded) (histories : List (List Event)) (waits : List
 abbrev pub IsSent : Expanded → List (List Event) → Event → Type 0
 IsSent x histories (Emit i) = Unit {0}
 IsSent x histories (Receive i) =
-    Contains (history_at histories (message_of x i.message).sender) (Emit i)
+    Contains (events_at histories (message_of x i.message).sender) (Emit i)

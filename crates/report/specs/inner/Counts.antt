@@ -28,7 +28,8 @@ pub record GrowBy (events : List Event) (old new : List Count) : Type 0 where
   pub sent : (m : ℕ) → m < length old →
       (count_of_message new m).sent ≡ (count_of_message old m).sent + count_by (sends m) events
   pub received : (m : ℕ) → m < length old →
-      (count_of_message new m).received ≡ (count_of_message old m).received + count_by (receives m) events
+      (count_of_message new m).received
+      ≡ (count_of_message old m).received + count_by (receives m) events
 
 -- so many events more can be counted
 pub record HaveRoom (events : ℕ) (counts : List Count) : Type 0 where

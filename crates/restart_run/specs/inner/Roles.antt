@@ -9,7 +9,7 @@ use Rattle.stamped_history.specs.declared.entry.Entry.{Entry}
 use Rattle.stamped_history.specs.Explained.{history_at}
 use Rattle.world_run.specs.World.{BelongsTo, histories_of}
 use Rattle.restart_run.specs.declared.roles.KeptRoles.{KeptRoles}
-use Rattle.restart_run.specs.Disks.{IsWritten, faulty}
+use Rattle.restart_run.specs.Disks.{IsWrittenDisk, faulty}
 
 -- a desk of the role without envelopes
 pub record IsEmptyDesk (job : Job) (role : ℕ) (d : DeskState) : Type 0 where
@@ -35,5 +35,5 @@ pub record AreKeptTo {D : Type 0} (may_leave : D → List ℕ → Type 0) (count
       IsEmptyDesk job role d
   pub histories_are : histories_of kept.desks ≡ take count histories
   pub written : (role : ℕ) (disk : D) → slice_get kept.disks role ≡ Some disk →
-      IsWritten may_leave counts (history_at histories role) disk
+      IsWrittenDisk may_leave counts (history_at histories role) disk
   pub counted : kept.restarts ≡ length (faulty counts kept.disks)

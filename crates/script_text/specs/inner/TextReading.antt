@@ -4,7 +4,6 @@ use Rattle.bspl_types.specs.declared.expanded.Expanded.{Expanded}
 use Rattle.agent_scripts.specs.declared.refusal.ScriptRefusal.{ScriptRefusal}
 use Rattle.agent_scripts.specs.declared.refusal.ScriptRefusal.TheVariants as refusals
 use Rattle.agent_scripts.specs.declared.statement.Stated.{Stated}
-use Rattle.agent_scripts.specs.Lines.{fields_of}
 use Rattle.agent_scripts.specs.Rules.{KeepsRules}
 use Rattle.agent_scripts.specs.ScriptText.{IsRefusedNext, MeansAt, is_passed_over}
 use Rattle.agent_scripts.specs.ScriptText.{statements_of}
@@ -12,6 +11,7 @@ use Rattle.list_base.specs.declared.memory.NoMemory.{NoMemory}
 use Rattle.script_text.specs.declared.next_line.Progress.{Progress}
 use Rattle.script_text.specs.declared.next_line.Progress.TheVariants.{More, Refused}
 use Rattle.script_text.specs.Reading.{HasNumbers}
+use Rattle.text_lines.specs.Fields.{fields_of}
 
 -- the line says what keeps the rules after the statements
 pub record GoesOn (x : Expanded) (stated : List Stated) (line : ℕ × List ℕ) (s : Stated)

@@ -4,10 +4,10 @@ use Rattle.std.specs.Borrow.{Bor}
 use Rattle.wire_form.specs.declared.asked.Asked.{Asked}
 use Rattle.wire_form.specs.declared.asked.Asked.TheVariants.{Emission, Receipt}
 use Rattle.wire_form.specs.declared.asked.Field.{Field as TextField}
-use Rattle.wire_form.specs.Request.{Field, Request, emit, receive}
+use Rattle.wire_form.specs.Request.{NamedField, Request, emit, receive}
 
 -- the name and the text of each field
-abbrev pub fields_of : List TextField → List Field
+abbrev pub fields_of : List TextField → List NamedField
 fields_of fields = map (λ f. (f.name.now, f.text.now)) fields
 
 -- each text

@@ -7,7 +7,7 @@ use Rattle.serde_json.specs.View.{view}
 use Rattle.serde_json.specs.declared.value.Value.{Value}
 use Rattle.wire_form.specs.declared.any_order.Found.{Found}
 use Rattle.wire_form.specs.declared.any_order.Found.TheVariants.{Emission, Receipt}
-use Rattle.wire_form.specs.Request.{Field, Request, emit, receive, sent_data}
+use Rattle.wire_form.specs.Request.{NamedField, Request, emit, receive, sent_data}
 
 -- the members that tell of a message that was sent
 pub record SentForm : Type 0 where
@@ -46,7 +46,7 @@ abbrev pub texts_in : List Value → List (List ℕ)
 texts_in values = map text_in values
 
 -- the members of an object as fields
-abbrev pub fields_in : List (String Global × Value) → List Field
+abbrev pub fields_in : List (String Global × Value) → List NamedField
 fields_in entries = map (λ e. (string_bytes e.0, text_in e.1)) entries
 
 -- the request that was found

@@ -6,7 +6,7 @@ use Rattle.local_store.specs.State.{StoreState}
 use Rattle.reorder_net.specs.Mail.{IsPosted}
 use Rattle.adapter.specs.Kept.{IsFor, IsKept}
 use Rattle.adapter.specs.State.{StateView, IsStateKept}
-use Rattle.adapter.specs.Steps.{Accepts}
+use Rattle.adapter.specs.Steps.{AcceptsEnvelope}
 use Rattle.adapter.proofs.IntakeLemmas.{moved_keeps, posted_here, put_kept_last, room_keeps}
 use Rattle.adapter.proofs.PostedLemmas.{is_for}
 use Rattle.adapter.proofs.StateLemmas.{own_pass}
@@ -39,6 +39,6 @@ returns-clause-kept g c =
     let posted : IsPosted job e.from role e = posted_here g.N.Scene.job job role boxes s e c.requires.scene kept c.in-Some.ensures.1 in
     let more : IsStateKept job role boxes (record s { desk = room }) = room_keeps job role boxes s room kept c.make_room.ensures.kept c.make_room.ensures.same.0 c.make_room.ensures.same.1 in
     let here : IsKept job role desk = subst (λ (x : StoreState). IsKept job x.role desk) c.make_room.ensures.same.0 c.deliver_lent.ensures.kept in
-    let accepts : Accepts room e desk = subst (λ (x : Envelope). Accepts room x desk) c.envelope.ensures (IfOk-at_ok (λ _. Accepts room c.envelope.result.now desk) c.unwrap.ensures c.deliver_lent.ensures.ok) in
+    let accepts : AcceptsEnvelope room e desk = subst (λ (x : Envelope). AcceptsEnvelope room x desk) c.envelope.ensures (IfOk-at_ok (λ _. AcceptsEnvelope room c.envelope.result.now desk) c.unwrap.ensures c.deliver_lent.ensures.ok) in
     let new = moved_keeps job role boxes (record s { desk = room }) e desk c.take_parcel.new.passes more posted c.in-Some.ensures.0 here accepts.store (put_kept_last room.inbox.envelopes desk.inbox.envelopes e posted.some accepts.envelopes) in
     subst (λ (x : StateView). IsStateKept job x.desk.store.role boxes (record { desk = desk; passes = c.take_parcel.new.passes })) c.state.view_is new

@@ -1,10 +1,10 @@
 -- The line is `role`, a space and the name of the role that is found.
 use Rattle.std.proofs.lemmas.Bool.Decides.{Decides-eqb}
 use Rattle.std.proofs.lemmas.Slice.Eq.{strip_prefix_is}
-use Rattle.history_audit.specs.HistoryText.{role_name}
 use Rattle.agent_commands.specs.declared.wording.TheConstants.{ROLE}
 use Rattle.agent_commands.proofs.ServeAnswers.{named_line, no_role_named}
 use Rattle.agent_commands.proofs.serve_command.role_of_line.Goals as goal
+use Rattle.bspl_types.specs.Expansion.{role_name}
 
 pub returns-in_err-name : goal.returns-in_err-name
 returns-in_err-name c =

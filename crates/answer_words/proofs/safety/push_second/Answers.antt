@@ -1,6 +1,6 @@
 -- The parts come one after the other.
-use Rattle.bspl_types.specs.Expansion.{param_name}
-use Rattle.answer_words.specs.Messages.{nth_message, role_name}
+use Rattle.bspl_types.specs.Expansion.{param_name, role_name}
+use Rattle.answer_words.specs.Messages.{nth_message}
 use Rattle.answer_words.specs.Safety.{event_words}
 use Rattle.answer_words.proofs.TextLemmas.{six_parts}
 use Rattle.answer_words.proofs.safety.push_second.Goals as goal

@@ -2,7 +2,7 @@
 use Rattle.std.proofs.Common.{◌+◌, ◌*◌, ◌++◌, take}
 use Rattle.std.specs.List.{flat_map}
 use Rattle.protocol_paths.specs.Flat.{privates_at}
-use Rattle.protocol_paths.specs.Path.{item_messages, numbered}
+use Rattle.protocol_paths.specs.Path.{item_messages, numbered_items}
 use Rattle.protocol_paths.specs.inner.AddsEnds.{AddsEnds, item_entries}
 use Rattle.protocol_paths.specs.inner.ScopeOf.{protocols_of, scope_of}
 use Rattle.protocol_paths.proofs.ends.+ends.Given as goal
@@ -20,6 +20,6 @@ decreases-add_linked l = 3 * l.context.now.limit + 3
 abbrev pub invariant-add_ends-loop-index : goal.invariant-add_ends-loop-index
 invariant-add_ends-loop-index l =
     AddsEnds (scope_of l.scope)
-    (privates_at (scope_of l.scope) ++ flat_map (item_entries l.context.limit (protocols_of l.context) (scope_of l.scope)) (take l.index (numbered l.scope.protocol.now)))
-    (flat_map (item_messages l.context.limit (protocols_of l.context)) (take l.index (numbered l.scope.protocol.now)))
+    (privates_at (scope_of l.scope) ++ flat_map (item_entries l.context.limit (protocols_of l.context) (scope_of l.scope)) (take l.index (numbered_items l.scope.protocol.now)))
+    (flat_map (item_messages l.context.limit (protocols_of l.context)) (take l.index (numbered_items l.scope.protocol.now)))
     l.fn.ends l.ends

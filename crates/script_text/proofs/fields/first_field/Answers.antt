@@ -1,10 +1,10 @@
 -- What begins with a field has it first.
 use Rattle.std.proofs.Common.{◌≡◌, ◌∷◌, [], take, drop, refl, List, ℕ}
 use Rattle.std.specs.List.{position_or_len}
-use Rattle.agent_scripts.specs.Lines.{fields_of}
 use Rattle.script_text.specs.inner.Blanks.{is_blank, BeginsField}
 use Rattle.script_text.proofs.FieldLemmas.{first_of_fields, rest_of, is_not_empty}
 use Rattle.script_text.proofs.fields.first_field.Goals as goal
+use Rattle.text_lines.specs.Fields.{fields_of}
 
 -- the same of a line that is not empty
 first : (line : List ℕ) → BeginsField line → (line ≡ [] → ⊥) → fields_of line ≡ take (position_or_len is_blank line) line ∷ fields_of (drop (position_or_len is_blank line) line)

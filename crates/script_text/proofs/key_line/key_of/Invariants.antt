@@ -4,8 +4,8 @@ use Rattle.std.specs.List.{All}
 use Rattle.bspl_types.specs.Limits.{key_limit}
 use Rattle.bspl_types.specs.Value.{IsValue}
 use Rattle.bspl_types.specs.ValueSpelling.{value_spelling}
-use Rattle.agent_scripts.specs.Lines.{fields_of}
 use Rattle.script_text.proofs.key_line.key_of.Given as goal
+use Rattle.text_lines.specs.Fields.{fields_of}
 
 abbrev pub invariant-loop-index : goal.invariant-loop-index
 invariant-loop-index l = record {

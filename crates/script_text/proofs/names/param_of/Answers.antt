@@ -5,14 +5,14 @@ use Rattle.std.specs.List.{position}
 use Rattle.std.specs.Str.{bytes_eq}
 use Rattle.bspl_types.specs.declared.expanded.Expanded.{Expanded}
 use Rattle.bspl_types.specs.declared.protocol.ParamInfo.{ParamInfo}
-use Rattle.agent_scripts.specs.Statement.{param_name}
+use Rattle.agent_scripts.specs.Statement.{param_field}
 use Rattle.script_text.proofs.NameLemmas.{found_named, none_named, name_of_param}
 use Rattle.script_text.proofs.names.param_of.Goals as goal
 
 no_param : ParamInfo
 no_param = record { name = []; adornment = None; key = false }
 
-missing : (x : Expanded) (name : List ℕ) → None ≡ position (λ (i : ParamInfo). bytes_eq i.name name) x.params → (p : ℕ) → p < length x.params → name ≢ param_name x p
+missing : (x : Expanded) (name : List ℕ) → None ≡ position (λ (i : ParamInfo). bytes_eq i.name name) x.params → (p : ℕ) → p < length x.params → name ≢ param_field x p
 missing x name none p known same = none_named (λ (i : ParamInfo). i.name) x.params name no_param none p known (same ∙ name_of_param x p no_param known)
 
 pub returns-in_err-index : goal.returns-in_err-index

@@ -1,14 +1,14 @@
 -- The next line goes on, or is refused.
 use Rattle.std.proofs.Common.{◌≡◌, List, ℕ, [], ◌∷◌, Option, Some, None, arith}
 use Rattle.std.specs.Prelude.{MatchOption}
-use Rattle.agent_scripts.specs.Lines.{lines_of}
+use Rattle.agent_scripts.specs.Lines.{script_lines}
 use Rattle.script_text.proofs.ReadingLemmas.{all_read, line_more, refused_next}
 use Rattle.script_text.proofs.reader.read_lines.Goals as goal
 
 -- a text is its first line, and others
-parted : {X : Type 0} (text line : List ℕ) (bytes : X → List ℕ) (after : Option X) → MatchOption after (lines_of text ≡ line ∷ []) (λ a. lines_of text ≡ line ∷ lines_of (bytes a)) → (others : List (List ℕ)) × (lines_of text ≡ line ∷ others)
+parted : {X : Type 0} (text line : List ℕ) (bytes : X → List ℕ) (after : Option X) → MatchOption after (script_lines text ≡ line ∷ []) (λ a. script_lines text ≡ line ∷ script_lines (bytes a)) → (others : List (List ℕ)) × (script_lines text ≡ line ∷ others)
 parted text line bytes None is = ([], is)
-parted text line bytes (Some a) is = (lines_of (bytes a), is)
+parted text line bytes (Some a) is = (script_lines (bytes a), is)
 
 pub returns-in-Refused : goal.returns-in-Refused
 returns-in-Refused c =
@@ -34,6 +34,6 @@ lines-preserved c =
     let read = rw whole at c.lines.invariant.read in
     let went = rw c.in-More.is at c.in_ok-more.ensures in
     record {
-      read = line_more c.args.x.now c.args.text.now line (lines_of c.in-Some.after.now) c.lines.statements c.in-More.more c.lines.number read went;
+      read = line_more c.args.x.now c.args.text.now line (script_lines c.in-Some.after.now) c.lines.statements c.in-More.more c.lines.number read went;
       room = omega (arith, c.lines.invariant.room, shorter);
     }

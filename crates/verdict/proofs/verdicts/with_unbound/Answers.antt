@@ -3,7 +3,7 @@ use Rattle.std.proofs.Common.{List, refl, sym, subst}
 use Rattle.bspl_types.specs.declared.event.Event.{Event}
 use Rattle.bspl_types.specs.declared.expanded.Expanded.{Expanded}
 use Rattle.bspl_types.specs.History.{IsRun}
-use Rattle.enactment_model.specs.FirstUnbound.{IsComplete, IsFirstUnbound}
+use Rattle.enactment_model.specs.FirstUnbound.{BindsPublic, IsFirstUnbound}
 use Rattle.witness_replay.specs.Witness.{key_of_ones}
 use Rattle.verdict.proofs.RunLemmas.{at_rest, found_first, not_live_right, some_unbound}
 use Rattle.verdict.proofs.verdicts.with_unbound.Goals as goal
@@ -16,7 +16,7 @@ unbound-requires-clause-fits c =
 pub unwrap-param-requires : goal.unwrap-param-requires
 unwrap-param-requires c =
     some_unbound c.unbound.result c.args.a.now c.args.run
-    (λ none. at_rest IsComplete c.expanded-x.result.now c.args.a.now c.as_slice.result.now c.args.run c.key_of_ones-key.result c.expanded-x.ensures.same c.as_slice.ensures c.key_of_ones-key.ensures (c.unbound.ensures.none.0 none))
+    (λ none. at_rest BindsPublic c.expanded-x.result.now c.args.a.now c.as_slice.result.now c.args.run c.key_of_ones-key.result c.expanded-x.ensures.same c.as_slice.ensures c.key_of_ones-key.ensures (c.unbound.ensures.none.0 none))
     c.requires.refutation.refutes
 
 pub returns : goal.returns

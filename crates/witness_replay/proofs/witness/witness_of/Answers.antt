@@ -10,8 +10,8 @@ use Rattle.clause_encoding.specs.declared.variables.Variables.{Variables}
 use Rattle.clause_encoding.specs.Families.{shared_clauses}
 use Rattle.clause_encoding.specs.Formula.{own_clauses, variables_of}
 use Rattle.enactment_model.specs.Property.{Violates}
-use Rattle.witness_replay.specs.Refuting.{IsCut, IsRefutation}
-use Rattle.witness_replay.specs.Witness.{IsRunOf}
+use Rattle.witness_replay.specs.Refuting.{IsCut, IsCounterexample}
+use Rattle.witness_replay.specs.Witness.{IsRunOfAssignment}
 use Rattle.witness_replay.proofs.FamilyLemmas.{all_left}
 use Rattle.witness_replay.proofs.ModelLemmas.{cut_refutation, model_violates}
 use Rattle.witness_replay.proofs.witness.witness_of.Goals as goal
@@ -35,7 +35,7 @@ cut_run-requires-clause-violates c =
     let x = c.args.a.now in
     let v = valuation c.args.s.now in
     let whole = c.in_ok-whole.whole in
-    let is_run : IsRunOf x (variables_of c.args.property x) v whole = subst (λ (vars : Variables). IsRunOf x vars v whole) c.in_ok-vars.ensures.exact c.in_ok-whole.ensures.run in
+    let is_run : IsRunOfAssignment x (variables_of c.args.property x) v whole = subst (λ (vars : Variables). IsRunOfAssignment x vars v whole) c.in_ok-vars.ensures.exact c.in_ok-whole.ensures.run in
     subst (λ (y : Expanded). Violates c.args.property y whole) (sym c.expanded.ensures.same)
     (model_violates c.known_exactly_if_some_event_binds.ensures.known c.known_exactly_if_some_event_binds.ensures.history c.args.property x v whole is_run c.requires.satisfied)
 
@@ -45,8 +45,8 @@ returns c =
     let property = c.args.property in
     let v = valuation c.args.s.now in
     let whole = c.in_ok-whole.whole in
-    let is_run : IsRunOf x (variables_of property x) v whole = subst (λ (vars : Variables). IsRunOf x vars v whole) c.in_ok-vars.ensures.exact c.in_ok-whole.ensures.run in
-    IfOk-weaker c.cut_run.result (IsCut property c.expanded.result.now whole) (IsRefutation property x v)
+    let is_run : IsRunOfAssignment x (variables_of property x) v whole = subst (λ (vars : Variables). IsRunOfAssignment x vars v whole) c.in_ok-vars.ensures.exact c.in_ok-whole.ensures.run in
+    IfOk-weaker c.cut_run.result (IsCut property c.expanded.result.now whole) (IsCounterexample property x v)
     (λ run cut.
     cut_refutation c.known_exactly_if_some_event_binds.ensures.known c.known_exactly_if_some_event_binds.ensures.history c.prefix_is_legal.ensures.run c.violated_does_not_hold.ensures property x v whole run is_run c.in_ok-whole.ensures.legal c.requires.satisfied
     (subst (λ (y : Expanded). IsCut property y whole run) c.expanded.ensures.same cut))

@@ -5,7 +5,7 @@ use Rattle.std.proofs.lemmas.Result.{err_from_is_err_and}
 use Rattle.bspl_types.specs.History.{instance_of}
 use Rattle.local_store.specs.State.{StoreState}
 use Rattle.stamped_history.specs.Local.{IsLocal}
-use Rattle.role_journal.specs.Journal.{Keeps}
+use Rattle.role_journal.specs.Journal.{KeepsJournal}
 use Rattle.durable_store.specs.Calls.{Acknowledged, BecomesSpent, Ends, HasRoom, HasWritten, appended_as}
 use Rattle.durable_store.specs.State.{DurableState}
 use Rattle.durable_store.proofs.AppendedLemmas.{IsAppending, IsNextEntry, cut_ends, cut_is_sound, done_ends, done_is_sound}
@@ -79,7 +79,7 @@ invariant_of-self-2 g c =
     let written : HasWritten seen may e s t = record {
       store = c.add_entry.ensures;
       unspent = refl;
-      keeps = subst (λ (u : StoreState). Keeps seen may t.disk u.entries) (sym c.add_entry.ensures) (c.in_ok-append.ensures.ok s.store.entries c.len.ensures.count (appending.sound.ready appending.room.unspent).keeps);
+      keeps = subst (λ (u : StoreState). KeepsJournal seen may t.disk u.entries) (sym c.add_entry.ensures) (c.in_ok-append.ensures.ok s.store.entries c.len.ensures.count (appending.sound.ready appending.room.unspent).keeps);
     } in
     done_is_sound seen may clock since counts s t e appending written (c.in_ok-append.ensures.costs.still (λ failed. absurd (cc)))
 
@@ -105,6 +105,6 @@ returns-clause-ends g c =
     let written : HasWritten seen may e s t = record {
       store = c.add_entry.ensures;
       unspent = refl;
-      keeps = subst (λ (u : StoreState). Keeps seen may t.disk u.entries) (sym c.add_entry.ensures) (c.in_ok-append.ensures.ok s.store.entries c.len.ensures.count (appending.sound.ready appending.room.unspent).keeps);
+      keeps = subst (λ (u : StoreState). KeepsJournal seen may t.disk u.entries) (sym c.add_entry.ensures) (c.in_ok-append.ensures.ok s.store.entries c.len.ensures.count (appending.sound.ready appending.room.unspent).keeps);
     } in
     subst (λ (u : DurableState X). Ends seen may clock since (Acknowledged e) u t) c.self.view_is (done_ends seen may clock since counts s t e appending written)
