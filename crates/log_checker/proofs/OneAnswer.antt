@@ -11,7 +11,7 @@ use Rattle.log_checker.specs.declared.refusal.Reject.{Reject}
 use Rattle.log_checker.specs.declared.refusal.Reject.TheVariants.{NoClause, NoPivot, NoDrop, NotEmpty, NoMemory}
 use Rattle.log_checker.specs.FirstFailure.{FailsAt, LacksEmpty, FailsFirst}
 use Rattle.log_checker.specs.Derivation.{IsAcceptedWith}
-use Rattle.log_checker.specs.inner.Stops.{AcceptsClauses, AcceptsClausesWith, ClausesStop, LogStops}
+use Rattle.log_checker.specs.inner.Stops.{AcceptsClausesWith, ClausesStop, LogStops}
 use Rattle.log_checker.proofs.Running.{runs_one}
 use Rattle.log_checker.proofs.FailingEntries.{Stops, failure_blocks, failures_meet}
 
@@ -83,10 +83,6 @@ rejects_exactly agree f log (Err reject) accepts stops memory e =
     (λ is. let same : reject ≡ e = cc in rw same at fails, λ other. ap Err (one_failure agree f log reject e fails other))
 
 -- what is said of clauses is said of each formula that has them
-pub accepted_for : (clauses : List (List Lit)) (f : Formula) (log : Log) (r : Result (Unit {0}) Reject) → f.clauses ≡ clauses → OnOk r (AcceptsClauses clauses log) → OnOk r (Accepts f log)
-accepted_for clauses f log (Ok done) same accepts = accepts f same
-accepted_for clauses f log (Err reject) same accepts = tt
-
 pub stops_for : {X : Type 0} → (clauses : List (List Lit)) (f : Formula) (log : Log) (r : Result X Reject) → f.clauses ≡ clauses → IfErr r (ClausesStop clauses log) → IfErr r (LogStops f log)
 stops_for clauses f log (Ok done) same stops = tt
 stops_for clauses f log (Err reject) same stops = stops f same

@@ -1,5 +1,5 @@
 -- What is accepted has no solution.
-use Rattle.std.proofs.Common.{◌≡◌, zero, suc, Option, Some, None, sym, subst, ◌∙◌, get_or, Result, Ok, Err, OnOk, ℕ, ◌-◌, Bool, List, [], ◌∷◌, ◌++◌, arith, slice_set}
+use Rattle.std.proofs.Common.{◌≡◌, zero, suc, Option, Some, None, sym, subst, ◌∙◌, get_or, ℕ, ◌-◌, Bool, List, [], ◌∷◌, ◌++◌, arith, slice_set}
 use Rattle.std.specs.List.{AllByRecursion}
 use Rattle.std.proofs.lemmas.Bool.{cond-false, ne_eqb}
 use Rattle.std.proofs.lemmas.List.Elements.{All-contains, All-append, All-from_recursion, recursion_from_All}
@@ -16,8 +16,6 @@ use Rattle.refutation_log.specs.declared.refutation.Log.{Log}
 use Rattle.refutation_log.specs.Entries.{entries}
 use Rattle.refutation_log.specs.Ledger.{Ledger, all_live, without, without_all, IsLive}
 use Rattle.refutation_log.specs.Resolution.{Folds, Derives, Runs, Accepts}
-use Rattle.log_checker.specs.declared.refusal.Reject.{Reject}
-use Rattle.log_checker.specs.FirstFailure.{AcceptedIsUnsatisfiable}
 
 -- the clause is satisfied, if there is one
 abbrev Holds : (ℕ → Bool) → Option (List Lit) → Type 0
@@ -87,7 +85,3 @@ accepted_unsatisfiable follows f log accepts v all =
     let derived = all_satisfied follows v (all_live f.clauses) accepts.resolves.ledger (entries log) accepts.derived start accepts.resolves.runs in
     let both = All-append (Satisfies v) f.clauses accepts.derived all (All-from_recursion (Satisfies v) accepts.derived derived) in
     empty_not_satisfied v (All-contains (Satisfies v) (f.clauses ++ accepts.derived) [] both accepts.empty)
-
-pub sound_on_ok : AcceptedIsUnsatisfiable → (f : Formula) (log : Log) (r : Result (Unit {0}) Reject) → OnOk r (Accepts f log) → OnOk r (IsUnsatisfiable f.clauses)
-sound_on_ok sound f log (Ok done) accepts = sound f log accepts
-sound_on_ok sound f log (Err reject) accepts = tt

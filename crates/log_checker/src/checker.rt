@@ -1,15 +1,14 @@
-ghost use Rattle.std.specs.Prelude.{◌≡◌, ◌≢◌, ◌+◌, ◌^◌, ◌<◌, ◌↔◌, length, All, OnOk, IfErr, IsOkUnless};
-ghost use Rattle.clause_core.specs.Clause.{IsUnsatisfiable, VariablesExist};
-ghost use Rattle.order_clauses.specs.Formula.{whole};
+ghost use Rattle.std.specs.Prelude.{◌≡◌, ◌≢◌, ◌+◌, ◌^◌, ◌<◌, ◌↔◌, length, OnOk, IsOkUnless};
+ghost use Rattle.clause_core.specs.Clause.{IsUnsatisfiable};
+ghost use Rattle.order_axioms.specs.Formula.{whole};
 ghost use Rattle.refutation_log.specs.Resolution.{Accepts};
 ghost use Rattle.log_checker.specs.FirstFailure.{FailsFirst};
-ghost use Rattle.log_checker.specs.inner.Stops.{AcceptsClauses, ClausesStop};
 
+use super::derivation::derived_from;
 use super::laws::accepted_is_unsatisfiable;
-use super::log_run::run_log;
 use super::refusal::Reject;
 use clause_core::{Formula, resolvents_agree};
-use order_clauses::{FormulaClauses, OrderedFormula};
+use order_axioms::{FormulaClauses, OrderedFormula};
 use refutation_log::Log;
 use std::alloc::Global;
 
@@ -30,7 +29,9 @@ pub fn check_log(alloc: Global, f: &Formula, log: &Log) -> Result<(), Reject>
     resolvents_agree();
     // law: no valuation satisfies a formula for which a log is accepted
     accepted_is_unsatisfiable();
-    checked(alloc, f.vars, FormulaClauses::plain(alloc, f)?, log)
+    let clauses = FormulaClauses::plain(alloc, f)?;
+    let _derived = derived_from(alloc, f.vars, clauses, log)?;
+    Ok(())
 }
 
 /// The same check against a formula with an order, whose clauses are never stored.
@@ -48,25 +49,7 @@ pub fn check_ordered_log(alloc: Global, f: &OrderedFormula, log: &Log) -> Result
     resolvents_agree();
     // law: no valuation satisfies a formula for which a log is accepted
     accepted_is_unsatisfiable();
-    checked(
-        alloc,
-        f.stored.vars,
-        FormulaClauses::ordered(alloc, f)?,
-        log,
-    )
-}
-
-/// The same check of a formula's clauses; each answer comes only for its cause.
-fn checked(alloc: Global, vars: u32, clauses: FormulaClauses<'_>, log: &Log) -> Result<(), Reject>
-    requires few { length clauses + length log.now.steps < 2 ^ 32 }
-    requires exist { All (VariablesExist vars) clauses }
-    ensures ok { OnOk result (AcceptsClauses clauses.entry log.now) }
-    ensures err { IfErr result (ClausesStop clauses.entry log.now) }
-{
-    let table = run_log(alloc, vars, clauses, log)?;
-    if table.has_empty() {
-        Ok(())
-    } else {
-        Err(Reject::NotEmpty)
-    }
+    let clauses = FormulaClauses::ordered(alloc, f)?;
+    let _derived = derived_from(alloc, f.stored.vars, clauses, log)?;
+    Ok(())
 }

@@ -3,10 +3,10 @@ ghost use Rattle.clause_core.specs.Numbering.{numbered, HasNumber, live};
 ghost use Rattle.refutation_log.specs.Ledger.{all_live, without, IsLive};
 ghost use Rattle.log_checker.specs.ChainFailure.{HasNoClause};
 
-use super::lookup::{any_empty, clause_of};
+use super::lookup::{clause_of, has_empty};
 use clause_core::{Clause, ClauseList};
 use list_base::{NoMemory, Seq};
-use order_clauses::{FormulaClauses, LentClause};
+use order_axioms::{FormulaClauses, LentClause};
 use std::alloc::Global;
 use std::marker::Model;
 
@@ -67,7 +67,7 @@ impl<'a> ClauseTable<'a> {
     pub fn has_empty(&self) -> bool
         ensures { IsTrue result ↔ Contains (self.now.formula ++ self.now.derived) [] }
     {
-        any_empty(&self.formula, self.derived.as_slice())
+        has_empty(&self.formula, self.derived.as_slice())
     }
 
     /// The live clause of the number.

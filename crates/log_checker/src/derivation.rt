@@ -8,7 +8,7 @@ ghost use Rattle.log_checker.specs.inner.Stops.{AcceptsClausesWith, ClausesStop}
 use super::log_run::run_log;
 use super::refusal::Reject;
 use clause_core::{ClauseList, Formula, resolvents_agree};
-use order_clauses::FormulaClauses;
+use order_axioms::FormulaClauses;
 use refutation_log::Log;
 use std::alloc::Global;
 
@@ -29,7 +29,7 @@ pub fn derived_clauses(alloc: Global, f: &Formula, log: &Log) -> Result<ClauseLi
 }
 
 /// The same over a formula's clauses; each answer comes only for its cause.
-fn derived_from(
+pub fn derived_from(
     alloc: Global,
     vars: u32,
     clauses: FormulaClauses<'_>,

@@ -14,7 +14,7 @@ use super::clause_table::ClauseTable;
 use super::mark_table::MarkTable;
 use super::refusal::{ChainError, Reject};
 use super::removals::remove_all;
-use order_clauses::FormulaClauses;
+use order_axioms::FormulaClauses;
 use refutation_log::{Chain, EntryRef, Log, entries_append};
 use std::alloc::Global;
 

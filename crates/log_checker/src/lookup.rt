@@ -3,7 +3,7 @@ ghost use Rattle.clause_core.specs.Numbering.{numbered, HasNumber};
 ghost use Rattle.log_checker.specs.ChainFailure.{HasNoClause};
 
 use clause_core::Clause;
-use order_clauses::{FormulaClauses, LentClause};
+use order_axioms::{FormulaClauses, LentClause, any_empty};
 
 /// The clause of the number: the formula's clauses come first, then the derived ones.
 pub fn clause_of<'a>(
@@ -26,15 +26,8 @@ pub fn clause_of<'a>(
 }
 
 /// Whether a clause of the formula or a derived one is empty.
-pub fn any_empty(formula: &FormulaClauses<'_>, derived: &[Clause]) -> bool
+pub fn has_empty(formula: &FormulaClauses<'_>, derived: &[Clause]) -> bool
     ensures { IsTrue result ↔ Contains (formula.now ++ derived.now) [] }
 {
-    formula.has_empty() || has_empty(derived)
-}
-
-/// Whether one of the clauses is empty.
-fn has_empty(clauses: &[Clause]) -> bool
-    ensures { IsTrue result ↔ Contains clauses.now [] }
-{
-    clauses.iter().any(|clause| clause.lits().is_empty())
+    formula.has_empty() || any_empty(derived)
 }

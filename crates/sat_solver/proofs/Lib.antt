@@ -3,7 +3,6 @@ mod ConflictLemmas
 mod CurrentLemmas
 mod EntryLemmas
 mod GatheringLemmas
-mod GivenLemmas
 mod GrowthLemmas
 mod LearningLemmas
 mod LevelLemmas

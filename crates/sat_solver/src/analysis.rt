@@ -8,10 +8,10 @@ ghost use Rattle.sat_solver.specs.inner.Analysis.{IsLearned, IsLowerLevel, Refut
 ghost use Rattle.sat_solver.specs.inner.Gathered.{IsDerivationOf, Gathers, StepsOver, Asserts};
 
 use super::false_lits::{FalseLits, is_current, others_are_lower};
+use super::implication::ImpliedLits;
 use clause_core::{Clause, Lit, equal_members, lists_have_clauses};
-use implied_lits::ImpliedLits;
 use list_base::{NoMemory, Seq};
-use order_trail::OrderTrail;
+use order_propagator::OrderTrail;
 use refutation_log::{Chain, Link};
 use std::alloc::Global;
 

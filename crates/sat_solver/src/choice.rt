@@ -3,7 +3,7 @@ ghost use Rattle.sat_solver.specs.inner.Choice.{IsFree, AllSet, AreSetUpTo};
 
 use super::decision_rule::DecisionRule;
 use clause_core::Lit;
-use order_trail::OrderTrail;
+use order_propagator::OrderTrail;
 
 /// The literal to decide: the one that the rule proposes, if it is unset, and else the negation of
 /// the lowest unset variable. The variables up to `lowest` are set until the next backjump.

@@ -5,7 +5,7 @@ use super::recent_clause::newest_unsatisfied;
 use super::variable_queue::VariableQueue;
 use clause_core::Lit;
 use list_base::NoMemory;
-use order_trail::OrderTrail;
+use order_propagator::OrderTrail;
 use std::alloc::Global;
 use std::marker::Model;
 

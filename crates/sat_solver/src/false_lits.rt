@@ -9,7 +9,7 @@ ghost use Rattle.sat_solver.specs.inner.Gathered.{AddsLiteral, AddsLiterals, Res
 use super::lit_set::LitSet;
 use clause_core::Lit;
 use list_base::NoMemory;
-use order_trail::OrderTrail;
+use order_propagator::OrderTrail;
 use std::alloc::Global;
 
 /// Literals that a trail makes false, with a count of those of the current level.

@@ -1,11 +1,11 @@
-ghost use Rattle.std.specs.Prelude.{◌≡◌, ◌↔◌, ◌^◌, ◌<◌, [], length, Contains, IfOk, IsTrue};
-ghost use Rattle.order_clauses.specs.Formula.{whole};
+ghost use Rattle.std.specs.Prelude.{◌≡◌, ◌^◌, ◌<◌, length, IfOk};
+ghost use Rattle.order_axioms.specs.Formula.{whole};
 ghost use Rattle.sat_trail.specs.Trail.{IsStart, IsTrail};
 
-use clause_core::{Clause, Formula};
+use clause_core::Formula;
 use list_base::NoMemory;
-use order_clauses::{Order, OrderedFormula, clauses_forbid_cycles};
-use order_trail::OrderTrail;
+use order_axioms::{FormulaClauses, Order, OrderedFormula};
+use order_propagator::OrderTrail;
 use std::alloc::Global;
 use std::marker::Model;
 
@@ -74,22 +74,13 @@ impl<'f> GivenFormula<'f> {
         }
     }
 
-    /// Whether one of its clauses is empty. None of an order is.
-    pub fn has_empty(&self) -> bool
-        ensures { IsTrue result ↔ Contains self.now.clauses [] }
+    /// Its clauses, which are lent one by one.
+    pub fn clauses(&self, alloc: Global) -> Result<FormulaClauses<'f>, NoMemory>
+        ensures { IfOk result (λ clauses. clauses ≡ self.now.clauses) }
     {
-        // law: each clause of an order forbids a cycle of three kinds
-        clauses_forbid_cycles();
         match &self.source {
-            FormulaSource::Plain(f) => any_empty(f.clauses.as_slice()),
-            FormulaSource::Ordered(f) => any_empty(f.stored.clauses.as_slice()),
+            FormulaSource::Plain(f) => FormulaClauses::plain(alloc, f),
+            FormulaSource::Ordered(f) => FormulaClauses::ordered(alloc, f),
         }
     }
-}
-
-/// Whether one of the clauses is empty.
-fn any_empty(clauses: &[Clause]) -> bool
-    ensures { IsTrue result ↔ Contains clauses.now [] }
-{
-    clauses.iter().any(|c| c.lits().is_empty())
 }

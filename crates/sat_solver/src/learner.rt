@@ -3,9 +3,9 @@ ghost use Rattle.std.specs.Prelude.{◌≡◌};
 use super::decision_rule::DecisionRule;
 use super::false_lits::FalseLits;
 use super::given_formula::GivenFormula;
-use implied_lits::ImpliedLits;
+use super::implication::ImpliedLits;
 use list_base::{NoMemory, Seq};
-use order_trail::OrderTrail;
+use order_propagator::OrderTrail;
 use refutation_log::{ChainList, Log};
 use std::alloc::Global;
 

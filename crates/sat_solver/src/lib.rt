@@ -7,6 +7,7 @@ mod conflict;
 mod decision_rule;
 mod false_lits;
 mod given_formula;
+mod implication;
 mod learner;
 mod lit_set;
 mod model;
@@ -15,6 +16,7 @@ mod recent_clause;
 mod search;
 mod search_stats;
 mod solver;
+mod var_marks;
 mod variable_queue;
 
 pub use outcome::Outcome;

@@ -7,7 +7,7 @@ ghost use Rattle.sat_solver.specs.inner.Choice.{AllSet, SatisfiesNumbered};
 
 use clause_core::Assignment;
 use list_base::{NoMemory, Seq};
-use order_trail::OrderTrail;
+use order_propagator::OrderTrail;
 use std::alloc::Global;
 
 /// The assignment that a trail gives if all variables are set and no clause is false.

@@ -1,7 +1,7 @@
 ghost use Rattle.clause_core.specs.Clause.{VariablesExist};
 
 use clause_core::Lit;
-use order_trail::OrderTrail;
+use order_propagator::OrderTrail;
 
 /// The last unset literal of the newest clause that is not satisfied (BerkMin, Goldberg and
 /// Novikov 2002). The clauses after `mark` are satisfied until the next backjump. The clauses of an

@@ -1,5 +1,5 @@
-ghost use Rattle.std.specs.Prelude.{◌+◌, ◌^◌, ◌<◌, ◌≤◌, [], length, IfOk, Contains};
-ghost use Rattle.order_clauses.specs.Formula.{whole};
+ghost use Rattle.std.specs.Prelude.{◌+◌, ◌^◌, ◌<◌, [], length, IfOk, Contains};
+ghost use Rattle.order_axioms.specs.Formula.{whole};
 ghost use Rattle.sat_solver.specs.Outcome.{IsOutcome};
 ghost use Rattle.sat_solver.specs.inner.Ending.{IsEnding};
 ghost use Rattle.sat_solver.specs.inner.Learner.{IsNewLearner};
@@ -11,7 +11,7 @@ use super::outcome::Outcome;
 use super::search_stats::SearchStats;
 use clause_core::{Assignment, Formula};
 use list_base::{NoMemory, Seq};
-use order_clauses::OrderedFormula;
+use order_axioms::OrderedFormula;
 use refutation_log::{Log, new_clause_appends, plain_resolves, step_appends};
 use std::alloc::Global;
 
@@ -30,7 +30,6 @@ pub enum Ending {
 /// more steps than the budget says. After the last of them the search goes on to the next conflict,
 /// and a model that it comes to before is the answer.
 pub fn solve(alloc: Global, f: &Formula, budget: u32) -> Result<Outcome, NoMemory>
-    requires some { 1 ≤ budget }
     requires few { length f.now.clauses + budget < 2 ^ 32 }
     ensures { IfOk result (IsOutcome f.now budget) }
 {
@@ -46,7 +45,6 @@ pub fn solve_counted(
     budget: u32,
     stats: &mut SearchStats,
 ) -> Result<Outcome, NoMemory>
-    requires some { 1 ≤ budget }
     requires few { length f.now.clauses + budget < 2 ^ 32 }
     ensures { IfOk result (IsOutcome f.now budget) }
 {
@@ -56,7 +54,6 @@ pub fn solve_counted(
 /// As `solve`, of a formula with an order. The order's clauses are not stored: one is made when it is
 /// unit or false in the search, which is a matter of speed and in no contract.
 pub fn solve_ordered(alloc: Global, f: &OrderedFormula, budget: u32) -> Result<Outcome, NoMemory>
-    requires some { 1 ≤ budget }
     requires few { length (whole f.now).clauses + budget < 2 ^ 32 }
     ensures { IfOk result (IsOutcome (whole f.now) budget) }
 {
@@ -71,13 +68,13 @@ fn solve_given(
     budget: u32,
     stats: &mut SearchStats,
 ) -> Result<Outcome, NoMemory>
-    requires some { 1 ≤ budget }
     requires few { length f.now.clauses + budget < 2 ^ 32 }
     ensures { IfOk result (IsOutcome f.now budget) }
 {
     // law: a log without removals resolves if each step derives its clause from all before it
     plain_resolves();
-    if f.has_empty() {
+    let clauses = f.clauses(alloc)?;
+    if clauses.has_empty() {
         return Ok(Outcome::Unsat(Log::plain(alloc, Seq::new(alloc))));
     }
     let mut learner = Learner::new(alloc, f)?;

@@ -4,7 +4,7 @@ ghost use Rattle.sat_solver.specs.inner.Queue.{AreLinks};
 
 use clause_core::Lit;
 use list_base::NoMemory;
-use order_trail::OrderTrail;
+use order_propagator::OrderTrail;
 use std::alloc::Global;
 
 /// The variables, those that were moved last at the front (VMTF: Ryan 2004, of the solver siege),

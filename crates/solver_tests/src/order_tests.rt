@@ -1,14 +1,13 @@
 ghost use Rattle.std.specs.Prelude.{◌≡◌, ◌<◌, [], ◌∷◌, IfOk};
 
 use super::formulas::lit;
-use adornment_check::admit;
 use bspl_parser::{parse, reads_back};
 use bspl_types::{Admitted, Expanded, Property, Refusal};
 use clause_core::Clause;
 use clause_encoding::{formula_of, ordered_formula_of};
 use list_base::{NoMemory, Seq};
-use order_clauses::{FormulaClauses, Order, OrderNumbers};
-use protocol_expand::expand;
+use order_axioms::{FormulaClauses, Order, OrderNumbers};
+use protocol_expand::{admit, expand};
 use std::alloc::Global;
 use std::test::Fail;
 

@@ -1,7 +1,7 @@
 ghost use Rattle.std.specs.Prelude.{◌≡◌, ◌<◌, None, All, IfOk, IsTrue, length};
 ghost use Rattle.std.specs.Bool.{OnTrue};
 ghost use Rattle.clause_core.specs.Clause.{VariablesExist};
-ghost use Rattle.order_clauses.specs.Order.{order_list};
+ghost use Rattle.order_axioms.specs.Order.{order_list};
 ghost use Rattle.sat_trail.specs.Entry.{values_of};
 ghost use Rattle.sat_trail.specs.State.{IsNumberUpTo};
 
@@ -9,8 +9,8 @@ use super::formulas::{clause, formula, lit};
 use super::trail_tests::{Call, Row, Set, Step};
 use clause_core::{Formula, Lit};
 use list_base::{NoMemory, Seq};
-use order_clauses::{Order, OrderNumbers};
-use order_trail::OrderTrail;
+use order_axioms::{Order, OrderNumbers};
+use order_propagator::OrderTrail;
 use std::alloc::Global;
 use std::test::Fail;
 

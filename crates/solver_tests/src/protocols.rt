@@ -1,9 +1,8 @@
 ghost use Rattle.std.specs.Prelude.{◌≡◌, [], ◌∷◌, IfOk};
 
-use adornment_check::admit;
 use bspl_parser::{parse, reads_back};
 use bspl_types::{Admitted, Expanded, NoMemory, Refusal, Seq};
-use protocol_expand::expand;
+use protocol_expand::{admit, expand};
 use std::alloc::Global;
 use std::test::Fail;
 

@@ -6,7 +6,6 @@ use Rattle.clause_core.specs.Numbering.{Numbering}
 use Rattle.refutation_log.specs.declared.refutation.Log.{Log}
 use Rattle.refutation_log.specs.declared.refutation.Entry.{Entry}
 use Rattle.refutation_log.specs.Ledger.{Ledger}
-use Rattle.refutation_log.specs.Resolution.{Accepts}
 use Rattle.refutation_log.specs.declared.refutation.Link.{Link}
 use Rattle.refutation_log.specs.declared.refutation.Chain.{Chain}
 use Rattle.log_checker.specs.declared.refusal.ChainError.{ChainError}
@@ -57,11 +56,7 @@ abbrev pub LogStops : Formula → Log → Reject → Type 0
 LogStops f log rejects.NoMemory = Unit {0}
 LogStops f log reject = FailsFirst f log reject
 
--- the log is accepted for a formula of these clauses
-abbrev pub AcceptsClauses : List (List Lit) → Log → Type 0
-AcceptsClauses clauses log = (f : Formula) → f.clauses ≡ clauses → Accepts f log
-
--- and its steps derive these
+-- the log is accepted for a formula of these clauses, and its steps derive these
 abbrev pub AcceptsClausesWith : List (List Lit) → Log → List (List Lit) → Type 0
 AcceptsClausesWith clauses log derived =
     (f : Formula) → f.clauses ≡ clauses → IsAcceptedWith f log derived

@@ -1,6 +1,6 @@
 -- What a formula is that is given with or without an order.
 use Rattle.clause_core.specs.declared.formula.Formula.{Formula}
-use Rattle.order_clauses.specs.Formula.{whole}
+use Rattle.order_axioms.specs.Formula.{whole}
 use Rattle.sat_solver.specs.declared.given_formula.FormulaSource.{FormulaSource}
 use Rattle.sat_solver.specs.declared.given_formula.FormulaSource.TheVariants.{Ordered, Plain}
 

@@ -1,5 +1,0 @@
--- Each call is one reason deeper.
-use Rattle.implied_lits.proofs.implication.ImpliedLits.+covers.Given as goal
-
-abbrev pub decreases-covers : goal.decreases-covers
-decreases-covers l = l.depth

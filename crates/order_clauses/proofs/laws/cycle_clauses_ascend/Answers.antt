@@ -1,6 +1,0 @@
--- The law, from its lemma.
-use Rattle.order_clauses.proofs.VariableLemmas.{cycle_ascends}
-use Rattle.order_clauses.proofs.laws.cycle_clauses_ascend.Goals as goal
-
-pub returns : goal.returns
-returns c = cycle_ascends

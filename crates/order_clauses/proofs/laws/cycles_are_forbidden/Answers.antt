@@ -1,6 +1,0 @@
--- The law, from its lemma.
-use Rattle.order_clauses.proofs.CoverLemmas.{cycle_forbidden}
-use Rattle.order_clauses.proofs.laws.cycles_are_forbidden.Goals as goal
-
-pub returns : goal.returns
-returns c = cycle_forbidden

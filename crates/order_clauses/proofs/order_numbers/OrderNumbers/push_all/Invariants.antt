@@ -1,7 +1,0 @@
--- The clauses that were passed are appended.
-use Rattle.std.proofs.Common.{◌≡◌, ◌++◌, take}
-use Rattle.order_clauses.specs.Order.{order_list}
-use Rattle.order_clauses.proofs.order_numbers.OrderNumbers.push_all.Given as goal
-
-abbrev pub invariant-loop-index : goal.invariant-loop-index
-invariant-loop-index l = l.clauses ≡ l.initial.clauses ++ take l.index (order_list l.self.order)

@@ -1,5 +1,0 @@
-mod BitLemmas
-mod KeepLemmas
-mod PairLemmas
-mod RowLemmas
-mod VariableLemmas

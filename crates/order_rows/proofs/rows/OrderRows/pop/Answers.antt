@@ -1,9 +1,0 @@
--- The last literal goes, and its bits with it.
-use Rattle.std.proofs.Common.{subst}
-use Rattle.order_rows.specs.inner.Rows.{IsKept}
-use Rattle.order_rows.proofs.KeepLemmas.{kept-pop}
-use Rattle.order_rows.proofs.rows.OrderRows.pop.Goals as goal
-
-pub invariant_of-self-2 : goal.invariant_of-self-2
-invariant_of-self-2 c = kept-pop c.self.inside.pairs c.pop.new.self.items c.in-Some.last c.self.inside.rows c.clear.new.self
-    (subst (λ ls. IsKept c.self.inside.pairs ls c.self.inside.rows) c.in-Some.ensures.items c.self.invariant) c.clear.ensures.some c.clear.ensures.none

@@ -1,4 +1,0 @@
--- What only private functions cite.
-pub mod Bits
-pub mod Pairs
-pub mod Rows

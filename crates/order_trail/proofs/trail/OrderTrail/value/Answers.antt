@@ -1,7 +1,0 @@
--- Other names of reasons leave the values.
-use Rattle.std.proofs.Common.{sym, ◌∙◌}
-use Rattle.order_trail.proofs.EntryLemmas.{value-renamed}
-use Rattle.order_trail.proofs.trail.OrderTrail.value.Goals as goal
-
-pub returns : goal.returns
-returns c = rw (← c.self.view_is) (c.value.ensures ∙ sym (value-renamed c.self.inside.named.names c.self.inside.named.trail.entries c.args.var))
