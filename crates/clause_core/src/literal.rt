@@ -1,5 +1,5 @@
 ghost use Rattle.std.specs.Prelude.{◌≡◌, ℕ, Bool, ◌↔◌};
-ghost use Rattle.clause_core.specs.Literal.{rank, negated, MakesTrue};
+ghost use Rattle.clause_core.specs.Literal.{rank, negated, positive, MakesTrue};
 
 use list_base::{NoMemory, TryClone};
 use smallvec::SmallVec;
@@ -37,5 +37,15 @@ impl Lit {
 impl TryClone for Lit {
     fn try_clone(&self) -> Result<Lit, NoMemory> {
         Ok(*self)
+    }
+}
+
+/// The literal that is true where the variable is.
+pub fn positive(var: u32) -> Lit
+    ensures { result ≡ positive var }
+{
+    Lit {
+        var,
+        positive: true,
     }
 }

@@ -6,8 +6,9 @@ use Rattle.std.proofs.lemmas.Bool.{cond_both, eq-eqb, false≢true}
 use Rattle.std.proofs.lemmas.List.Elements.{All-cons, All-map, All-nil, All-weaker}
 use Rattle.clause_core.specs.declared.literal.Lit.{Lit}
 use Rattle.clause_core.specs.Literal.{negated}
+use Rattle.clause_core.specs.Written.{Written}
 use Rattle.clause_encoding.specs.declared.variables.Variables.{Variables}
-use Rattle.clause_encoding.specs.Families.{Written, occurrence_clauses, order_clauses, order_of_three}
+use Rattle.clause_encoding.specs.Families.{occurrence_clauses, order_clauses, order_of_three}
 use Rattle.clause_encoding.specs.Variables.{IsKind, IsSmall, kinds_following, occurs, stands_before}
 use Rattle.clause_encoding.specs.inner.Occurrence.{occurrence_clause, occurrence_of_one, occurrence_of_two}
 use Rattle.clause_encoding.specs.inner.Order.{order_of_one, order_of_two}

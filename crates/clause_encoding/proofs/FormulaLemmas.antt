@@ -5,15 +5,13 @@ use Rattle.std.proofs.lemmas.List.Elements.{All-cons, All-contains, All-contains
 use Rattle.clause_core.specs.declared.literal.Lit.{Lit}
 use Rattle.clause_core.specs.Clause.{ClausesAreSets, HasExactly, IsClauseOf, Satisfies, SatisfiesAll, VariablesExist}
 use Rattle.clause_encoding.specs.declared.variables.Variables.{Variables}
-use Rattle.clause_encoding.specs.Families.{Written}
-use Rattle.clause_encoding.specs.Formula.{AreClausesOf}
 use Rattle.clause_encoding.specs.Variables.{variable_count}
-use Rattle.clause_encoding.specs.inner.Appends.{Appends}
+use Rattle.clause_core.specs.Written.{AppendsClauses, Written, AreClausesOf}
 use Rattle.clause_encoding.proofs.ExistenceLemmas.{ClauseExists}
 use Rattle.clause_encoding.proofs.VariableLemmas.{LitExists}
 
 -- what is appended to nothing is all
-pub all_appended : (clauses : List (List Lit)) (written : List Written) → Appends [] clauses written → AreClausesOf written clauses
+pub all_appended : (clauses : List (List Lit)) (written : List Written) → AppendsClauses [] clauses written → AreClausesOf written clauses
 all_appended clauses written appends = subst (AreClausesOf written) (sym appends.follows) appends.are
 
 -- there is a clause for each that is written
@@ -39,11 +37,11 @@ clauses_exist vars (lits ∷ written) (clause ∷ clauses) are exist =
     (clauses_exist vars written clauses are.1 (All-tail (ClauseExists vars) lits written exist))
 
 -- so have those that are appended to nothing
-pub appended_exist : (vars : Variables) (written : List Written) (clauses : List (List Lit)) → Appends [] clauses written → All (ClauseExists vars) written → All (VariablesExist (variable_count vars)) clauses
+pub appended_exist : (vars : Variables) (written : List Written) (clauses : List (List Lit)) → AppendsClauses [] clauses written → All (ClauseExists vars) written → All (VariablesExist (variable_count vars)) clauses
 appended_exist vars written clauses appends = clauses_exist vars written clauses (all_appended clauses written appends)
 
 -- and they are as many
-pub appended_count : (written : List Written) (clauses : List (List Lit)) → Appends [] clauses written → length clauses ≡ length written
+pub appended_count : (written : List Written) (clauses : List (List Lit)) → AppendsClauses [] clauses written → length clauses ≡ length written
 appended_count written clauses appends = as_many written clauses (all_appended clauses written appends)
 
 -- what satisfies the literals as written satisfies their clause

@@ -11,13 +11,14 @@ use Rattle.bspl_types.specs.Shape.{is_public_value}
 use Rattle.clause_encoding.specs.declared.wants.Want.{Want}
 use Rattle.clause_encoding.specs.Carriers.{in_parameters, is_in}
 use Rattle.clause_encoding.specs.Rest.{public_values, wants_by, wants_of}
-use Rattle.clause_encoding.specs.Variables.{message_numbers, positive}
+use Rattle.clause_encoding.specs.Variables.{message_numbers}
 use Rattle.clause_encoding.specs.inner.Lacking.{wanted_lits}
 use Rattle.clause_encoding.proofs.ClauseLengths.{few_added, few_messages, few_params}
 use Rattle.clause_encoding.proofs.ExistenceLemmas.{all_added, all_images}
 use Rattle.clause_encoding.proofs.KindLemmas.{numbers_known}
 use Rattle.clause_encoding.proofs.LengthLemmas.{length_filter}
 use Rattle.clause_encoding.proofs.RangeLemmas.{numbers_kept, numbers_more}
+use Rattle.clause_core.specs.Literal.{positive}
 
 -- few parameters are public
 pub few_values : (x : Expanded) → length (public_values x) ≤ 64

@@ -8,16 +8,16 @@ use Rattle.bspl_types.specs.declared.expanded.Expanded.{Expanded}
 use Rattle.bspl_types.specs.declared.property.Property.{Property}
 use Rattle.clause_core.specs.declared.literal.Lit.{Lit}
 use Rattle.clause_core.specs.Clause.{HasExactly, IsClauseOf}
-use Rattle.clause_core.specs.Literal.{negated}
+use Rattle.clause_core.specs.Literal.{negated, positive}
 use Rattle.list_base.proofs.Members.{cons_cases, here_same, only, there}
-use Rattle.order_clauses.specs.declared.order.Order.{Order}
-use Rattle.order_clauses.specs.Order.{AreRising, CycleClausesAscend, cycle_clause, cycles_of_one, cycles_of_three, cycles_of_two, order_list, pair_variable}
+use Rattle.order_axioms.specs.declared.order.Order.{Order}
+use Rattle.order_axioms.specs.Order.{AreRising, CycleClausesAscend, cycle_clause, cycles_of_one, cycles_of_three, cycles_of_two, order_list, pair_variable}
 use Rattle.clause_encoding.specs.declared.variables.Variables.{Variables}
-use Rattle.clause_encoding.specs.Families.{Written, delivery_clauses, freshness_clauses, occurrence_clauses, order_clauses, order_of_three, premise_clauses}
-use Rattle.clause_encoding.specs.Formula.{AreClausesOf, clauses_of, own_clauses, variables_of}
+use Rattle.clause_encoding.specs.Families.{delivery_clauses, freshness_clauses, occurrence_clauses, order_clauses, order_of_three, premise_clauses}
+use Rattle.clause_encoding.specs.Formula.{clauses_of, own_clauses, variables_of}
 use Rattle.clause_encoding.specs.Ordered.{IsOrderOf}
-use Rattle.clause_encoding.specs.Variables.{IsKind, kinds_following, order_variable, positive, stands_before}
-use Rattle.clause_encoding.specs.inner.Appends.{Appends}
+use Rattle.clause_encoding.specs.Variables.{IsKind, kinds_following, order_variable, stands_before}
+use Rattle.clause_core.specs.Written.{AppendsClauses, Written, AreClausesOf}
 use Rattle.clause_encoding.specs.inner.Order.{clauses_after_order, families_after_order, order_of_one, order_of_two}
 use Rattle.clause_encoding.proofs.AppendsLemmas.{joined}
 use Rattle.clause_encoding.proofs.ExistenceLemmas.{IsAfter, kind_after, later_kinds}
@@ -120,11 +120,11 @@ all_clauses property x =
     ap (λ written. written ++ own) four ∙ append_assoc order (families_after_order x vars) own
 
 -- the clauses of the order are appended
-pub appends_order : CycleClausesAscend → (o : Order) (vars : Variables) (old new : List (List Lit)) → IsOrderOf vars o → new ≡ old ++ order_list o → Appends old new (order_clauses vars)
+pub appends_order : CycleClausesAscend → (o : Order) (vars : Variables) (old new : List (List Lit)) → IsOrderOf vars o → new ≡ old ++ order_list o → AppendsClauses old new (order_clauses vars)
 appends_order ascend o vars old new is follows = record { added = order_list o; follows = follows; are = order_are ascend o vars is }
 
 -- the clauses of the order and then the others are those of the formula
-pub ordered_clauses : CycleClausesAscend → (property : Property) (x : Expanded) (o : Order) (rest : List (List Lit)) → IsOrderOf (variables_of property x) o → Appends [] rest (clauses_after_order property x) → Appends [] (order_list o ++ rest) (clauses_of property x)
+pub ordered_clauses : CycleClausesAscend → (property : Property) (x : Expanded) (o : Order) (rest : List (List Lit)) → IsOrderOf (variables_of property x) o → AppendsClauses [] rest (clauses_after_order property x) → AppendsClauses [] (order_list o ++ rest) (clauses_of property x)
 ordered_clauses ascend property x o rest is appends =
     let are : AreClausesOf (clauses_after_order property x) rest = subst (AreClausesOf (clauses_after_order property x)) (sym appends.follows) appends.are in
     record {
@@ -135,9 +135,9 @@ ordered_clauses ascend property x o rest is appends =
     }
 
 -- the same by other names of the protocol and the variables
-pub whole_clauses : CycleClausesAscend → (property : Property) (x y : Expanded) (vars : Variables) (o : Order) (rest : List (List Lit)) → y ≡ x → vars ≡ variables_of property x → IsOrderOf vars o → Appends [] rest (clauses_after_order property y) → Appends [] (order_list o ++ rest) (clauses_of property x)
+pub whole_clauses : CycleClausesAscend → (property : Property) (x y : Expanded) (vars : Variables) (o : Order) (rest : List (List Lit)) → y ≡ x → vars ≡ variables_of property x → IsOrderOf vars o → AppendsClauses [] rest (clauses_after_order property y) → AppendsClauses [] (order_list o ++ rest) (clauses_of property x)
 whole_clauses ascend property x y vars o rest same is is_order appends =
-    ordered_clauses ascend property x o rest (subst (λ (v : Variables). IsOrderOf v o) is is_order) (subst (λ (z : Expanded). Appends [] rest (clauses_after_order property z)) same appends)
+    ordered_clauses ascend property x o rest (subst (λ (v : Variables). IsOrderOf v o) is is_order) (subst (λ (z : Expanded). AppendsClauses [] rest (clauses_after_order property z)) same appends)
 
 -- what holds of all items holds of the later ones
 pub all_after : {X : Type 0} (P : X → Type 0) (xs ys : List X) → All P (xs ++ ys) → All P ys

@@ -11,7 +11,7 @@ use Rattle.clause_core.specs.Clause.{VariablesExist}
 use Rattle.clause_encoding.specs.Families.{shared_clauses}
 use Rattle.clause_encoding.specs.Formula.{clauses_of, own_clauses, variables_of}
 use Rattle.clause_encoding.specs.Variables.{variable_count}
-use Rattle.clause_encoding.specs.inner.Appends.{Appends}
+use Rattle.clause_core.specs.Written.{AppendsClauses}
 use Rattle.clause_encoding.specs.inner.Kinds.{AreOver}
 use Rattle.clause_encoding.proofs.ClauseLengths.{few_shared}
 use Rattle.clause_encoding.proofs.ExistenceLemmas.{ClauseExists}
@@ -36,7 +36,7 @@ few_own Safety x = few_rival_clauses x
 few_own Liveness x = omega (arith, few_rest x)
 
 -- the variables of all clauses exist
-pub formula_exists : (property : Property) (x : Expanded) (clauses : List (List Lit)) → Appends [] clauses (clauses_of property x) → All (VariablesExist (variable_count (variables_of property x))) clauses
+pub formula_exists : (property : Property) (x : Expanded) (clauses : List (List Lit)) → AppendsClauses [] clauses (clauses_of property x) → All (VariablesExist (variable_count (variables_of property x))) clauses
 formula_exists property x clauses appends =
     let vars = variables_of property x in
     appended_exist vars (clauses_of property x) clauses appends
@@ -49,7 +49,7 @@ clauses_few property x =
     omega (arith, few_shared x vars (variables_over property x).small.few_kinds, few_own property x, length-append (shared_clauses x vars) (own_clauses property x))
 
 -- and those of the formula are as many
-pub formula_few : (property : Property) (x : Expanded) (clauses : List (List Lit)) → Appends [] clauses (clauses_of property x) → length clauses ≤ 8000000
+pub formula_few : (property : Property) (x : Expanded) (clauses : List (List Lit)) → AppendsClauses [] clauses (clauses_of property x) → length clauses ≤ 8000000
 formula_few property x clauses appends =
     omega (arith, appended_count (clauses_of property x) clauses appends, clauses_few property x)
 

@@ -8,12 +8,12 @@ use Rattle.std.proofs.lemmas.List.FromFn.{length-enumerate_from}
 use Rattle.bspl_types.specs.declared.expanded.Expanded.{Expanded}
 use Rattle.bspl_types.specs.Expansion.{message_of}
 use Rattle.clause_core.specs.declared.literal.Lit.{Lit}
-use Rattle.clause_core.specs.Literal.{negated}
+use Rattle.clause_core.specs.Literal.{negated, positive}
 use Rattle.clause_encoding.specs.declared.wants.Want.{Want}
 use Rattle.clause_encoding.specs.Carriers.{binds, fresh_parameters, sender_carriers}
 use Rattle.clause_encoding.specs.Formula.{liveness_variables}
 use Rattle.clause_encoding.specs.Rest.{arrival_clauses, blockers, exhaustion_clause, exhaustion_clauses, public_values, rest_clauses, unbound_clauses, unbound_clauses_of, unbound_variables, want_clauses, want_clauses_of, want_variables, wanted_by, wants_of}
-use Rattle.clause_encoding.specs.Variables.{kind_count, message_numbers, occurs, positive, received, sent}
+use Rattle.clause_encoding.specs.Variables.{kind_count, message_numbers, occurs, received, sent}
 use Rattle.clause_encoding.specs.inner.Implications.{arrival_clause}
 use Rattle.clause_encoding.specs.inner.Kinds.{AreOver, IsOtherKind}
 use Rattle.clause_encoding.specs.inner.Lacking.{absence_clause}

@@ -4,11 +4,11 @@ use Rattle.std.specs.List.{All, flat_map}
 use Rattle.std.proofs.lemmas.List.Elements.{All-append, All-weaker}
 use Rattle.std.proofs.lemmas.List.FromFn.{length-enumerate_from}
 use Rattle.bspl_types.specs.declared.expanded.Expanded.{Expanded}
-use Rattle.clause_core.specs.Literal.{negated}
+use Rattle.clause_core.specs.Literal.{negated, positive}
 use Rattle.clause_encoding.specs.declared.rivals.Rivals.{Rivals}
 use Rattle.clause_encoding.specs.Formula.{safety_variables}
 use Rattle.clause_encoding.specs.Rivals.{rival_clauses, rivals_of, selected_is_sent, selectors}
-use Rattle.clause_encoding.specs.Variables.{kind_count, occurs, positive, sent}
+use Rattle.clause_encoding.specs.Variables.{kind_count, occurs, sent}
 use Rattle.clause_encoding.specs.inner.Kinds.{AreOver, AreWithin}
 use Rattle.clause_encoding.proofs.ClauseLengths.{few_added}
 use Rattle.clause_encoding.proofs.ExistenceLemmas.{ClauseExists, all_added, all_images, both_exist, two_exist}

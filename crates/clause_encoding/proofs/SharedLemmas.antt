@@ -5,14 +5,14 @@ use Rattle.bspl_types.specs.declared.expanded.Expanded.{Expanded}
 use Rattle.bspl_types.specs.declared.property.Property.TheVariants.{Safety}
 use Rattle.clause_core.specs.declared.literal.Lit.{Lit}
 use Rattle.clause_core.specs.Clause.{VariablesExist}
-use Rattle.order_clauses.specs.declared.order.Order.{Order}
-use Rattle.order_clauses.specs.Order.{CycleClausesAscend, order_list}
+use Rattle.order_axioms.specs.declared.order.Order.{Order}
+use Rattle.order_axioms.specs.Order.{CycleClausesAscend, order_list}
 use Rattle.clause_encoding.specs.declared.variables.Variables.{Variables}
-use Rattle.clause_encoding.specs.Families.{Written, delivery_clauses, freshness_clauses, occurrence_clauses, order_clauses, premise_clauses, shared_clauses}
-use Rattle.clause_encoding.specs.Formula.{AreClausesOf, safety_variables}
+use Rattle.clause_encoding.specs.Families.{delivery_clauses, freshness_clauses, occurrence_clauses, order_clauses, premise_clauses, shared_clauses}
+use Rattle.clause_encoding.specs.Formula.{safety_variables}
 use Rattle.clause_encoding.specs.Ordered.{IsOrderOf}
 use Rattle.clause_encoding.specs.Variables.{variable_count}
-use Rattle.clause_encoding.specs.inner.Appends.{Appends}
+use Rattle.clause_core.specs.Written.{AppendsClauses, Written, AreClausesOf}
 use Rattle.clause_encoding.specs.inner.Order.{families_after_order}
 use Rattle.clause_encoding.proofs.AppendsLemmas.{joined}
 use Rattle.clause_encoding.proofs.FamilyLemmas.{shared_exist}
@@ -33,17 +33,17 @@ shared_parts x vars =
     ap (λ written. written ++ freshness) three ∙ append_assoc order (occurrence ++ delivery ++ premises) freshness
 
 -- so are the clauses of them
-families_are : CycleClausesAscend → (x : Expanded) (vars : Variables) (o : Order) (rest : List (List Lit)) → IsOrderOf vars o → Appends [] rest (families_after_order x vars) → AreClausesOf (shared_clauses x vars) (order_list o ++ rest)
+families_are : CycleClausesAscend → (x : Expanded) (vars : Variables) (o : Order) (rest : List (List Lit)) → IsOrderOf vars o → AppendsClauses [] rest (families_after_order x vars) → AreClausesOf (shared_clauses x vars) (order_list o ++ rest)
 families_are ascend x vars o rest is appends =
     let are : AreClausesOf (families_after_order x vars) rest = subst (AreClausesOf (families_after_order x vars)) (sym appends.follows) appends.are in
     subst (λ (written : List Written). AreClausesOf written (order_list o ++ rest)) (sym (shared_parts x vars))
     (joined (order_clauses vars) (families_after_order x vars) (order_list o) rest (order_are ascend o vars is) are)
 
 -- the same by other names of the protocol and the variables
-pub whole_families : CycleClausesAscend → (x y : Expanded) (vars : Variables) (o : Order) (rest : List (List Lit)) → y ≡ x → vars ≡ safety_variables x → IsOrderOf vars o → Appends [] rest (families_after_order y vars) → AreClausesOf (shared_clauses x (safety_variables x)) (order_list o ++ rest)
+pub whole_families : CycleClausesAscend → (x y : Expanded) (vars : Variables) (o : Order) (rest : List (List Lit)) → y ≡ x → vars ≡ safety_variables x → IsOrderOf vars o → AppendsClauses [] rest (families_after_order y vars) → AreClausesOf (shared_clauses x (safety_variables x)) (order_list o ++ rest)
 whole_families ascend x y vars o rest same is is_order appends =
     subst (λ (v : Variables). AreClausesOf (shared_clauses x v) (order_list o ++ rest)) is
-    (families_are ascend x vars o rest is_order (subst (λ (z : Expanded). Appends [] rest (families_after_order z vars)) same appends))
+    (families_are ascend x vars o rest is_order (subst (λ (z : Expanded). AppendsClauses [] rest (families_after_order z vars)) same appends))
 
 -- their variables exist
 pub families_exist : (x : Expanded) (clauses : List (List Lit)) → AreClausesOf (shared_clauses x (safety_variables x)) clauses → All (VariablesExist (variable_count (safety_variables x))) clauses

@@ -3,9 +3,9 @@ use Rattle.std.proofs.Common.{◌≡◌, ◌≢◌, ℕ, zero, suc, ◌+◌, ◌
 use Rattle.std.specs.Prelude.{nat_lt}
 use Rattle.std.proofs.lemmas.Bool.{cond_both, ltb-true, ltb-false}
 use Rattle.clause_core.specs.declared.literal.Lit.{Lit}
-use Rattle.clause_core.specs.Literal.{negated}
+use Rattle.clause_core.specs.Literal.{negated, positive}
 use Rattle.clause_encoding.specs.declared.variables.Variables.{Variables}
-use Rattle.clause_encoding.specs.Variables.{IsKind, IsSmall, occurs, order_variable, positive, stands_before, variable_count}
+use Rattle.clause_encoding.specs.Variables.{IsKind, IsSmall, occurs, order_variable, stands_before, variable_count}
 
 -- the variable of the literal is one of those that there are
 abbrev pub LitExists : Variables → Lit → Type 0

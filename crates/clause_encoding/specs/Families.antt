@@ -5,13 +5,10 @@ use Rattle.bspl_types.specs.declared.expanded.Expanded.{Expanded}
 use Rattle.bspl_types.specs.Expansion.{message_of}
 use Rattle.clause_core.specs.declared.literal.Lit.{Lit}
 use Rattle.clause_core.specs.Literal.{negated}
+use Rattle.clause_core.specs.Written.{Written}
 use Rattle.clause_encoding.specs.declared.variables.Variables.{Variables}
 use Rattle.clause_encoding.specs.Carriers.{fresh_parameters, in_parameters, sender_carriers}
 use Rattle.clause_encoding.specs.Variables.{kinds_following, message_numbers, occurs, received, sent, stands_before}
-
--- a clause as it is written; its literals are those of a set
-abbrev pub Written : Type 0
-Written = List Lit
 
 -- of three kinds: i before j and j before k is i before k, and so from behind
 abbrev pub order_of_three : Variables → ℕ → ℕ → ℕ → List Written

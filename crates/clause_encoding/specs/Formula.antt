@@ -7,19 +7,12 @@ use Rattle.bspl_types.specs.declared.property.Property.TheVariants.{Liveness, Sa
 use Rattle.clause_core.specs.declared.formula.Formula.{Formula}
 use Rattle.clause_core.specs.declared.literal.Lit.{Lit}
 use Rattle.clause_core.specs.Clause.{IsClauseOf}
+use Rattle.clause_core.specs.Written.{Written, AreClausesOf}
 use Rattle.clause_encoding.specs.declared.variables.Variables.{Variables}
-use Rattle.clause_encoding.specs.Families.{Written, shared_clauses}
+use Rattle.clause_encoding.specs.Families.{shared_clauses}
 use Rattle.clause_encoding.specs.Rest.{public_values, rest_clauses, wants_of}
 use Rattle.clause_encoding.specs.Rivals.{rival_clauses, rivals_of}
 use Rattle.clause_encoding.specs.Variables.{kind_count, variable_count}
-
--- each clause has the literals of what is written, one by one in order
-abbrev pub AreClausesOf : List Written → List (List Lit) → Type 0
-AreClausesOf [] [] = Unit {0}
-AreClausesOf [] (clause ∷ clauses) = ⊥
-AreClausesOf (written ∷ others) [] = ⊥
-AreClausesOf (written ∷ others) (clause ∷ clauses) =
-    IsClauseOf written clause × AreClausesOf others clauses
 
 -- the last variable before those of order. After the kinds comes, for safety, a selector for each
 -- two rivals; for liveness, one for each public parameter that may be unbound, and then one for

@@ -5,8 +5,8 @@ use Rattle.bspl_types.specs.declared.expanded.Expanded.{Expanded}
 use Rattle.bspl_types.specs.declared.property.Property.{Property}
 use Rattle.clause_core.specs.declared.literal.Lit.{Lit}
 use Rattle.clause_core.specs.Clause.{SatisfiesAll}
-use Rattle.clause_encoding.specs.Families.{Written}
-use Rattle.clause_encoding.specs.Formula.{AreClausesOf, clauses_of, liveness_clauses, safety_clauses, variables_of}
+use Rattle.clause_core.specs.Written.{Written, AreClausesOf}
+use Rattle.clause_encoding.specs.Formula.{clauses_of, liveness_clauses, safety_clauses, variables_of}
 use Rattle.clause_encoding.specs.Variables.{IsSmall, variable_count}
 
 -- an assignment satisfies the clauses exactly if it satisfies what is written

@@ -4,12 +4,13 @@ use Rattle.bspl_types.specs.declared.expanded.Expanded.{Expanded}
 use Rattle.bspl_types.specs.declared.property.Property.{Property}
 use Rattle.clause_encoding.specs.declared.variables.Variables.{Variables}
 use Rattle.clause_core.specs.declared.formula.Formula.{Formula}
+use Rattle.clause_core.specs.Written.{AreClausesOf}
 use Rattle.clause_encoding.specs.Families.{shared_clauses}
-use Rattle.clause_encoding.specs.Formula.{AreClausesOf, IsFormula, safety_variables, variables_of}
+use Rattle.clause_encoding.specs.Formula.{IsFormula, safety_variables, variables_of}
 use Rattle.clause_encoding.specs.Variables.{variable_count}
-use Rattle.order_clauses.specs.declared.order.Order.{Order}
-use Rattle.order_clauses.specs.declared.ordered_formula.OrderedFormula.{OrderedFormula}
-use Rattle.order_clauses.specs.Formula.{whole}
+use Rattle.order_axioms.specs.declared.order.Order.{Order}
+use Rattle.order_axioms.specs.declared.ordered_formula.OrderedFormula.{OrderedFormula}
+use Rattle.order_axioms.specs.Formula.{whole}
 
 -- the order has the kinds of the formula, and its variables come where those of the formula do
 pub record IsOrderOf (vars : Variables) (order : Order) : Type 0 where

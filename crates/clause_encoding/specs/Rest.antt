@@ -4,11 +4,11 @@ use Rattle.std.specs.List.{enumerate_from, filter, flat_map}
 use Rattle.bspl_types.specs.declared.expanded.Expanded.{Expanded}
 use Rattle.bspl_types.specs.Expansion.{message_of}
 use Rattle.bspl_types.specs.Shape.{is_public_value}
-use Rattle.clause_core.specs.Literal.{negated}
+use Rattle.clause_core.specs.Literal.{negated, positive}
+use Rattle.clause_core.specs.Written.{Written}
 use Rattle.clause_encoding.specs.declared.wants.Want.{Want}
 use Rattle.clause_encoding.specs.Carriers.{binds, fresh_parameters, in_parameters, sender_carriers}
-use Rattle.clause_encoding.specs.Families.{Written}
-use Rattle.clause_encoding.specs.Variables.{kind_count, message_numbers, occurs, positive, received, sent}
+use Rattle.clause_encoding.specs.Variables.{kind_count, message_numbers, occurs, received, sent}
 
 -- the public parameters adorned `in` or `out`, in order
 abbrev pub public_values : Expanded → List ℕ

@@ -5,10 +5,10 @@ use Rattle.bspl_types.specs.declared.expanded.Expanded.{Expanded}
 use Rattle.bspl_types.specs.declared.protocol.Message.{Message}
 use Rattle.bspl_types.specs.Choice.{is_out}
 use Rattle.bspl_types.specs.Expansion.{message_of}
-use Rattle.clause_core.specs.Literal.{negated}
+use Rattle.clause_core.specs.Literal.{negated, positive}
+use Rattle.clause_core.specs.Written.{Written}
 use Rattle.clause_encoding.specs.declared.rivals.Rivals.{Rivals}
-use Rattle.clause_encoding.specs.Families.{Written}
-use Rattle.clause_encoding.specs.Variables.{kind_count, message_numbers, occurs, positive, sent}
+use Rattle.clause_encoding.specs.Variables.{kind_count, message_numbers, occurs, sent}
 
 -- the message adorns the parameter `out`
 abbrev pub produces : Message → ℕ → Bool

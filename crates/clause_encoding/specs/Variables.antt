@@ -1,9 +1,9 @@
 -- Event kinds of one enactment, and the variables and literals that speak of them.
-use Rattle.std.specs.Prelude.{ℕ, ◌+◌, ◌-◌, ◌*◌, ◌/◌, ◌<◌, ◌≤◌, true, nat_lt, if◌then◌else◌, List, length}
+use Rattle.std.specs.Prelude.{ℕ, ◌+◌, ◌-◌, ◌*◌, ◌/◌, ◌<◌, ◌≤◌, nat_lt, if◌then◌else◌, List, length}
 use Rattle.std.specs.List.{range_with_len}
 use Rattle.bspl_types.specs.declared.expanded.Expanded.{Expanded}
 use Rattle.clause_core.specs.declared.literal.Lit.{Lit}
-use Rattle.clause_core.specs.Literal.{negated}
+use Rattle.clause_core.specs.Literal.{negated, positive}
 use Rattle.clause_encoding.specs.declared.variables.Variables.{Variables}
 
 -- each message has two event kinds, so many in all
@@ -30,10 +30,6 @@ kinds_following vars kind = range_with_len (kind + 1) (vars.kinds - kind)
 pub record IsKind (vars : Variables) (kind : ℕ) : Type 0 where
   pub from_one : 0 < kind
   pub up_to : kind ≤ vars.kinds
-
--- the variable is true
-abbrev pub positive : ℕ → Lit
-positive v = record { var = v; positive = true }
 
 -- kind `i` occurs
 abbrev pub occurs : ℕ → Lit

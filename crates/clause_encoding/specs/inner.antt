@@ -1,7 +1,6 @@
 -- What only private functions cite.
 pub mod Chosen
 pub mod Kinds
-pub mod Appends
 pub mod Order
 pub mod Occurrence
 pub mod Implications

@@ -1,12 +1,10 @@
 ghost use Rattle.std.specs.Prelude.{OnOk};
 ghost use Rattle.clause_encoding.specs.Rest.{arrival_clauses};
-ghost use Rattle.clause_encoding.specs.inner.Appends.{Appends};
+ghost use Rattle.clause_core.specs.Written.{AppendsClauses};
 
-use super::clauses::push_clause;
 use super::kinds::{received, sent};
-use super::variables::positive;
 use bspl_types::Expanded;
-use clause_core::ClauseList;
+use clause_core::{ClauseList, positive, push_clause};
 use list_base::NoMemory;
 use std::alloc::Global;
 
@@ -16,7 +14,7 @@ pub(crate) fn push_arrival(
     alloc: Global,
     x: &Expanded,
 ) -> Result<(), NoMemory>
-    ensures { OnOk result (Appends clauses.old clauses.new (arrival_clauses x.now)) }
+    ensures { OnOk result (AppendsClauses clauses.old clauses.new (arrival_clauses x.now)) }
 {
     for m in 0..x.messages.len() as u32 {
         let lits = [positive(sent(m)).negation(), positive(received(m))];

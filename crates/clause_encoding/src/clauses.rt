@@ -1,25 +1,12 @@
 ghost use Rattle.std.specs.Prelude.{◌≡◌, ◌+◌, ◌^◌, ◌<◌, [], ◌∷◌, map, IfOk, OnOk};
 ghost use Rattle.std.specs.List.{range_with_len};
-ghost use Rattle.clause_encoding.specs.Variables.{positive};
-ghost use Rattle.clause_encoding.specs.inner.Appends.{Appends};
+ghost use Rattle.clause_core.specs.Written.{AppendsClauses};
+ghost use Rattle.clause_core.specs.Literal.{positive};
 ghost use Rattle.clause_encoding.specs.inner.Lacking.{absence_clause};
 
-use super::variables::positive;
-use clause_core::{Clause, ClauseList, Lit};
+use clause_core::{ClauseList, Lit, positive, push_clause};
 use list_base::{NoMemory, Seq};
 use std::alloc::Global;
-
-/// Appends the clause with these literals.
-pub(crate) fn push_clause(
-    clauses: &mut ClauseList,
-    alloc: Global,
-    lits: &[Lit],
-) -> Result<(), NoMemory>
-    ensures { OnOk result (Appends clauses.old clauses.new (lits.now ∷ [])) }
-{
-    clauses.push(Clause::of(alloc, lits)?)?;
-    Ok(())
-}
 
 /// Appends the clause that the kind does not occur if the variable is true.
 pub(crate) fn push_absence(
@@ -28,7 +15,7 @@ pub(crate) fn push_absence(
     var: u32,
     kind: u32,
 ) -> Result<(), NoMemory>
-    ensures { OnOk result (Appends clauses.old clauses.new (absence_clause var kind ∷ [])) }
+    ensures { OnOk result (AppendsClauses clauses.old clauses.new (absence_clause var kind ∷ [])) }
 {
     let lits = [positive(var).negation(), positive(kind).negation()];
     push_clause(clauses, alloc, &lits)

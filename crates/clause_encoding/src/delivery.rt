@@ -1,13 +1,12 @@
 ghost use Rattle.std.specs.Prelude.{OnOk};
 ghost use Rattle.clause_encoding.specs.Families.{delivery_clauses};
-ghost use Rattle.clause_encoding.specs.inner.Appends.{Appends};
+ghost use Rattle.clause_core.specs.Written.{AppendsClauses};
 ghost use Rattle.clause_encoding.specs.inner.Kinds.{AreOver};
 
-use super::clauses::push_clause;
 use super::kinds::{received, sent};
 use super::variables::Variables;
 use bspl_types::Expanded;
-use clause_core::ClauseList;
+use clause_core::{ClauseList, push_clause};
 use list_base::NoMemory;
 use std::alloc::Global;
 
@@ -19,7 +18,7 @@ pub(crate) fn push_delivery(
     vars: Variables,
 ) -> Result<(), NoMemory>
     requires { AreOver x.now vars }
-    ensures { OnOk result (Appends clauses.old clauses.new (delivery_clauses x.now vars)) }
+    ensures { OnOk result (AppendsClauses clauses.old clauses.new (delivery_clauses x.now vars)) }
 {
     for m in 0..x.messages.len() as u32 {
         let lits = [

@@ -2,17 +2,15 @@ ghost use Rattle.std.specs.Prelude.{◌≡◌, ◌+◌, ◌<◌, ◌≤◌, ◌+
 ghost use Rattle.clause_encoding.specs.Carriers.{sender_carriers};
 ghost use Rattle.clause_encoding.specs.Rest.{blockers, exhaustion_clause, exhaustion_clauses};
 ghost use Rattle.clause_encoding.specs.Variables.{occurs};
-ghost use Rattle.clause_encoding.specs.inner.Appends.{Appends};
+ghost use Rattle.clause_core.specs.Written.{AppendsClauses};
 ghost use Rattle.clause_encoding.specs.inner.Lacking.{AreWants, wanted_lits};
 
 use super::carriers::sender_carriers;
-use super::clauses::push_clause;
 use super::kinds::sent;
 use super::parameters::fresh_parameters;
-use super::variables::positive;
 use super::wants::Want;
 use bspl_types::Expanded;
-use clause_core::{ClauseList, Lit};
+use clause_core::{ClauseList, Lit, positive, push_clause};
 use list_base::{NoMemory, Seq};
 use std::alloc::Global;
 
@@ -25,7 +23,7 @@ pub(crate) fn push_exhaustion(
     wants: &[Want],
 ) -> Result<(), NoMemory>
     requires { AreWants x.now first wants.now }
-    ensures { OnOk result (Appends clauses.old clauses.new (exhaustion_clauses x.now)) }
+    ensures { OnOk result (AppendsClauses clauses.old clauses.new (exhaustion_clauses x.now)) }
 {
     for m in 0..x.messages.len() as u32 {
         let lits = exhaustion_clause(alloc, x, first, wants, m)?;

@@ -3,9 +3,9 @@ ghost use Rattle.clause_encoding.specs.Formula.{IsFormula, IsLivenessFormula, Is
 ghost use Rattle.clause_encoding.specs.Formula.{clauses_of, own_clauses, variables_of};
 ghost use Rattle.clause_encoding.specs.Ordered.{IsOrderedFormula, IsSharedFormula};
 ghost use Rattle.clause_encoding.specs.Variables.{IsSmall};
-ghost use Rattle.clause_encoding.specs.inner.Appends.{Appends};
+ghost use Rattle.clause_core.specs.Written.{AppendsClauses};
 ghost use Rattle.clause_encoding.specs.inner.Order.{clauses_after_order};
-ghost use Rattle.order_clauses.specs.Formula.{whole};
+ghost use Rattle.order_axioms.specs.Formula.{whole};
 
 use super::base::variables_of;
 use super::order::{order_of, push_order};
@@ -16,7 +16,7 @@ use super::variables::Variables;
 use bspl_types::{Admitted, Expanded, Property};
 use clause_core::{ClauseList, Formula};
 use list_base::{NoMemory, Seq};
-use order_clauses::{OrderedFormula, cycle_clauses_ascend};
+use order_axioms::{OrderedFormula, cycle_clauses_ascend};
 use std::alloc::Global;
 
 /// The formula of the protocol and the property: a run that shows that the protocol does not have
@@ -98,7 +98,7 @@ fn clauses_with(
 ) -> Result<ClauseList, NoMemory>
     requires exact { vars ≡ variables_of property x.now }
     requires small { IsSmall vars }
-    ensures { IfOk result (λ clauses. Appends [] clauses (clauses_of property x.now)) }
+    ensures { IfOk result (λ clauses. AppendsClauses [] clauses (clauses_of property x.now)) }
 {
     let mut clauses = Seq::new(alloc);
     push_order(&mut clauses, alloc, vars)?;
@@ -115,7 +115,7 @@ fn clauses_after_order(
 ) -> Result<ClauseList, NoMemory>
     requires exact { vars ≡ variables_of property x.now }
     requires small { IsSmall vars }
-    ensures { IfOk result (λ clauses. Appends [] clauses (clauses_after_order property x.now)) }
+    ensures { IfOk result (λ clauses. AppendsClauses [] clauses (clauses_after_order property x.now)) }
 {
     let mut clauses = Seq::new(alloc);
     push_after_order(&mut clauses, alloc, property, x, vars)?;
@@ -133,7 +133,7 @@ fn push_after_order(
     requires exact { vars ≡ variables_of property x.now }
     requires small { IsSmall vars }
     ensures { OnOk result
-        (Appends clauses.old clauses.new (clauses_after_order property x.now)) }
+        (AppendsClauses clauses.old clauses.new (clauses_after_order property x.now)) }
 {
     push_families(clauses, alloc, x, vars)?;
     push_own(clauses, alloc, property, x)
@@ -146,7 +146,7 @@ fn push_own(
     property: Property,
     x: &Expanded,
 ) -> Result<(), NoMemory>
-    ensures { OnOk result (Appends clauses.old clauses.new (own_clauses property x.now)) }
+    ensures { OnOk result (AppendsClauses clauses.old clauses.new (own_clauses property x.now)) }
 {
     match property {
         Property::Safety => push_rivals(clauses, alloc, x),

@@ -3,16 +3,15 @@ ghost use Rattle.std.specs.List.{flat_map};
 ghost use Rattle.bspl_types.specs.Expansion.{message_of};
 ghost use Rattle.clause_encoding.specs.Carriers.{fresh_parameters};
 ghost use Rattle.clause_encoding.specs.Families.{fresh_clauses_of, freshness_clauses};
-ghost use Rattle.clause_encoding.specs.inner.Appends.{Appends};
+ghost use Rattle.clause_core.specs.Written.{AppendsClauses};
 ghost use Rattle.clause_encoding.specs.inner.Kinds.{AreOver};
 
 use super::carriers::sender_carriers;
-use super::clauses::push_clause;
 use super::kinds::sent;
 use super::parameters::fresh_parameters;
 use super::variables::Variables;
 use bspl_types::Expanded;
-use clause_core::ClauseList;
+use clause_core::{ClauseList, push_clause};
 use list_base::NoMemory;
 use std::alloc::Global;
 
@@ -24,7 +23,7 @@ pub(crate) fn push_freshness(
     vars: Variables,
 ) -> Result<(), NoMemory>
     requires { AreOver x.now vars }
-    ensures { OnOk result (Appends clauses.old clauses.new (freshness_clauses x.now vars)) }
+    ensures { OnOk result (AppendsClauses clauses.old clauses.new (freshness_clauses x.now vars)) }
 {
     for m in 0..x.messages.len() as u32 {
         push_freshness_of(clauses, alloc, x, vars, m)?;
@@ -43,7 +42,7 @@ fn push_freshness_of(
     requires over { AreOver x.now vars }
     requires known { m < length x.now.messages }
     ensures { let params = fresh_parameters (message_of x.now m) in OnOk result
-        (Appends clauses.old clauses.new (flat_map (fresh_clauses_of x.now vars m) params)) }
+        (AppendsClauses clauses.old clauses.new (flat_map (fresh_clauses_of x.now vars m) params)) }
 {
     let params = fresh_parameters(alloc, x.message_at(m))?;
     for param in params.as_slice() {
@@ -64,7 +63,7 @@ fn push_freshness_for(
     requires over { AreOver x.now vars }
     requires known { m < length x.now.messages }
     ensures { OnOk result
-        (Appends clauses.old clauses.new (fresh_clauses_of x.now vars m param)) }
+        (AppendsClauses clauses.old clauses.new (fresh_clauses_of x.now vars m param)) }
 {
     let carriers = sender_carriers(alloc, x, m, param)?;
     let emission = sent(m);

@@ -1,12 +1,11 @@
 ghost use Rattle.std.specs.Prelude.{OnOk};
 ghost use Rattle.clause_encoding.specs.Families.{occurrence_clauses};
 ghost use Rattle.clause_encoding.specs.Variables.{IsKind, IsSmall};
-ghost use Rattle.clause_encoding.specs.inner.Appends.{Appends};
+ghost use Rattle.clause_core.specs.Written.{AppendsClauses};
 ghost use Rattle.clause_encoding.specs.inner.Occurrence.{occurrence_of_one, occurrence_of_two};
 
-use super::clauses::push_clause;
 use super::variables::Variables;
-use clause_core::ClauseList;
+use clause_core::{ClauseList, push_clause};
 use list_base::NoMemory;
 use std::alloc::Global;
 
@@ -17,7 +16,7 @@ pub(crate) fn push_occurrence(
     vars: Variables,
 ) -> Result<(), NoMemory>
     requires { IsSmall vars }
-    ensures { OnOk result (Appends clauses.old clauses.new (occurrence_clauses vars)) }
+    ensures { OnOk result (AppendsClauses clauses.old clauses.new (occurrence_clauses vars)) }
 {
     for i in 1..vars.kinds + 1 {
         push_occurrence_of_one(clauses, alloc, vars, i)?;
@@ -34,7 +33,7 @@ fn push_occurrence_of_one(
 ) -> Result<(), NoMemory>
     requires small { IsSmall vars }
     requires kind { IsKind vars i }
-    ensures { OnOk result (Appends clauses.old clauses.new (occurrence_of_one vars i)) }
+    ensures { OnOk result (AppendsClauses clauses.old clauses.new (occurrence_of_one vars i)) }
 {
     for j in 1..vars.kinds + 1 {
         push_occurrence_of_two(clauses, alloc, vars, i, j)?;
@@ -52,7 +51,7 @@ fn push_occurrence_of_two(
 ) -> Result<(), NoMemory>
     requires small { IsSmall vars }
     requires kinds { (IsKind vars i) × (IsKind vars j) }
-    ensures { OnOk result (Appends clauses.old clauses.new (occurrence_of_two vars i j)) }
+    ensures { OnOk result (AppendsClauses clauses.old clauses.new (occurrence_of_two vars i j)) }
 {
     if j == i {
         return Ok(());

@@ -2,12 +2,12 @@ ghost use Rattle.std.specs.Prelude.{OnOk};
 ghost use Rattle.clause_encoding.specs.Families.{order_clauses};
 ghost use Rattle.clause_encoding.specs.Ordered.{IsOrderOf};
 ghost use Rattle.clause_encoding.specs.Variables.{IsSmall};
-ghost use Rattle.clause_encoding.specs.inner.Appends.{Appends};
+ghost use Rattle.clause_core.specs.Written.{AppendsClauses};
 
 use super::variables::Variables;
 use clause_core::ClauseList;
 use list_base::NoMemory;
-use order_clauses::{Order, OrderNumbers, cycle_clauses_ascend};
+use order_axioms::{Order, OrderNumbers, cycle_clauses_ascend};
 use std::alloc::Global;
 
 /// The order of the kinds, whose variables are the last ones.
@@ -28,7 +28,7 @@ pub(crate) fn push_order(
     vars: Variables,
 ) -> Result<(), NoMemory>
     requires { IsSmall vars }
-    ensures { OnOk result (Appends clauses.old clauses.new (order_clauses vars)) }
+    ensures { OnOk result (AppendsClauses clauses.old clauses.new (order_clauses vars)) }
 {
     // law: the literals of a clause that forbids a cycle ascend
     cycle_clauses_ascend();

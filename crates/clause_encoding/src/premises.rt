@@ -2,16 +2,15 @@ ghost use Rattle.std.specs.Prelude.{◌≡◌, ◌<◌, length, map, IfOk, OnOk}
 ghost use Rattle.bspl_types.specs.Expansion.{message_of};
 ghost use Rattle.clause_encoding.specs.Carriers.{in_parameters};
 ghost use Rattle.clause_encoding.specs.Families.{premise_clause, premise_clauses};
-ghost use Rattle.clause_encoding.specs.inner.Appends.{Appends};
+ghost use Rattle.clause_core.specs.Written.{AppendsClauses};
 ghost use Rattle.clause_encoding.specs.inner.Kinds.{AreOver};
 
 use super::carriers::sender_carriers;
-use super::clauses::push_clause;
 use super::kinds::sent;
 use super::parameters::in_parameters;
 use super::variables::Variables;
 use bspl_types::Expanded;
-use clause_core::{ClauseList, Lit};
+use clause_core::{ClauseList, Lit, push_clause};
 use list_base::{NoMemory, Seq};
 use std::alloc::Global;
 
@@ -23,7 +22,7 @@ pub(crate) fn push_premises(
     vars: Variables,
 ) -> Result<(), NoMemory>
     requires { AreOver x.now vars }
-    ensures { OnOk result (Appends clauses.old clauses.new (premise_clauses x.now vars)) }
+    ensures { OnOk result (AppendsClauses clauses.old clauses.new (premise_clauses x.now vars)) }
 {
     for m in 0..x.messages.len() as u32 {
         push_premises_of(clauses, alloc, x, vars, m)?;
@@ -42,7 +41,7 @@ fn push_premises_of(
     requires over { AreOver x.now vars }
     requires known { m < length x.now.messages }
     ensures { let params = in_parameters (message_of x.now m) in OnOk result
-        (Appends clauses.old clauses.new (map (premise_clause x.now vars m) params)) }
+        (AppendsClauses clauses.old clauses.new (map (premise_clause x.now vars m) params)) }
 {
     let params = in_parameters(alloc, x.message_at(m))?;
     for param in params.as_slice() {

@@ -1,18 +1,18 @@
 ghost use Rattle.std.specs.Prelude.{OnOk};
 ghost use Rattle.clause_encoding.specs.Rest.{rest_clauses};
-ghost use Rattle.clause_encoding.specs.inner.Appends.{Appends};
+ghost use Rattle.clause_core.specs.Written.{AppendsClauses};
 ghost use Rattle.clause_encoding.specs.inner.Lacking.{AreValuesAndWants};
 
 use super::arrival::push_arrival;
 use super::base::kind_count;
-use super::clauses::{positive_lits, push_clause};
+use super::clauses::positive_lits;
 use super::exhaustion::push_exhaustion;
 use super::parameters::public_values;
 use super::unbound::push_unbound;
 use super::want::push_wants;
 use super::wants::{Want, wants_of};
 use bspl_types::Expanded;
-use clause_core::ClauseList;
+use clause_core::{ClauseList, push_clause};
 use list_base::NoMemory;
 use std::alloc::Global;
 
@@ -22,7 +22,7 @@ pub(crate) fn push_rest(
     alloc: Global,
     x: &Expanded,
 ) -> Result<(), NoMemory>
-    ensures { OnOk result (Appends clauses.old clauses.new (rest_clauses x.now)) }
+    ensures { OnOk result (AppendsClauses clauses.old clauses.new (rest_clauses x.now)) }
 {
     let values = public_values(alloc, x)?;
     let wants = wants_of(alloc, x)?;
@@ -38,7 +38,7 @@ fn push_rest_on(
     wants: &[Want],
 ) -> Result<(), NoMemory>
     requires { AreValuesAndWants x.now values.now wants.now }
-    ensures { OnOk result (Appends clauses.old clauses.new (rest_clauses x.now)) }
+    ensures { OnOk result (AppendsClauses clauses.old clauses.new (rest_clauses x.now)) }
 {
     let first_value = kind_count(x) + 1;
     let first_want = first_value + values.len() as u32;

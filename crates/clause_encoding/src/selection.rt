@@ -1,17 +1,16 @@
 ghost use Rattle.std.specs.Prelude.{◌≤◌, ◌<◌, ◌++◌, [], ◌∷◌, length, OnOk};
 ghost use Rattle.std.specs.List.{All};
 ghost use Rattle.clause_encoding.specs.Rivals.{rival_clauses, selected_is_sent};
-ghost use Rattle.clause_encoding.specs.inner.Appends.{Appends};
+ghost use Rattle.clause_core.specs.Written.{AppendsClauses};
 ghost use Rattle.clause_encoding.specs.inner.Kinds.{AreWithin};
 ghost use Rattle.clause_encoding.specs.inner.Selection.{selections, selector_lits};
 
 use super::base::kind_count;
-use super::clauses::{positive_lits, push_clause};
+use super::clauses::positive_lits;
 use super::kinds::sent;
 use super::rivals::{Rivals, rivals_of};
-use super::variables::positive;
 use bspl_types::Expanded;
-use clause_core::ClauseList;
+use clause_core::{ClauseList, positive, push_clause};
 use list_base::NoMemory;
 use std::alloc::Global;
 
@@ -21,7 +20,7 @@ pub(crate) fn push_rivals(
     alloc: Global,
     x: &Expanded,
 ) -> Result<(), NoMemory>
-    ensures { OnOk result (Appends clauses.old clauses.new (rival_clauses x.now)) }
+    ensures { OnOk result (AppendsClauses clauses.old clauses.new (rival_clauses x.now)) }
 {
     let rivals = rivals_of(alloc, x)?;
     push_rivals_on(clauses, alloc, kind_count(x), rivals.as_slice())
@@ -38,7 +37,7 @@ fn push_rivals_on(
     requires few_rivals { length rivals.now ≤ 262144 }
     requires known { All (AreWithin 64) rivals.now }
     ensures { let some = selector_lits kinds rivals.now ∷ [] in OnOk result
-        (Appends clauses.old clauses.new (selections kinds rivals.now ++ some)) }
+        (AppendsClauses clauses.old clauses.new (selections kinds rivals.now ++ some)) }
 {
     push_selections(clauses, alloc, kinds, rivals)?;
     let lits = positive_lits(alloc, kinds + 1, rivals.len() as u32)?;
@@ -55,7 +54,7 @@ fn push_selections(
     requires few_kinds { kinds ≤ 128 }
     requires few_rivals { length rivals.now ≤ 262144 }
     requires known { All (AreWithin 64) rivals.now }
-    ensures { OnOk result (Appends clauses.old clauses.new (selections kinds rivals.now)) }
+    ensures { OnOk result (AppendsClauses clauses.old clauses.new (selections kinds rivals.now)) }
 {
     for (n, pair) in rivals.iter().enumerate() {
         push_selection(clauses, alloc, kinds + 1 + n as u32, *pair)?;
@@ -72,7 +71,7 @@ fn push_selection(
 ) -> Result<(), NoMemory>
     requires { AreWithin 64 rivals }
     ensures { OnOk result
-        (Appends clauses.old clauses.new (selected_is_sent (selector, rivals))) }
+        (AppendsClauses clauses.old clauses.new (selected_is_sent (selector, rivals))) }
 {
     let unselected = positive(selector).negation();
     push_clause(clauses, alloc, &[unselected, positive(sent(rivals.first))])?;

@@ -1,6 +1,6 @@
 ghost use Rattle.std.specs.Prelude.{OnOk};
 ghost use Rattle.clause_encoding.specs.inner.Order.{families_after_order};
-ghost use Rattle.clause_encoding.specs.inner.Appends.{Appends};
+ghost use Rattle.clause_core.specs.Written.{AppendsClauses};
 ghost use Rattle.clause_encoding.specs.inner.Kinds.{AreOver};
 
 use super::delivery::push_delivery;
@@ -21,7 +21,7 @@ pub(crate) fn push_families(
     vars: Variables,
 ) -> Result<(), NoMemory>
     requires { AreOver x.now vars }
-    ensures { OnOk result (Appends clauses.old clauses.new (families_after_order x.now vars)) }
+    ensures { OnOk result (AppendsClauses clauses.old clauses.new (families_after_order x.now vars)) }
 {
     push_occurrence(clauses, alloc, vars)?;
     push_delivery(clauses, alloc, x, vars)?;

@@ -1,6 +1,6 @@
 ghost use Rattle.std.specs.Prelude.{◌<◌, length, OnOk};
 ghost use Rattle.clause_encoding.specs.Rest.{unbound_clauses, unbound_clauses_of};
-ghost use Rattle.clause_encoding.specs.inner.Appends.{Appends};
+ghost use Rattle.clause_core.specs.Written.{AppendsClauses};
 ghost use Rattle.clause_encoding.specs.inner.Lacking.{AreValues, unbound_by};
 
 use super::clauses::push_absence;
@@ -21,7 +21,7 @@ pub(crate) fn push_unbound(
     values: &[u32],
 ) -> Result<(), NoMemory>
     requires { AreValues x.now first values.now }
-    ensures { OnOk result (Appends clauses.old clauses.new (unbound_clauses x.now)) }
+    ensures { OnOk result (AppendsClauses clauses.old clauses.new (unbound_clauses x.now)) }
 {
     for (n, param) in values.iter().enumerate() {
         push_unbound_of(clauses, alloc, x, first + n as u32, *param)?;
@@ -38,7 +38,7 @@ fn push_unbound_of(
     param: u32,
 ) -> Result<(), NoMemory>
     ensures { OnOk result
-        (Appends clauses.old clauses.new (unbound_clauses_of x.now (unbound, param))) }
+        (AppendsClauses clauses.old clauses.new (unbound_clauses_of x.now (unbound, param))) }
 {
     for m in 0..x.messages.len() as u32 {
         push_unbound_by(clauses, alloc, x, unbound, param, m)?;
@@ -57,7 +57,7 @@ fn push_unbound_by(
 ) -> Result<(), NoMemory>
     requires { m < length x.now.messages }
     ensures { OnOk result
-        (Appends clauses.old clauses.new (unbound_by x.now unbound param m)) }
+        (AppendsClauses clauses.old clauses.new (unbound_by x.now unbound param m)) }
 {
     if !binds(x.message_at(m), param) {
         return Ok(());

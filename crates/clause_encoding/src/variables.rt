@@ -1,6 +1,6 @@
 ghost use Rattle.std.specs.Prelude.{◌≡◌, ◌≢◌, ◌<◌};
 ghost use Rattle.clause_encoding.specs.Variables.{IsKind, IsSmall, order_variable, occurs};
-ghost use Rattle.clause_encoding.specs.Variables.{positive, stands_before, variable_count};
+ghost use Rattle.clause_encoding.specs.Variables.{stands_before, variable_count};
 
 use clause_core::Lit;
 
@@ -63,15 +63,5 @@ impl Variables {
             0 => self.order_base,
             kinds => self.order_base + kinds * (kinds - 1) / 2,
         }
-    }
-}
-
-/// The literal that is true if the variable is.
-pub(crate) fn positive(var: u32) -> Lit
-    ensures { result ≡ positive var }
-{
-    Lit {
-        var,
-        positive: true,
     }
 }

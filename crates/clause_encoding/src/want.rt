@@ -1,6 +1,6 @@
 ghost use Rattle.std.specs.Prelude.{◌<◌, length, OnOk};
 ghost use Rattle.clause_encoding.specs.Rest.{want_clauses, want_clauses_of};
-ghost use Rattle.clause_encoding.specs.inner.Appends.{Appends};
+ghost use Rattle.clause_core.specs.Written.{AppendsClauses};
 ghost use Rattle.clause_encoding.specs.inner.Lacking.{AreWants};
 
 use super::carriers::sender_carriers;
@@ -21,7 +21,7 @@ pub(crate) fn push_wants(
     wants: &[Want],
 ) -> Result<(), NoMemory>
     requires { AreWants x.now first wants.now }
-    ensures { OnOk result (Appends clauses.old clauses.new (want_clauses x.now)) }
+    ensures { OnOk result (AppendsClauses clauses.old clauses.new (want_clauses x.now)) }
 {
     for (n, want) in wants.iter().enumerate() {
         push_want(clauses, alloc, x, first + n as u32, *want)?;
@@ -38,7 +38,7 @@ fn push_want(
     want: Want,
 ) -> Result<(), NoMemory>
     requires { want.message < length x.now.messages }
-    ensures { OnOk result (Appends clauses.old clauses.new (want_clauses_of x.now (lacks, want))) }
+    ensures { OnOk result (AppendsClauses clauses.old clauses.new (want_clauses_of x.now (lacks, want))) }
 {
     let carriers = sender_carriers(alloc, x, want.message, want.param)?;
     for carrier in carriers.as_slice() {

@@ -10,12 +10,14 @@ use Rattle.bspl_types.specs.declared.expanded.Expanded.{Expanded}
 use Rattle.clause_core.specs.declared.formula.Formula.{Formula}
 use Rattle.clause_core.specs.declared.literal.Lit.{Lit}
 use Rattle.clause_core.specs.Clause.{HasExactly, VariablesExist}
+use Rattle.clause_core.specs.Written.{Written, AreClausesOf}
+use Rattle.clause_core.specs.Literal.{positive}
 use Rattle.clause_encoding.specs.declared.rivals.Rivals.{Rivals}
-use Rattle.clause_encoding.specs.Families.{Written, shared_clauses}
-use Rattle.clause_encoding.specs.Formula.{AreClausesOf, IsSafetyFormula, safety_clauses, safety_variables}
+use Rattle.clause_encoding.specs.Families.{shared_clauses}
+use Rattle.clause_encoding.specs.Formula.{IsSafetyFormula, safety_clauses, safety_variables}
 use Rattle.clause_encoding.specs.Laws.{ClausesAreAsMany, SafetyClausesAreFew}
 use Rattle.clause_encoding.specs.Rivals.{rival_clauses, rivals_of, selected_is_sent, selectors}
-use Rattle.clause_encoding.specs.Variables.{kind_count, positive, sent}
+use Rattle.clause_encoding.specs.Variables.{kind_count, sent}
 use Rattle.enactability.specs.EnactFormula.{IsEnactFormula, enact_clauses, sent_clauses}
 use Rattle.enactability.specs.Laws.{EnactClausesAreFew}
 use Rattle.enactability.specs.inner.Sent.{HasSentAdded}

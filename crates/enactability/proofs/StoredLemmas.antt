@@ -7,13 +7,14 @@ use Rattle.bspl_types.specs.declared.expanded.Expanded.{Expanded}
 use Rattle.clause_core.specs.declared.formula.Formula.{Formula}
 use Rattle.clause_core.specs.declared.literal.Lit.{Lit}
 use Rattle.clause_core.specs.Clause.{VariablesExist}
-use Rattle.clause_encoding.specs.Families.{Written, shared_clauses}
-use Rattle.clause_encoding.specs.Formula.{AreClausesOf, safety_variables}
+use Rattle.clause_core.specs.Written.{Written, AreClausesOf}
+use Rattle.clause_encoding.specs.Families.{shared_clauses}
+use Rattle.clause_encoding.specs.Formula.{safety_variables}
 use Rattle.clause_encoding.specs.Ordered.{IsSharedFormula}
-use Rattle.order_clauses.specs.declared.order.Order.{Order}
-use Rattle.order_clauses.specs.declared.ordered_formula.OrderedFormula.{OrderedFormula}
-use Rattle.order_clauses.specs.Formula.{whole}
-use Rattle.order_clauses.specs.Order.{order_list}
+use Rattle.order_axioms.specs.declared.order.Order.{Order}
+use Rattle.order_axioms.specs.declared.ordered_formula.OrderedFormula.{OrderedFormula}
+use Rattle.order_axioms.specs.Formula.{whole}
+use Rattle.order_axioms.specs.Order.{order_list}
 use Rattle.enactability.specs.EnactFormula.{IsEnactFormula}
 use Rattle.enactability.specs.inner.Sent.{HasFirstStored, HasSentAdded, HasSentStored, HasSomeAdded, HasSomeStored, IsLonger, IsSame}
 

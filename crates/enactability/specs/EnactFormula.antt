@@ -2,8 +2,9 @@
 use Rattle.std.specs.Prelude.{◌≡◌, ℕ, List, [], ◌∷◌, ◌++◌, map}
 use Rattle.bspl_types.specs.declared.expanded.Expanded.{Expanded}
 use Rattle.clause_core.specs.declared.formula.Formula.{Formula}
-use Rattle.clause_encoding.specs.Families.{Written, shared_clauses}
-use Rattle.clause_encoding.specs.Formula.{AreClausesOf, safety_variables}
+use Rattle.clause_core.specs.Written.{Written, AreClausesOf}
+use Rattle.clause_encoding.specs.Families.{shared_clauses}
+use Rattle.clause_encoding.specs.Formula.{safety_variables}
 use Rattle.clause_encoding.specs.Variables.{occurs, sent, variable_count}
 
 -- each of the messages is sent

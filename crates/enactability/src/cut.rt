@@ -1,11 +1,12 @@
-ghost use Rattle.std.specs.Prelude.{◌≡◌, ◌≤◌, length, take, IfOk, IfSome, MatchOption};
+ghost use Rattle.std.specs.Prelude.{◌≡◌, IfOk, IfSome, MatchOption};
 ghost use Rattle.std.specs.List.{All, position};
 ghost use Rattle.enactability.specs.inner.Emission.{HasEmission, IsCut, IsCutOfOne};
 ghost use Rattle.enactability.specs.inner.Emission.{emits, events_until};
 
 use bspl_types::{Event, Run};
-use list_base::{NoMemory, Seq};
+use list_base::NoMemory;
 use std::alloc::Global;
+use witness_replay::first_events;
 
 /// One of the runs, cut after the last emission of the messages, if one emits them all.
 pub(crate) fn known_cut(
@@ -72,12 +73,4 @@ fn is_emission(event: &Event, message: u32) -> bool
         Event::Emit(instance) => instance.message == message,
         Event::Receive(_) => false,
     }
-}
-
-/// The run's first events, as many as the count says.
-fn first_events(alloc: Global, run: &[Event], count: usize) -> Result<Run, NoMemory>
-    requires { count ≤ length run.now }
-    ensures { IfOk result (λ first. first ≡ take count run.now) }
-{
-    Seq::from_slice(alloc, &run[..count])
 }

@@ -19,7 +19,7 @@ use clause_encoding::{
     clauses_are_as_many, safety_variables, variables_are_small, written_is_satisfied,
 };
 use list_base::{NoMemory, Seq};
-use order_clauses::OrderedFormula;
+use order_axioms::OrderedFormula;
 use sat_solver::Outcome;
 use std::alloc::Global;
 use std::marker::Model;
@@ -37,7 +37,7 @@ pub struct EnactSearch<'a> {
 
 impl<'a> Model for EnactSearch<'a> {
     ghost use Rattle.bspl_types.specs.declared.expanded.Expanded.{Expanded as SpecExpanded};
-    ghost use Rattle.order_clauses.specs.Formula.{whole};
+    ghost use Rattle.order_axioms.specs.Formula.{whole};
     ghost use Rattle.enactability.specs.inner.Search.{IsSearch};
 
     ghost Value = { SpecExpanded };

@@ -1,11 +1,11 @@
 ghost use Rattle.std.specs.Prelude.{◌+◌, ◌^◌, ◌<◌, ◌≤◌, length, IfOk};
-ghost use Rattle.order_clauses.specs.Formula.{whole};
+ghost use Rattle.order_axioms.specs.Formula.{whole};
 ghost use Rattle.enactability.specs.inner.Sent.{HasSent, HasSomeStored, IsFoundWith, IsSame};
 
 use super::ordered_formula::{keep_stored, store_sent};
 use clause_encoding::clauses_are_as_many;
 use list_base::NoMemory;
-use order_clauses::OrderedFormula;
+use order_axioms::OrderedFormula;
 use sat_solver::Outcome;
 use std::alloc::Global;
 use verdict::search_model;

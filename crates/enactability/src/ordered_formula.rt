@@ -1,5 +1,5 @@
 ghost use Rattle.std.specs.Prelude.{◌≤◌, [], length, take, IfOk, OnErr, OnOk};
-ghost use Rattle.order_clauses.specs.Formula.{whole};
+ghost use Rattle.order_axioms.specs.Formula.{whole};
 ghost use Rattle.enactability.specs.EnactFormula.{IsEnactFormula};
 ghost use Rattle.enactability.specs.Enactable.{AreMessages};
 ghost use Rattle.enactability.specs.inner.Sent.{HasFirstStored, HasSent};
@@ -10,7 +10,7 @@ use super::formula::push_sent;
 use bspl_types::Admitted;
 use clause_encoding::ordered_families;
 use list_base::NoMemory;
-use order_clauses::OrderedFormula;
+use order_axioms::OrderedFormula;
 use std::alloc::Global;
 
 /// The formula of the messages, whose order clauses are known by number and not stored.

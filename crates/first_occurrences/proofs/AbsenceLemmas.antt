@@ -10,12 +10,12 @@ use Rattle.bspl_types.specs.declared.expanded.Expanded.{Expanded}
 use Rattle.bspl_types.specs.declared.value.Value.{Value}
 use Rattle.bspl_types.specs.Expansion.{message_of}
 use Rattle.clause_core.specs.Clause.{Satisfies, SatisfiesAll}
-use Rattle.clause_core.specs.Literal.{negated}
+use Rattle.clause_core.specs.Literal.{negated, positive}
 use Rattle.clause_encoding.specs.declared.wants.Want.{Want}
 use Rattle.clause_encoding.specs.Carriers.{binds, carriers, sender_carriers}
 use Rattle.clause_encoding.specs.Formula.{liveness_variables}
 use Rattle.clause_encoding.specs.Rest.{unbound_clauses, unbound_clauses_of, unbound_variables, want_clauses, want_clauses_of, want_variables}
-use Rattle.clause_encoding.specs.Variables.{IsKind, message_numbers, occurs, positive, sent}
+use Rattle.clause_encoding.specs.Variables.{IsKind, message_numbers, occurs, sent}
 use Rattle.first_occurrences.specs.Lacking.{SaysWhatIsLacking, is_bound, is_supplied}
 use Rattle.first_occurrences.specs.Occurrence.{is_occurring}
 use Rattle.first_occurrences.specs.Report.{Reports}

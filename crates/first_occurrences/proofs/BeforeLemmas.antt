@@ -4,10 +4,10 @@ use Rattle.std.proofs.lemmas.Bool.{cond_both, ltb-false, ltb-true, not-true}
 use Rattle.std.proofs.lemmas.Bool.Decides.{nat_tests}
 use Rattle.bspl_types.specs.declared.event.Event.{Event}
 use Rattle.bspl_types.specs.declared.value.Value.{Value}
-use Rattle.clause_core.specs.Literal.{MakesTrue, negated}
+use Rattle.clause_core.specs.Literal.{MakesTrue, negated, positive}
 use Rattle.clause_encoding.specs.declared.variables.Variables.{Variables}
 use Rattle.clause_core.specs.declared.literal.Lit.{Lit}
-use Rattle.clause_encoding.specs.Variables.{IsKind, occurs, order_variable, positive, stands_before}
+use Rattle.clause_encoding.specs.Variables.{IsKind, occurs, order_variable, stands_before}
 use Rattle.first_occurrences.specs.Occurrence.{comes_first, first_position, is_occurring}
 use Rattle.first_occurrences.specs.Report.{Reports}
 

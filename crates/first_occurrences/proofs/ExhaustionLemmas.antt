@@ -19,12 +19,12 @@ use Rattle.bspl_types.specs.History.{history_of, IsRun}
 use Rattle.bspl_types.specs.Knowledge.{CanEmit, IsKnown}
 use Rattle.bspl_types.specs.Value.{EqualValuesAreOne}
 use Rattle.clause_core.specs.Clause.{Satisfies}
-use Rattle.clause_core.specs.Literal.{negated}
+use Rattle.clause_core.specs.Literal.{negated, positive}
 use Rattle.clause_encoding.specs.declared.wants.Want.{Want}
 use Rattle.clause_encoding.specs.Carriers.{carriers, fresh_parameters, in_parameters, sender_carriers}
 use Rattle.clause_encoding.specs.Formula.{liveness_variables}
 use Rattle.clause_encoding.specs.Rest.{blockers, exhaustion_clause, public_values, want_variables, wanted_by, wants_by, wants_of}
-use Rattle.clause_encoding.specs.Variables.{kind_count, message_numbers, occurs, positive, received, sent}
+use Rattle.clause_encoding.specs.Variables.{kind_count, message_numbers, occurs, received, sent}
 use Rattle.enactment_model.specs.Laws.{HistoryIsRun, KnownExactlyIfSomeEventBinds}
 use Rattle.enactment_model.specs.Liveness.{IsEmitted, Quiet}
 use Rattle.first_occurrences.specs.Lacking.{SaysWhatIsLacking, is_supplied}

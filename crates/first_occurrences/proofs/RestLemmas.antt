@@ -16,9 +16,9 @@ use Rattle.bspl_types.specs.declared.value.Value.{Value}
 use Rattle.bspl_types.specs.Shape.{is_public_value}
 use Rattle.bspl_types.specs.Value.{EqualValuesAreOne}
 use Rattle.clause_core.specs.Clause.{Satisfies}
-use Rattle.clause_core.specs.Literal.{MakesTrue, negated}
+use Rattle.clause_core.specs.Literal.{MakesTrue, negated, positive}
 use Rattle.clause_encoding.specs.Rest.{arrival_clauses, exhaustion_clause, exhaustion_clauses, public_values, unbound_clauses, unbound_variables, want_clauses}
-use Rattle.clause_encoding.specs.Variables.{kind_count, message_numbers, occurs, positive, received, sent}
+use Rattle.clause_encoding.specs.Variables.{kind_count, message_numbers, occurs, received, sent}
 use Rattle.enactment_model.specs.Laws.{HistoryIsRun, KnownExactlyIfSomeEventBinds}
 use Rattle.enactment_model.specs.Legal.{IsLegalRun}
 use Rattle.enactment_model.specs.Liveness.{Bound, HasPublicValue}

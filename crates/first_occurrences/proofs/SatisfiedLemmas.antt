@@ -6,8 +6,7 @@ use Rattle.std.proofs.lemmas.Bool.{cases_Bool}
 use Rattle.list_base.proofs.Members.{here, there}
 use Rattle.clause_core.specs.declared.literal.Lit.{Lit}
 use Rattle.clause_core.specs.Clause.{Satisfies}
-use Rattle.clause_core.specs.Literal.{MakesTrue, negated}
-use Rattle.clause_encoding.specs.Variables.{positive}
+use Rattle.clause_core.specs.Literal.{MakesTrue, negated, positive}
 use Rattle.first_occurrences.proofs.ListedLemmas.{fails_by, mapped_member, passed, some_member}
 
 -- its first literal is true

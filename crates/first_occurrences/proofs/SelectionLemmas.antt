@@ -12,11 +12,11 @@ use Rattle.bspl_types.specs.History.{instance_of}
 use Rattle.bspl_types.specs.Instance.{Fits}
 use Rattle.bspl_types.specs.Value.{EqualValuesAreOne}
 use Rattle.clause_core.specs.Clause.{Satisfies, SatisfiesAll}
-use Rattle.clause_core.specs.Literal.{MakesTrue, negated}
+use Rattle.clause_core.specs.Literal.{MakesTrue, negated, positive}
 use Rattle.clause_encoding.specs.declared.rivals.Rivals.{Rivals}
 use Rattle.clause_encoding.specs.Formula.{safety_variables}
 use Rattle.clause_encoding.specs.Rivals.{rivals_of, selected_is_sent, selectors}
-use Rattle.clause_encoding.specs.Variables.{kind_count, occurs, positive, sent}
+use Rattle.clause_encoding.specs.Variables.{kind_count, occurs, sent}
 use Rattle.enactment_model.specs.Laws.{LegalByPositions, SecondEmissionIsNotEnabled}
 use Rattle.enactment_model.specs.Legal.{IsLegalRun}
 use Rattle.enactment_model.specs.Safety.{Conflict}

@@ -6,9 +6,10 @@ use Rattle.bspl_types.specs.declared.expanded.Expanded.{Expanded}
 use Rattle.bspl_types.specs.declared.property.Property.{Property}
 use Rattle.bspl_types.specs.declared.value.Value.{Value}
 use Rattle.clause_core.specs.Clause.{SatisfiesAll}
+use Rattle.clause_core.specs.Written.{Written}
 use Rattle.clause_encoding.specs.declared.rivals.Rivals.{Rivals}
 use Rattle.clause_encoding.specs.declared.variables.Variables.{Variables}
-use Rattle.clause_encoding.specs.Families.{Written, delivery_clauses, freshness_clauses, occurrence_clauses, order_clauses, premise_clauses, shared_clauses}
+use Rattle.clause_encoding.specs.Families.{delivery_clauses, freshness_clauses, occurrence_clauses, order_clauses, premise_clauses, shared_clauses}
 use Rattle.clause_encoding.specs.Formula.{clauses_of, liveness_variables, safety_variables}
 use Rattle.clause_encoding.specs.Rest.{rest_clauses}
 use Rattle.clause_encoding.specs.Rivals.{rival_clauses, selectors}

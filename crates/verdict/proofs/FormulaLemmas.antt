@@ -3,8 +3,7 @@ use Rattle.std.proofs.Common.{◌≡◌, inl, inr, List, [], ◌∷◌, Contains
 use Rattle.list_base.proofs.Members.{cons_cases, here, here_same, nowhere, there}
 use Rattle.clause_core.specs.declared.literal.Lit.{Lit}
 use Rattle.clause_core.specs.Clause.{IsClauseOf}
-use Rattle.clause_encoding.specs.Families.{Written}
-use Rattle.clause_encoding.specs.Formula.{AreClausesOf}
+use Rattle.clause_core.specs.Written.{Written, AreClausesOf}
 
 -- the clause of no literals is empty
 empty_clause : (lits clause : List Lit) → lits ≡ [] → IsClauseOf lits clause → clause ≡ []

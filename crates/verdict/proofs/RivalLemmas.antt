@@ -16,11 +16,12 @@ use Rattle.bspl_types.specs.declared.protocol.Message.{Message}
 use Rattle.bspl_types.specs.Choice.{is_out}
 use Rattle.bspl_types.specs.Expansion.{message_of, no_message, IsAdorned}
 use Rattle.clause_core.specs.declared.formula.Formula.{Formula}
+use Rattle.clause_core.specs.Literal.{positive}
 use Rattle.clause_encoding.specs.declared.rivals.Rivals.{Rivals}
 use Rattle.clause_encoding.specs.Families.{shared_clauses}
 use Rattle.clause_encoding.specs.Formula.{IsSafetyFormula, safety_clauses, safety_variables}
 use Rattle.clause_encoding.specs.Rivals.{producers_of, produces, rival_clauses, rivals_among, rivals_of, selected_is_sent, selectors}
-use Rattle.clause_encoding.specs.Variables.{kind_count, message_numbers, positive}
+use Rattle.clause_encoding.specs.Variables.{kind_count, message_numbers}
 use Rattle.enactment_model.specs.Producers.{HasOneProducer}
 use Rattle.verdict.proofs.FormulaLemmas.{has_empty}
 

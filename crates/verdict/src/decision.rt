@@ -5,7 +5,7 @@ ghost use Rattle.clause_core.specs.Clause.{SatisfiesAll};
 ghost use Rattle.clause_encoding.specs.Formula.{IsFormula, clauses_of, variables_of};
 ghost use Rattle.clause_encoding.specs.Variables.{variable_count};
 ghost use Rattle.enactment_model.specs.Producers.{HasOneProducer};
-ghost use Rattle.order_clauses.specs.Formula.{whole};
+ghost use Rattle.order_axioms.specs.Formula.{whole};
 ghost use Rattle.verdict.specs.Decision.{HasLogInRange, IsDecided, IsProvedByEmptyLog};
 ghost use Rattle.verdict.specs.inner.Answer.{HasRefutingRun, IsAnswer, IsAnswered};
 
@@ -17,7 +17,7 @@ use clause_core::Assignment;
 use clause_encoding::{ordered_formula_of, variables_are_small, written_is_satisfied};
 use first_occurrences::unsatisfiable_holds;
 use list_base::NoMemory;
-use order_clauses::OrderedFormula;
+use order_axioms::OrderedFormula;
 use refutation_log::{new_resolves, steps_are_counted};
 use sat_solver::Outcome;
 use std::alloc::Global;

@@ -1,12 +1,12 @@
 ghost use Rattle.std.specs.Prelude.{◌+◌, ◌^◌, ◌<◌, ◌≤◌, length, IfOk};
-ghost use Rattle.order_clauses.specs.Formula.{whole};
+ghost use Rattle.order_axioms.specs.Formula.{whole};
 ghost use Rattle.refutation_log.specs.Resolution.{Accepts};
 ghost use Rattle.verdict.specs.Search.{IsFound};
 ghost use Rattle.verdict.specs.inner.Answer.{IsChecked};
 
 use list_base::NoMemory;
 use log_checker::{Reject, check_ordered_log};
-use order_clauses::OrderedFormula;
+use order_axioms::OrderedFormula;
 use refutation_log::Log;
 use sat_solver::{Outcome, solve_ordered};
 use std::alloc::Global;

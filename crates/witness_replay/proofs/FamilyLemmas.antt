@@ -10,9 +10,10 @@ use Rattle.bspl_types.specs.declared.protocol.Adornment.TheVariants.{In, Out, Ni
 use Rattle.bspl_types.specs.Expansion.{Adorns, message_of}
 use Rattle.clause_core.specs.Clause.{Satisfies, SatisfiesAll}
 use Rattle.clause_core.specs.Literal.{MakesTrue, negated}
+use Rattle.clause_core.specs.Written.{Written}
 use Rattle.clause_encoding.specs.declared.variables.Variables.{Variables}
 use Rattle.clause_encoding.specs.Carriers.{fresh_parameters, in_parameters, is_in, sender_carriers}
-use Rattle.clause_encoding.specs.Families.{delivery_clauses, fresh_clauses_of, freshness_clauses, occurrence_clauses, order_clauses, premise_clause, premise_clauses, shared_clauses, Written}
+use Rattle.clause_encoding.specs.Families.{delivery_clauses, fresh_clauses_of, freshness_clauses, occurrence_clauses, order_clauses, premise_clause, premise_clauses, shared_clauses}
 use Rattle.clause_encoding.specs.Variables.{IsKind, kinds_following, message_numbers, occurs, received, sent, stands_before}
 use Rattle.witness_replay.specs.inner.Order.{is_before}
 use Rattle.witness_replay.proofs.KindLemmas.{among_after}

@@ -5,9 +5,9 @@ use Rattle.std.proofs.lemmas.Bool.{both_ways, cond_both, ltb-false, ltb-true, no
 use Rattle.list_base.proofs.Members.{cons_cases, only}
 use Rattle.clause_core.specs.declared.literal.Lit.{Lit}
 use Rattle.clause_core.specs.Clause.{Satisfies}
-use Rattle.clause_core.specs.Literal.{MakesTrue, negated}
+use Rattle.clause_core.specs.Literal.{MakesTrue, negated, positive}
 use Rattle.clause_encoding.specs.declared.variables.Variables.{Variables}
-use Rattle.clause_encoding.specs.Variables.{order_variable, positive}
+use Rattle.clause_encoding.specs.Variables.{order_variable}
 use Rattle.witness_replay.specs.inner.Order.{is_before, is_true}
 
 -- a literal that is true passes the test

@@ -2,8 +2,8 @@
 use Rattle.std.proofs.Common.{◌≡◌, ◌≢◌, ltb, inl, inr, ℕ, zero, suc, ◌+◌, ◌-◌, ◌*◌, ◌/◌, ◌<◌, ◌≤◌, refl, sym, ap, subst, arith}
 use Rattle.std.proofs.lemmas.Bool.{cases_order, cond_both, ltb-false, ltb-true}
 use Rattle.clause_encoding.specs.declared.variables.Variables.{Variables}
-use Rattle.clause_core.specs.Literal.{negated}
-use Rattle.clause_encoding.specs.Variables.{IsKind, order_variable, positive, stands_before, variable_count}
+use Rattle.clause_core.specs.Literal.{negated, positive}
+use Rattle.clause_encoding.specs.Variables.{IsKind, order_variable, stands_before, variable_count}
 
 -- the sum of the numbers from 1
 abbrev triangle : ℕ → ℕ

@@ -6,8 +6,9 @@ use Rattle.std.proofs.lemmas.List.Elements.{All-contains}
 use Rattle.list_base.proofs.Members.{here, there}
 use Rattle.clause_core.specs.Clause.{Satisfies, SatisfiesAll}
 use Rattle.clause_core.specs.Literal.{negated}
+use Rattle.clause_core.specs.Written.{Written}
 use Rattle.clause_encoding.specs.declared.variables.Variables.{Variables}
-use Rattle.clause_encoding.specs.Families.{order_clauses, order_of_three, Written}
+use Rattle.clause_encoding.specs.Families.{order_clauses, order_of_three}
 use Rattle.clause_encoding.specs.Variables.{IsKind, kinds_following, stands_before}
 use Rattle.witness_replay.specs.inner.Order.{is_before, StandsBefore}
 use Rattle.witness_replay.proofs.KindLemmas.{among_after}

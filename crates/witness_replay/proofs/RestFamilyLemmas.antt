@@ -16,12 +16,12 @@ use Rattle.bspl_types.specs.declared.protocol.ParamInfo.{ParamInfo}
 use Rattle.bspl_types.specs.Expansion.{Adorns, message_of}
 use Rattle.bspl_types.specs.Shape.{is_public_value}
 use Rattle.clause_core.specs.Clause.{Satisfies, SatisfiesAll}
-use Rattle.clause_core.specs.Literal.{MakesTrue, negated}
+use Rattle.clause_core.specs.Literal.{MakesTrue, negated, positive}
+use Rattle.clause_core.specs.Written.{Written}
 use Rattle.clause_encoding.specs.declared.wants.Want.{Want}
 use Rattle.clause_encoding.specs.Carriers.{binds, fresh_parameters, in_parameters, is_in, sender_carriers}
-use Rattle.clause_encoding.specs.Families.{Written}
 use Rattle.clause_encoding.specs.Rest.{arrival_clauses, blockers, exhaustion_clause, exhaustion_clauses, public_values, rest_clauses, unbound_clauses, unbound_clauses_of, unbound_variables, want_clauses, want_clauses_of, want_variables, wanted_by, wants_by, wants_of}
-use Rattle.clause_encoding.specs.Variables.{kind_count, message_numbers, occurs, positive, received, sent}
+use Rattle.clause_encoding.specs.Variables.{kind_count, message_numbers, occurs, received, sent}
 use Rattle.enactment_model.specs.Liveness.{HasPublicValue}
 use Rattle.witness_replay.proofs.FamilyLemmas.{all_left, all_right}
 use Rattle.witness_replay.proofs.ListedLemmas.{joined_from, joined_member, mapped_from, mapped_member, numbered_from, numbered_item, range_member}

@@ -15,11 +15,11 @@ use Rattle.bspl_types.specs.declared.protocol.Adornment.TheVariants.{In, Nil, Ou
 use Rattle.bspl_types.specs.Choice.{is_out}
 use Rattle.bspl_types.specs.Expansion.{Adorns, message_of}
 use Rattle.clause_core.specs.Clause.{Satisfies, SatisfiesAll}
-use Rattle.clause_core.specs.Literal.{MakesTrue, negated}
+use Rattle.clause_core.specs.Literal.{MakesTrue, negated, positive}
+use Rattle.clause_core.specs.Written.{Written}
 use Rattle.clause_encoding.specs.declared.rivals.Rivals.{Rivals}
-use Rattle.clause_encoding.specs.Families.{Written}
 use Rattle.clause_encoding.specs.Rivals.{producers_of, produces, rival_clauses, rivals_among, rivals_of, selected_is_sent, selectors}
-use Rattle.clause_encoding.specs.Variables.{kind_count, message_numbers, occurs, positive, sent}
+use Rattle.clause_encoding.specs.Variables.{kind_count, message_numbers, occurs, sent}
 use Rattle.witness_replay.proofs.ListedLemmas.{joined_from, joined_member, mapped_from, numbered_item, range_bound}
 use Rattle.witness_replay.proofs.LiteralLemmas.{satisfied_only, satisfied_rest}
 

@@ -12,4 +12,4 @@ mod witness;
 pub use instances::key_of_ones;
 pub use laws::{model_refutes, shared_model_has_run};
 pub use replay::order_run;
-pub use witness::{resting_run_of, run_of, witness_of};
+pub use witness::{first_events, resting_run_of, run_of, witness_of};

@@ -84,7 +84,7 @@ fn cut_at_conflict(alloc: Global, x: &Expanded, run: &[Event]) -> Result<Run, No
 }
 
 /// The run's first events, as many as the count says.
-fn first_events(alloc: Global, run: &[Event], count: usize) -> Result<Run, NoMemory>
+pub fn first_events(alloc: Global, run: &[Event], count: usize) -> Result<Run, NoMemory>
     requires { count ≤ length run.now }
     ensures { IfOk result (λ first. first ≡ take count run.now) }
 {

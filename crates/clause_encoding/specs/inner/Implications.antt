@@ -1,8 +1,8 @@
 -- Clauses of two literals on an emission, a reception, and what stands before them.
 use Rattle.std.specs.Prelude.{ℕ, [], ◌∷◌}
 use Rattle.clause_core.specs.Literal.{negated}
+use Rattle.clause_core.specs.Written.{Written}
 use Rattle.clause_encoding.specs.declared.variables.Variables.{Variables}
-use Rattle.clause_encoding.specs.Families.{Written}
 use Rattle.clause_encoding.specs.Variables.{occurs, received, sent, stands_before}
 
 -- the message is sent before it is received

@@ -4,12 +4,12 @@ use Rattle.std.specs.List.{enumerate_from, filter}
 use Rattle.bspl_types.specs.declared.expanded.Expanded.{Expanded}
 use Rattle.bspl_types.specs.Expansion.{message_of}
 use Rattle.clause_core.specs.declared.literal.Lit.{Lit}
-use Rattle.clause_core.specs.Literal.{negated}
+use Rattle.clause_core.specs.Literal.{negated, positive}
+use Rattle.clause_core.specs.Written.{Written}
 use Rattle.clause_encoding.specs.declared.wants.Want.{Want}
 use Rattle.clause_encoding.specs.Carriers.{binds}
-use Rattle.clause_encoding.specs.Families.{Written}
 use Rattle.clause_encoding.specs.Rest.{public_values, wants_of}
-use Rattle.clause_encoding.specs.Variables.{kind_count, occurs, positive, sent}
+use Rattle.clause_encoding.specs.Variables.{kind_count, occurs, sent}
 
 -- the public parameters with values and the wants of a protocol; there are few of each
 pub record AreValuesAndWants (x : Expanded) (values : List ℕ) (wants : List Want) : Type 0 where

@@ -4,9 +4,10 @@ use Rattle.std.specs.List.{flat_map}
 use Rattle.bspl_types.specs.declared.expanded.Expanded.{Expanded}
 use Rattle.bspl_types.specs.declared.property.Property.{Property}
 use Rattle.clause_encoding.specs.declared.variables.Variables.{Variables}
-use Rattle.clause_encoding.specs.Families.{Written, delivery_clauses, freshness_clauses, occurrence_clauses, order_of_three, premise_clauses}
+use Rattle.clause_encoding.specs.Families.{delivery_clauses, freshness_clauses, occurrence_clauses, order_of_three, premise_clauses}
 use Rattle.clause_encoding.specs.Formula.{own_clauses, variables_of}
 use Rattle.clause_encoding.specs.Variables.{kinds_following}
+use Rattle.clause_core.specs.Written.{Written}
 
 -- the order clauses of two kinds with each later one
 abbrev pub order_of_two : Variables → ℕ → ℕ → List Written

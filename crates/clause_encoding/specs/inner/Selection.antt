@@ -2,10 +2,10 @@
 use Rattle.std.specs.Prelude.{ℕ, ◌+◌, List, map}
 use Rattle.std.specs.List.{enumerate_from, flat_map}
 use Rattle.clause_core.specs.declared.literal.Lit.{Lit}
+use Rattle.clause_core.specs.Written.{Written}
+use Rattle.clause_core.specs.Literal.{positive}
 use Rattle.clause_encoding.specs.declared.rivals.Rivals.{Rivals}
-use Rattle.clause_encoding.specs.Families.{Written}
 use Rattle.clause_encoding.specs.Rivals.{selected_is_sent}
-use Rattle.clause_encoding.specs.Variables.{positive}
 
 -- the clauses of the rivals, whose variables come after the kinds
 abbrev pub selections : ℕ → List Rivals → List Written

@@ -4,9 +4,9 @@ use Rattle.std.specs.List.{All}
 use Rattle.bspl_types.specs.Limits.{message_limit}
 use Rattle.clause_core.specs.declared.formula.Formula.{Formula}
 use Rattle.clause_core.specs.declared.literal.Lit.{Lit}
-use Rattle.clause_encoding.specs.Formula.{AreClausesOf}
+use Rattle.clause_core.specs.Written.{AreClausesOf}
 use Rattle.clause_encoding.specs.Variables.{sent}
-use Rattle.order_clauses.specs.declared.ordered_formula.OrderedFormula.{OrderedFormula}
+use Rattle.order_axioms.specs.declared.ordered_formula.OrderedFormula.{OrderedFormula}
 use Rattle.sat_solver.specs.declared.outcome.Outcome.{Outcome}
 use Rattle.verdict.specs.Search.{IsFound}
 use Rattle.enactability.specs.EnactFormula.{sent_clauses}

@@ -3,7 +3,7 @@ use Rattle.std.proofs.Common.{◌≡◌, ℕ, ◌+◌, ◌-◌, List, [], ◌∷
 use Rattle.std.specs.List.{range_with_len}
 use Rattle.std.proofs.lemmas.List.FromFn.{map-range_with_len_more}
 use Rattle.clause_core.specs.declared.literal.Lit.{Lit}
-use Rattle.clause_encoding.specs.Variables.{positive}
+use Rattle.clause_core.specs.Literal.{positive}
 use Rattle.clause_encoding.proofs.clauses.positive_lits.Goals as goal
 
 pub loop-var-preserved : goal.loop-var-preserved

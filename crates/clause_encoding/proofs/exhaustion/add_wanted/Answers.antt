@@ -2,7 +2,7 @@
 use Rattle.std.proofs.Common.{◌+◌, Bool, cond, List, [], ◌∷◌, ◌++◌, get_or, take, ap, sym, ◌∙◌, append-nil, append_assoc}
 use Rattle.std.proofs.lemmas.Bool.{eq-eqb, ne_eqb}
 use Rattle.clause_core.specs.declared.literal.Lit.{Lit}
-use Rattle.clause_encoding.specs.Variables.{positive}
+use Rattle.clause_core.specs.Literal.{positive}
 use Rattle.clause_encoding.specs.inner.Lacking.{wanted_lits}
 use Rattle.clause_encoding.proofs.LackingLemmas.{wanted_more}
 use Rattle.clause_encoding.proofs.exhaustion.add_wanted.Goals as goal

@@ -2,9 +2,9 @@
 use Rattle.std.specs.Prelude.{map}
 use Rattle.std.specs.List.{range_with_len}
 use Rattle.clause_encoding.specs.Rest.{exhaustion_clause}
-use Rattle.clause_encoding.specs.inner.Appends.{Appends}
+use Rattle.clause_core.specs.Written.{AppendsClauses}
 use Rattle.clause_encoding.proofs.exhaustion.push_exhaustion.Given as goal
 
 -- the clauses of the messages before this one
 abbrev pub invariant-loop-m : goal.invariant-loop-m
-invariant-loop-m l = Appends l.initial.clauses l.clauses (map (exhaustion_clause l.x) (range_with_len 0 l.m))
+invariant-loop-m l = AppendsClauses l.initial.clauses l.clauses (map (exhaustion_clause l.x) (range_with_len 0 l.m))

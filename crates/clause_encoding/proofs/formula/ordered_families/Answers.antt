@@ -2,7 +2,7 @@
 use Rattle.std.proofs.Common.{ℕ, ◌++◌, ap, sym, ◌∙◌, subst}
 use Rattle.std.specs.List.{All}
 use Rattle.clause_core.specs.Clause.{VariablesExist}
-use Rattle.order_clauses.specs.Order.{order_list}
+use Rattle.order_axioms.specs.Order.{order_list}
 use Rattle.clause_encoding.specs.Variables.{kind_count, variable_count}
 use Rattle.clause_encoding.proofs.OrderLemmas.{all_after}
 use Rattle.clause_encoding.proofs.SharedLemmas.{families_exist, whole_families}

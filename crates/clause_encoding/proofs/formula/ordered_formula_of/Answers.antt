@@ -2,7 +2,7 @@
 use Rattle.std.proofs.Common.{ℕ, ◌++◌, ap, sym, ◌∙◌, subst}
 use Rattle.std.specs.List.{All}
 use Rattle.clause_core.specs.Clause.{VariablesExist}
-use Rattle.order_clauses.specs.Order.{order_list}
+use Rattle.order_axioms.specs.Order.{order_list}
 use Rattle.clause_encoding.specs.Formula.{clauses_of, variables_of}
 use Rattle.clause_encoding.specs.Ordered.{IsOrderOf}
 use Rattle.clause_encoding.specs.Variables.{variable_count}

@@ -3,9 +3,9 @@ use Rattle.std.specs.List.{flat_map, range_with_len}
 use Rattle.bspl_types.specs.Expansion.{message_of}
 use Rattle.clause_encoding.specs.Carriers.{fresh_parameters}
 use Rattle.clause_encoding.specs.Families.{fresh_clauses_of}
-use Rattle.clause_encoding.specs.inner.Appends.{Appends}
+use Rattle.clause_core.specs.Written.{AppendsClauses}
 use Rattle.clause_encoding.proofs.freshness.push_freshness.Given as goal
 
 -- the clauses of the messages before this one
 abbrev pub invariant-loop-m : goal.invariant-loop-m
-invariant-loop-m l = Appends l.initial.clauses l.clauses (flat_map (λ m. flat_map (fresh_clauses_of l.x l.vars m) (fresh_parameters (message_of l.x m))) (range_with_len 0 l.m))
+invariant-loop-m l = AppendsClauses l.initial.clauses l.clauses (flat_map (λ m. flat_map (fresh_clauses_of l.x l.vars m) (fresh_parameters (message_of l.x m))) (range_with_len 0 l.m))

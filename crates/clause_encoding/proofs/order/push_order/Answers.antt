@@ -1,7 +1,7 @@
 -- The clauses of the order are the order clauses.
 use Rattle.std.proofs.Common.{ap, ◌∙◌, ◌++◌}
 use Rattle.std.proofs.lemmas.Result.{IfOk-weaker}
-use Rattle.order_clauses.specs.Order.{order_list}
+use Rattle.order_axioms.specs.Order.{order_list}
 use Rattle.clause_encoding.proofs.OrderLemmas.{appends_order}
 use Rattle.clause_encoding.proofs.order.push_order.Goals as goal
 

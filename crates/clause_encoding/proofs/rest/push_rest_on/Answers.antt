@@ -2,10 +2,10 @@
 use Rattle.std.proofs.Common.{◌≡◌, ℕ, ◌+◌, [], ◌∷◌, map, ap, sym, ◌∙◌, subst}
 use Rattle.std.specs.List.{enumerate_from}
 use Rattle.std.proofs.lemmas.Result.{IfOk-weaker}
-use Rattle.clause_encoding.specs.Families.{Written}
 use Rattle.clause_encoding.specs.Rest.{arrival_clauses, exhaustion_clauses, unbound_clauses, unbound_variables, want_clauses}
-use Rattle.clause_encoding.specs.Variables.{kind_count, positive}
-use Rattle.clause_encoding.specs.inner.Appends.{Appends}
+use Rattle.clause_encoding.specs.Variables.{kind_count}
+use Rattle.clause_core.specs.Written.{AppendsClauses, Written}
+use Rattle.clause_core.specs.Literal.{positive}
 use Rattle.clause_encoding.proofs.AppendsLemmas.{appends_both}
 use Rattle.clause_encoding.proofs.RangeLemmas.{map_numbers}
 use Rattle.clause_encoding.proofs.rest.push_rest_on.Goals as goal
@@ -22,5 +22,5 @@ returns c =
     c.as_slice.ensures ∙ c.in_ok-lits.ensures ∙ sym (map_numbers positive (c.kind_count-first_value.result + 1) c.args.values.now) ∙ (λ n. map number (enumerate_from (first n) (c.requires.values_are n))) in
     IfOk-weaker c.push_clause.result _ _
     (λ _ appends. appends_both _ _ _ _ (map number (unbound_variables x) ∷ []) four
-    (subst (λ (lits : Written). Appends c.push_unbound.new.clauses c.push_clause.new.clauses (lits ∷ [])) last appends))
+    (subst (λ (lits : Written). AppendsClauses c.push_unbound.new.clauses c.push_clause.new.clauses (lits ∷ [])) last appends))
     c.push_clause.ensures

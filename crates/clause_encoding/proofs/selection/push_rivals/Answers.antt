@@ -4,9 +4,8 @@ use Rattle.std.specs.List.{All}
 use Rattle.std.proofs.lemmas.List.Elements.{All-weaker}
 use Rattle.std.proofs.lemmas.Result.{IfOk-weaker}
 use Rattle.clause_encoding.specs.declared.rivals.Rivals.{Rivals}
-use Rattle.clause_encoding.specs.Families.{Written}
 use Rattle.clause_encoding.specs.Rivals.{rival_clauses}
-use Rattle.clause_encoding.specs.inner.Appends.{Appends}
+use Rattle.clause_core.specs.Written.{AppendsClauses, Written}
 use Rattle.clause_encoding.specs.inner.Kinds.{AreWithin}
 use Rattle.clause_encoding.specs.inner.Selection.{selections, selector_lits}
 use Rattle.clause_encoding.proofs.KindLemmas.{rivals_within}
@@ -34,5 +33,5 @@ returns c =
     let are : selections c.kind_count.result c.as_slice.result.now ++ selector_lits c.kind_count.result c.as_slice.result.now ∷ [] ≡ rival_clauses x =
     λ n. selections (kinds n) (all n) ++ selector_lits (kinds n) (all n) ∷ [] in
     IfOk-weaker c.push_rivals_on.result _ _
-    (λ _ appends. subst (λ (written : List Written). Appends c.args.clauses.now c.push_rivals_on.new.clauses written) are appends)
+    (λ _ appends. subst (λ (written : List Written). AppendsClauses c.args.clauses.now c.push_rivals_on.new.clauses written) are appends)
     c.push_rivals_on.ensures

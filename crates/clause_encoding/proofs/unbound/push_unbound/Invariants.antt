@@ -2,9 +2,9 @@
 use Rattle.std.specs.Prelude.{take}
 use Rattle.std.specs.List.{enumerate_from, flat_map}
 use Rattle.clause_encoding.specs.Rest.{unbound_clauses_of}
-use Rattle.clause_encoding.specs.inner.Appends.{Appends}
+use Rattle.clause_core.specs.Written.{AppendsClauses}
 use Rattle.clause_encoding.proofs.unbound.push_unbound.Given as goal
 
 -- the clauses of those before the index
 abbrev pub invariant-loop-n : goal.invariant-loop-n
-invariant-loop-n l = Appends l.initial.clauses l.clauses (flat_map (unbound_clauses_of l.x) (enumerate_from l.first (take l.n l.values)))
+invariant-loop-n l = AppendsClauses l.initial.clauses l.clauses (flat_map (unbound_clauses_of l.x) (enumerate_from l.first (take l.n l.values)))

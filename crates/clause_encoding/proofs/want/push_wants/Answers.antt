@@ -3,9 +3,8 @@ use Rattle.std.proofs.Common.{List, sym, ◌∙◌, subst}
 use Rattle.std.specs.List.{All, enumerate_from, flat_map}
 use Rattle.std.proofs.lemmas.List.{take_all}
 use Rattle.clause_encoding.specs.declared.wants.Want.{Want}
-use Rattle.clause_encoding.specs.Families.{Written}
 use Rattle.clause_encoding.specs.Rest.{want_clauses_of}
-use Rattle.clause_encoding.specs.inner.Appends.{Appends}
+use Rattle.clause_core.specs.Written.{AppendsClauses, Written}
 use Rattle.clause_encoding.proofs.AppendsLemmas.{appends_numbered}
 use Rattle.clause_encoding.proofs.LackingLemmas.{IsOfMessage, wants_known}
 use Rattle.clause_encoding.proofs.want.push_wants.Goals as goal
@@ -21,5 +20,5 @@ pub returns : goal.returns
 returns c =
     let x = c.args.x.now in
     let all = take_all c.loop-n.n c.args.wants.now c.loop-n-test.false ∙ c.requires.all in
-    subst (λ (written : List Written). Appends c.args.clauses.now c.loop-n.clauses written)
+    subst (λ (written : List Written). AppendsClauses c.args.clauses.now c.loop-n.clauses written)
     (λ n. flat_map (want_clauses_of x) (enumerate_from (c.requires.from n) (all n))) c.loop-n.invariant

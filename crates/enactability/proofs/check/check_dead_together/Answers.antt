@@ -1,6 +1,6 @@
 -- What the check of the formula says is said of the messages.
 use Rattle.std.proofs.Common.{arith}
-use Rattle.order_clauses.specs.Formula.{whole}
+use Rattle.order_axioms.specs.Formula.{whole}
 use Rattle.enactability.specs.EnactFormula.{enact_clauses}
 use Rattle.enactability.proofs.CheckLemmas.{accepted_if_ok, dead_if_ok, fails_exactly}
 use Rattle.enactability.proofs.check.check_dead_together.Goals as goal

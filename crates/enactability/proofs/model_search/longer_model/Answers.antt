@@ -1,7 +1,7 @@
 -- The clauses that the messages are sent are as many as these, and the search finds what it finds.
 use Rattle.std.proofs.Common.{arith}
 use Rattle.std.proofs.lemmas.Result.{IfOk-weaker}
-use Rattle.order_clauses.specs.Formula.{whole}
+use Rattle.order_axioms.specs.Formula.{whole}
 use Rattle.verdict.specs.Search.{IsFound}
 use Rattle.enactability.specs.inner.Sent.{IsFoundWith}
 use Rattle.enactability.proofs.ClauseLemmas.{added_count}

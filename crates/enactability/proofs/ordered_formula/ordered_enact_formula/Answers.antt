@@ -1,5 +1,5 @@
 -- The clauses that the messages are sent come after the shared ones.
-use Rattle.order_clauses.specs.Formula.{whole}
+use Rattle.order_axioms.specs.Formula.{whole}
 use Rattle.enactability.proofs.ClauseLemmas.{sent_too}
 use Rattle.enactability.proofs.StoredLemmas.{sent_whole}
 use Rattle.enactability.proofs.ordered_formula.ordered_enact_formula.Goals as goal

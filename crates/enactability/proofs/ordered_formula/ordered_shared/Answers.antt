@@ -2,8 +2,8 @@
 use Rattle.std.proofs.Common.{[]}
 use Rattle.std.proofs.lemmas.Result.{IfOk-weaker}
 use Rattle.clause_encoding.specs.Ordered.{IsSharedFormula}
-use Rattle.order_clauses.specs.declared.ordered_formula.OrderedFormula.{OrderedFormula}
-use Rattle.order_clauses.specs.Formula.{whole}
+use Rattle.order_axioms.specs.declared.ordered_formula.OrderedFormula.{OrderedFormula}
+use Rattle.order_axioms.specs.Formula.{whole}
 use Rattle.enactability.specs.EnactFormula.{IsEnactFormula}
 use Rattle.enactability.proofs.StoredLemmas.{asks_for_none}
 use Rattle.enactability.proofs.ordered_formula.ordered_shared.Goals as goal

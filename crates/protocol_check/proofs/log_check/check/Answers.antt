@@ -1,7 +1,7 @@
 -- What the check of the formula says is said of the protocol.
 use Rattle.std.proofs.Common.{arith}
 use Rattle.clause_encoding.specs.Formula.{clauses_of}
-use Rattle.order_clauses.specs.Formula.{whole}
+use Rattle.order_axioms.specs.Formula.{whole}
 use Rattle.protocol_check.proofs.Checks.{accepted_if_ok, accepts_each, fails_exactly, holds_if_accepted}
 use Rattle.protocol_check.proofs.log_check.check.Goals as goal
 

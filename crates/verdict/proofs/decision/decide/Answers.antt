@@ -1,6 +1,6 @@
 -- The answer to what the search found out is right.
 use Rattle.std.proofs.lemmas.Result.{IfOk-weaker}
-use Rattle.order_clauses.specs.Formula.{whole}
+use Rattle.order_axioms.specs.Formula.{whole}
 use Rattle.verdict.specs.Decision.{HasLogInRange, IsDecided, IsProvedByEmptyLog}
 use Rattle.verdict.specs.inner.Answer.{IsAnswer, IsAnswered}
 use Rattle.verdict.proofs.OutcomeLemmas.{NewLogLaws, decided_in_range, decided_none, decided_right}

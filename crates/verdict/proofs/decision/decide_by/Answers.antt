@@ -2,7 +2,7 @@
 use Rattle.std.proofs.Common.{refl, subst}
 use Rattle.clause_core.specs.Assignment.{valuation}
 use Rattle.clause_encoding.specs.Formula.{clauses_of}
-use Rattle.order_clauses.specs.Formula.{whole}
+use Rattle.order_axioms.specs.Formula.{whole}
 use Rattle.sat_solver.specs.declared.outcome.Outcome.{Outcome}
 use Rattle.verdict.specs.Search.{IsSound}
 use Rattle.verdict.proofs.OutcomeLemmas.{model_found}

@@ -1,7 +1,7 @@
 -- What the search finds is answered by its evidence.
 use Rattle.std.proofs.Common.{[], subst, arith}
 use Rattle.bspl_types.specs.declared.expanded.Expanded.{Expanded}
-use Rattle.order_clauses.specs.Formula.{whole}
+use Rattle.order_axioms.specs.Formula.{whole}
 use Rattle.verdict.specs.Decision.{IsUndecidedVerdict}
 use Rattle.enactability.specs.declared.outcome.Enact.TheVariants.{Dead, Undecided}
 use Rattle.enactability.specs.Answer.{AreDead}
