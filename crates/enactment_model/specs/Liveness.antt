@@ -19,6 +19,13 @@ pub record IsEmitted (run : List Event) (key : List Value) (m : ℕ) : Type 0 wh
   pub under : instance.key ≡ key
   pub message_is : instance.message ≡ m
 
+-- some instance of the message is received under the key
+pub record IsReceived (run : List Event) (key : List Value) (m : ℕ) : Type 0 where
+  pub instance : Instance
+  pub received : Contains run (Receive instance)
+  pub under : instance.key ≡ key
+  pub message_is : instance.message ≡ m
+
 -- what is emitted under the key is received, and no other message can be emitted under it
 pub record Quiet (x : Expanded) (run : List Event) (key : List Value) : Type 0 where
   pub received : (i : Instance) → i.key ≡ key → Contains run (Emit i) → Contains run (Receive i)

@@ -33,7 +33,7 @@ fn has_public_value(x: &Expanded, param: u32) -> bool
 }
 
 /// Whether some role knows a value of the parameter under the key.
-fn is_bound(x: &Expanded, run: &[Event], key: &Key, param: u32) -> bool
+pub fn is_bound(x: &Expanded, run: &[Event], key: &Key, param: u32) -> bool
     requires { IsRun x.now run.now }
     ensures { IsTrue result ↔ Bound x.now run.now key.now param }
 {

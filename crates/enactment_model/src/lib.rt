@@ -13,7 +13,7 @@ mod producing_messages;
 mod quietness;
 
 pub use bad_event::{BadEvent, Why};
-pub use boundness::unbound;
+pub use boundness::{is_bound, unbound};
 pub use conflicts::{Conflict, least_rival, producers};
 pub use examples::{
     nothing_is_not_live, ping_comes_to_rest, ping_is_safe_and_live, rivals_disagree,
@@ -25,5 +25,6 @@ pub use laws::{
     shortest_conflict, violated_does_not_hold,
 };
 pub use legality::{legal, may_follow};
+pub use occurrence::{is_emitted_under, is_received_under};
 pub use producing_messages::{shares_out, single_producer};
 pub use quietness::{Loose, quiet};

@@ -1,10 +1,10 @@
-ghost use Rattle.std.specs.Prelude.{◌≡◌, ◌↔◌, ◌<◌, IfErr, IsOk, IsTrue, length, MatchBool};
+ghost use Rattle.std.specs.Prelude.{◌≡◌, ◌↔◌, ◌<◌, IfErr, IsOk, length, MatchBool};
 ghost use Rattle.bspl_types.specs.History.{IsRun};
 ghost use Rattle.enactment_model.specs.FirstLoose.{IsFirstLoose, IsLoose, IsUnreceived};
-ghost use Rattle.enactment_model.specs.Liveness.{IsEmitted, Quiet};
-ghost use Rattle.enactment_model.specs.inner.Rest.{AreReceived, EmitsOf, IsAtRest};
+ghost use Rattle.enactment_model.specs.Liveness.{Quiet};
+ghost use Rattle.enactment_model.specs.inner.Rest.{AreReceived, IsAtRest};
 
-use super::occurrence::is_received;
+use super::occurrence::{is_emitted_under, is_received};
 use bspl_types::{Event, Expanded, Key};
 use role_knowledge::enabled;
 
@@ -60,21 +60,4 @@ fn is_unreceived(run: &[Event], key: &Key, message: u32) -> bool
         }
     }
     false
-}
-
-/// Whether some instance of the message is emitted under the key.
-fn is_emitted_under(run: &[Event], key: &Key, message: u32) -> bool
-    ensures { IsTrue result ↔ IsEmitted run.now key.now message }
-{
-    run.iter().any(|event| emits(event, key, message))
-}
-
-/// Whether the event emits an instance of the message under the key.
-fn emits(event: &Event, key: &Key, message: u32) -> bool
-    ensures { IsTrue result ↔ EmitsOf key.now message event.now }
-{
-    match event {
-        Event::Emit(instance) => instance.message == message && instance.key.same(key),
-        Event::Receive(_) => false,
-    }
 }

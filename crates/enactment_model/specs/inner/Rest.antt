@@ -28,3 +28,10 @@ pub record EmitsOf (key : List Value) (m : ℕ) (event : Event) : Type 0 where
   pub emitted : event ≡ Emit instance
   pub under : instance.key ≡ key
   pub message_is : instance.message ≡ m
+
+-- the event receives an instance of the message under the key
+pub record ReceivesOf (key : List Value) (m : ℕ) (event : Event) : Type 0 where
+  pub instance : Instance
+  pub received : event ≡ Receive instance
+  pub under : instance.key ≡ key
+  pub message_is : instance.message ≡ m
