@@ -3,11 +3,10 @@ ghost use Rattle.std.specs.List.{Contains, filter, list_any};
 ghost use Rattle.bspl_types.specs.Choice.{is_chosen};
 ghost use Rattle.stamped_history.specs.Entries.{clock_limit, last_stamp};
 
-use adornment_check::admit;
 use bspl_parser::{parse, reads_back};
 use bspl_types::{Admitted, Adornment, Carried, Expanded, Key, NoMemory, Refusal, Seq, Value};
 use local_store::Store;
-use protocol_expand::expand;
+use protocol_expand::{admit, expand};
 use std::alloc::Global;
 use std::test::Fail;
 

@@ -23,7 +23,7 @@ impl Model for Admitted {
 }
 
 impl Admitted {
-    /// Admits the expansion. `adornment_check::admit` tests what this requires.
+    /// Admits the expansion. `protocol_expand::admit` tests what this requires.
     pub fn seal(expanded: Expanded) -> Admitted
         requires { IsAdmitted expanded }
         ensures { result ≡ expanded }

@@ -1,6 +1,6 @@
 use super::protocols::{Declared, ID, OUT_ID, PING, PING_ALONE, Parts, Schema, assemble};
-use adornment_check::admit;
 use bspl_types::{Admitted, Adornment, Carried, Expanded, NoMemory, TryClone, index_of};
+use protocol_expand::admit;
 use std::alloc::Global;
 use std::test::Fail;
 

@@ -1,6 +1,6 @@
 -- What the uses promise, in the words of the crates that they call.
 use Rattle.std.specs.Prelude.{◌≡◌, ℕ, Bool, true, false, List, [], ◌∷◌, Option, None, Some}
-use Rattle.adornment_check.specs.NotAdmitted.{IsNotAdmitted}
+use Rattle.protocol_expand.specs.NotAdmitted.{IsNotAdmitted}
 use Rattle.bspl_parser.specs.declared.document.Document.{Document}
 use Rattle.bspl_parser.specs.Judgement.{IsRefusedFor, IsText}
 use Rattle.bspl_types.specs.Admission.{IsAdmitted}

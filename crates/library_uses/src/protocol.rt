@@ -1,10 +1,9 @@
 ghost use Rattle.std.specs.Prelude.{IfErr, IfOk};
 ghost use Rattle.library_uses.specs.Uses.{DeclaresNone, IsProtocolOf};
 
-use adornment_check::admit;
 use bspl_parser::{parse, reads_back};
 use bspl_types::{Admitted, Refusal};
-use protocol_expand::expand;
+use protocol_expand::{admit, expand};
 use std::alloc::Global;
 
 /// The protocol of the name that the text declares, or why it declares none.

@@ -32,3 +32,8 @@ mod PlainFaults
 mod Plain
 mod Unplaced
 mod BareSame
+mod Firsts
+mod KeysExist
+mod OneReason
+mod OneRefusal
+mod Refused

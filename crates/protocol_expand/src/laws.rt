@@ -2,6 +2,7 @@ ghost use Rattle.protocol_expand.specs.FlatLaws.{ExpansionsKeepNames};
 ghost use Rattle.protocol_expand.specs.FlatLaws.{FlatExpansionsAreUnique, WellScopedExpand};
 ghost use Rattle.protocol_expand.specs.Laws.{AnswersAreDistinct, ExpansionsAreUnique};
 ghost use Rattle.protocol_expand.specs.Laws.{PlainStandsForItself, RefusalsAreUnique, TextsAreUnique};
+ghost use Rattle.protocol_expand.specs.NotAdmitted.{AdmittedIsNotRefused, RefusalsAreOne};
 
 use bspl_parser::equal_words;
 use protocol_limits::references_are_a_graph;
@@ -64,4 +65,11 @@ pub fn plain_protocols_stand_for_themselves()
 /// A law: an expansion has one text.
 pub fn prints_once()
     ensures { TextsAreUnique }
+{}
+
+/// A law: an expansion is refused for one reason at most, unless memory ran out, and for none if it
+/// is admitted.
+pub fn refuses_once()
+    ensures refusals { RefusalsAreOne }
+    ensures exclusive { AdmittedIsNotRefused }
 {}

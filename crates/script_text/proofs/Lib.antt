@@ -1,4 +1,3 @@
-pub mod FieldLemmas
 pub mod FormLemmas
 pub mod KeyLemmas
 pub mod LineLemmas

@@ -5,7 +5,7 @@ use Rattle.std.proofs.Math.Seq.{take-length}
 use Rattle.std.proofs.lemmas.List.Splits.{slice_split_first, slice_split_none, length-slice_split}
 use Rattle.std.proofs.lemmas.List.Sums.{fails_before_first}
 use Rattle.agent_scripts.specs.Lines.{ended_lines, script_lines, without_return}
-use Rattle.script_text.specs.inner.Blanks.{is_line_end}
+use Rattle.script_text.specs.inner.LineEnd.{is_line_end}
 
 -- a text without an LF is one line
 pub one_line : (text : List ℕ) → position_or_len is_line_end text ≡ length text → script_lines text ≡ text ∷ []

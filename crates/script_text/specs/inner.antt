@@ -1,5 +1,5 @@
 -- What only private functions cite.
-pub mod Blanks
+pub mod LineEnd
 pub mod LineReading
 pub mod Statements
 pub mod TextReading

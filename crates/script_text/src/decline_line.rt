@@ -3,12 +3,12 @@ ghost use Rattle.agent_scripts.specs.Table.{IsEvery, every_fields};
 ghost use Rattle.script_text.specs.inner.LineReading.{ReadsFields};
 ghost use Rattle.text_lines.specs.Fields.{fields_of};
 
-use super::fields::first_field;
 use super::line_error::LineError;
 use super::names::message_of;
 use super::numbers::last_number;
 use agent_scripts::Statement;
 use bspl_types::Expanded;
+use text_lines::first_field;
 
 /// The statement of a line `decline MESSAGE` or `decline MESSAGE every N`, of which the rest
 /// follows the word.

@@ -8,10 +8,10 @@ ghost use Rattle.bspl_types.specs.ValueSpelling.{value_spelling};
 ghost use Rattle.script_text.specs.inner.LineReading.{ReadsFields};
 ghost use Rattle.text_lines.specs.Fields.{fields_of};
 
-use super::fields::first_field;
 use super::line_error::LineError;
 use agent_scripts::Statement;
 use bspl_types::{Expanded, KEY_LIMIT, Key, Value};
+use text_lines::first_field;
 
 /// The statement of a line `key V ..`, of which the rest follows the word.
 pub(crate) fn key_statement(x: &Expanded, rest: &[u8]) -> Result<Statement, LineError>

@@ -4,7 +4,6 @@
 mod agents;
 mod agents_text;
 mod decline_line;
-mod fields;
 mod key_line;
 mod keys;
 mod laws;

@@ -3,7 +3,6 @@ ghost use Rattle.script_text.specs.inner.LineReading.{ReadsFields};
 ghost use Rattle.text_lines.specs.Fields.{fields_of};
 
 use super::decline_line::decline_statement;
-use super::fields::first_field;
 use super::key_line::key_statement;
 use super::line_error::LineError;
 use super::order_line::order_statement;
@@ -13,6 +12,7 @@ use super::value_line::value_statement;
 use agent_scripts::Statement;
 use bspl_types::Expanded;
 use std::alloc::Global;
+use text_lines::first_field;
 
 /// What the line says of the protocol.
 pub(crate) fn statement_of(alloc: Global, x: &Expanded, line: &[u8]) -> Result<Statement, LineError>

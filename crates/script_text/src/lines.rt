@@ -2,10 +2,10 @@ ghost use Rattle.std.specs.Prelude.{◌≡◌, ◌<◌, ◌≤◌, [], ◌∷◌
 ghost use Rattle.std.specs.List.{position_or_len};
 ghost use Rattle.agent_scripts.specs.Lines.{script_lines, without_return};
 ghost use Rattle.agent_scripts.specs.ScriptText.{is_passed_over};
-ghost use Rattle.script_text.specs.inner.Blanks.{is_line_end};
+ghost use Rattle.script_text.specs.inner.LineEnd.{is_line_end};
 ghost use Rattle.text_lines.specs.Fields.{fields_of};
 
-use super::fields::first_field;
+use text_lines::first_field;
 
 /// The first line of a text without its end, and the text after it, if the line has an end.
 pub(crate) fn first_line(text: &[u8]) -> (&[u8], Option<&[u8]>)

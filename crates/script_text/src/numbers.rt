@@ -2,8 +2,8 @@ ghost use Rattle.std.specs.Prelude.{◌≡◌, ◌≢◌, ℕ, ◌<◌, ◌^◌,
 ghost use Rattle.std.specs.Fmt.{decimal};
 ghost use Rattle.text_lines.specs.Fields.{fields_of};
 
-use super::fields::first_field;
 use bspl_types::{Value, spells_once};
+use text_lines::first_field;
 
 /// The number that the field spells, if it spells one of 64 bits.
 pub(crate) fn number_of(field: &[u8]) -> Option<u64>

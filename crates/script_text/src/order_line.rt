@@ -2,12 +2,12 @@ ghost use Rattle.std.specs.Prelude.{◌∷◌, codes};
 ghost use Rattle.script_text.specs.inner.LineReading.{ReadsFields, ReadsOrder};
 ghost use Rattle.text_lines.specs.Fields.{fields_of};
 
-use super::fields::first_field;
 use super::line_error::LineError;
 use super::names::{role_of, sent_message};
 use agent_scripts::Statement;
 use bspl_types::{Expanded, NumberList, Seq};
 use std::alloc::Global;
+use text_lines::first_field;
 
 /// The statement of a line `order ROLE MESSAGE ..`, of which the rest follows the word.
 pub(crate) fn order_statement(

@@ -4,12 +4,12 @@ ghost use Rattle.agent_scripts.specs.Table.{IsRule, rule_fields};
 ghost use Rattle.script_text.specs.inner.LineReading.{ReadsFields};
 ghost use Rattle.text_lines.specs.Fields.{fields_of};
 
-use super::fields::first_field;
 use super::line_error::LineError;
 use super::names::{free_out, message_of};
 use super::numbers::last_number;
 use agent_scripts::{Rule, Statement};
 use bspl_types::{Expanded, Value, spells_once};
+use text_lines::first_field;
 
 /// The statement of a line `value MESSAGE PARAM A B` or `value MESSAGE PARAM T`, of which the rest
 /// follows the word.

@@ -3,3 +3,6 @@ pub mod FirstPart
 pub mod OneRefusal
 pub mod MessageNames
 pub mod RoleNames
+pub mod Unasked
+pub mod InputReplies
+pub mod Replies

@@ -4,7 +4,7 @@ use Rattle.bspl_types.specs.declared.expanded.Expanded.{Expanded}
 use Rattle.bspl_types.specs.declared.refusals.Refusal.{Refusal}
 use Rattle.bspl_types.specs.declared.refusals.Refusal.TheVariants.{Byte, Syntax, NoMemory}
 use Rattle.bspl_types.specs.Admission.{IsAdmitted}
-use Rattle.adornment_check.specs.NotAdmitted.{IsNotAdmitted}
+use Rattle.protocol_expand.specs.NotAdmitted.{IsNotAdmitted}
 use Rattle.bspl_parser.specs.declared.document.Document.{Document}
 use Rattle.bspl_parser.specs.Judgement.{AreExclusive, IsBadSyntax, IsRefusedFor, IsText}
 use Rattle.bspl_parser.specs.Tokens.{IsBadByte}

@@ -5,7 +5,7 @@ use Rattle.bspl_types.specs.declared.refusals.Refusal.{Refusal}
 use Rattle.bspl_types.specs.declared.refusals.Refusal.TheVariants as refusal
 use Rattle.bspl_types.specs.declared.refusals.What.TheVariants as what
 use Rattle.bspl_types.specs.Limits.{text_limit}
-use Rattle.adornment_check.specs.NotAdmitted.{IsNotAdmitted}
+use Rattle.protocol_expand.specs.NotAdmitted.{IsNotAdmitted}
 use Rattle.bspl_parser.specs.declared.document.Document.{Document}
 use Rattle.bspl_parser.specs.Judgement.{IsRefusedFor}
 use Rattle.protocol_expand.specs.Expansion.{Expands}

@@ -6,10 +6,9 @@ ghost use Rattle.tool_input.specs.TextRefusal.{RefusesText};
 
 use super::limits::TEXT_LIMIT;
 use super::parts::protocol_text;
-use adornment_check::admit;
 use bspl_parser::{parse, reads_back};
 use bspl_types::{Admitted, Refusal, What};
-use protocol_expand::expand;
+use protocol_expand::{admit, expand};
 use std::alloc::Global;
 
 /// The protocol of the name that the input's protocol text declares, or why it declares none.

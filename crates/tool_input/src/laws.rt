@@ -11,5 +11,5 @@ pub fn texts_are_judged_once()
     // law: a name has one expansion in a document at most, or is refused for one reason
     protocol_expand::answers_once();
     // law: an expansion is refused for one reason at most, and for none if it is admitted
-    adornment_check::refuses_once();
+    protocol_expand::refuses_once();
 }

@@ -1,6 +1,6 @@
 -- Each refusal is one of the three reasons.
 use Rattle.std.proofs.lemmas.Result.{IfErr-weaker, err_from_is_err_and}
-use Rattle.adornment_check.specs.NotAdmitted.{IsNotAdmitted}
+use Rattle.protocol_expand.specs.NotAdmitted.{IsNotAdmitted}
 use Rattle.library_uses.specs.Uses.{DeclaresNone}
 use Rattle.library_uses.specs.Uses.DeclaresNone.{misspelled, not_expanded, not_admitted}
 use Rattle.library_uses.proofs.protocol.admitted_protocol.Goals as goal

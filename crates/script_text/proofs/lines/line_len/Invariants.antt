@@ -1,7 +1,7 @@
 -- no LF was passed over
 use Rattle.std.proofs.Common.{◌≡◌, ◌+◌, drop}
 use Rattle.std.specs.List.{position_or_len}
-use Rattle.script_text.specs.inner.Blanks.{is_line_end}
+use Rattle.script_text.specs.inner.LineEnd.{is_line_end}
 use Rattle.script_text.proofs.lines.line_len.Given as goal
 
 abbrev pub invariant-loop-index : goal.invariant-loop-index

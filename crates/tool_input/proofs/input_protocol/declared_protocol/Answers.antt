@@ -2,7 +2,7 @@
 use Rattle.std.proofs.Common.{◌≢◌, arith}
 use Rattle.std.proofs.lemmas.Result.{IfErr-weaker, err_from_is_err_and}
 use Rattle.bspl_types.specs.declared.refusals.Refusal.TheVariants.{NoMemory}
-use Rattle.adornment_check.specs.NotAdmitted.{IsNotAdmitted}
+use Rattle.protocol_expand.specs.NotAdmitted.{IsNotAdmitted}
 use Rattle.tool_input.specs.TextRefusal.{RefusesText}
 use Rattle.tool_input.specs.TextRefusal.RefusesText.{too_long, misspelled, not_expanded, not_admitted}
 use Rattle.tool_input.proofs.input_protocol.declared_protocol.Goals as goal

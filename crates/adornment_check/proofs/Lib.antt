@@ -1,5 +1,0 @@
-mod Firsts
-mod KeysExist
-mod OneReason
-mod OneRefusal
-mod Refused

@@ -1,2 +1,0 @@
--- Why an expansion is not admitted.
-pub mod NotAdmitted

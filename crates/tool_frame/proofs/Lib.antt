@@ -1,3 +1,0 @@
-pub mod Unasked
-pub mod InputReplies
-pub mod Replies
