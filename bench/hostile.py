@@ -7,8 +7,8 @@ A line a case: its size in bytes, the seconds of processor time, those of the pl
 The least of RUNS (3) runs counts; a run of more than SECONDS (120) is stopped. A plain text is a document whose asked
 protocol is small and stands alone, or for a run, a log or a script the same text without the fault, or for many
 private parameters under a long prefix the same under a short one; that expansion has 520 megabytes. For keys with one
-hash, by which a table of the kit finds each in linear time, it is keys with others. The long ones have SIZE (100000000)
-bytes. What is missing is said, and left out. BSPL and DIMACS_SAT name the programs
+hash, by which a table of the kit finds each in linear time, it is keys with others; for different events under one key,
+each under a key of its own. The long ones have SIZE (100000000) bytes. What is missing is said, and left out. BSPL and DIMACS_SAT name the programs
 (crates/bspl/out/bspl, crates/dimacs_sat/out/dimacs_sat).
 """
 import itertools
@@ -26,6 +26,9 @@ LETTERS = "abcdefghijklmnopqrstuvwxyzABCDEFGHIJKLMNOPQRSTUVWXYZ"
 RESERVED = {"key", "out", "nil", "any", "opt"}
 TEXT_LIMIT = 1 << 20
 PAIR = "Pair { roles A, B parameters out a key, out b key A -> B: pair[out a, out b] }\n"
+MANY = "Many {{ roles A, B, C parameters out ID key, {0} A -> C: a[out ID, {0}] B -> C: b[out ID, {0}] " \
+    "C -> A: m[in ID, {1}] }}\n".format(", ".join(f"out x{n}" for n in range(1, 16)),
+                                     ", ".join(f"in x{n}" for n in range(1, 16)))
 PING = "Ping { roles A, B parameters out ID key A -> B: ping[out ID] }\n"
 
 
@@ -132,6 +135,38 @@ def run_of_keys(collide):
     return PAIR + "%% run\nrun 1\n" + "".join(lines) + "end\n"
 
 
+def acts_of_keys(one_key, count=30000):
+    """The acts of A, B and C of Many, each a list. C knows two values of each parameter of one key, and emits and A
+    receives so many different messages under it; or each key has the messages of both, and one of these."""
+    acts = {"A": [], "B": [], "C": []}
+    for number in range(1 if one_key else count // 2):
+        for role, name, value in (("A", "a", 0), ("B", "b", 1)):
+            line = f"{name} ID={number + 1}" + "".join(f" x{n}={value}" for n in range(1, 16))
+            acts[role].append(f"send {line}")
+            acts["C"].append(f"receive {line}")
+    for number in range(count):
+        key = 1 if one_key else number // 2 + 1
+        line = f"m ID={key}" + "".join(f" x{n}={number >> (n - 1) & 1}" for n in range(1, 16))
+        acts["C"].append(f"send {line}")
+        acts["A"].append(f"receive {line}")
+    return acts
+
+
+def run_of_acts(one_key):
+    """A legal run: what A and B emit comes before what C does, and what A receives last."""
+    acts = acts_of_keys(one_key)
+    sent = [line for line in acts["A"] if line.startswith("send")] + acts["B"]
+    received = [line for line in acts["A"] if line.startswith("receive")]
+    return MANY + "%% run\nrun 1\n" + "\n".join(sent + acts["C"] + received) + "\nend\n"
+
+
+def histories_of_acts(one_key):
+    """The histories of that run."""
+    sections = "".join(f"role {role}\n" + "".join(line + "\n" for line in acts)
+                       for role, acts in acts_of_keys(one_key).items())
+    return MANY + "%% histories\nhistories 1\n" + sections + "end\n"
+
+
 def seconds_of(command, text):
     """The least processor time of the command, or None if it was stopped, and what it printed first."""
     run = least(command, text.encode(), limit=SECONDS)
@@ -188,6 +223,9 @@ def cases():
     run, replay = [BSPL, "run", "Pair", "--threads", "0"], [BSPL, "replay", "Pair"]
     yield "keys run", BSPL, lambda: (run, many_keys(True), by_keys(run, many_keys))
     yield "keys replay", BSPL, lambda: (replay, run_of_keys(True), by_keys(replay, run_of_keys))
+    for command, text_of in (("replay", run_of_acts), ("audit", histories_of_acts)):
+        of_many = [BSPL, command, "Many"]
+        yield f"events {command}", BSPL, lambda c=of_many, t=text_of: (c, t(True), by_keys(c, t))
     yield "dimacs_sat", DIMACS_SAT, lambda: ([DIMACS_SAT], "p cnf 16777215 0\n", lambda _: ([DIMACS_SAT], "p cnf 1 0\n"))
 
 

@@ -1,59 +1,17 @@
 -- What numbers and a map of indices find, with one key more too.
-use Rattle.std.proofs.Common.{◌≡◌, ◌≢◌, ◌⊎◌, ℕ, get_or, ◌<◌, true, cond, List, [], ◌∷◌, ◌++◌, length, Some, inl, inr, slice_get, refl, sym, ap, ap₂, ◌∙◌, subst, arith}
+use Rattle.std.proofs.Common.{◌≡◌, ◌≢◌, ◌⊎◌, ℕ, get_or, ◌<◌, true, cond, List, [], ◌∷◌, ◌++◌, length, Some, inl, inr, slice_get, refl, sym, ap, ◌∙◌, subst, arith}
 use Rattle.std.specs.BTreeMap.{BTreeMap, get}
 use Rattle.std.specs.List.{AllPairs, Contains}
-use Rattle.std.specs.Ordering.{is_eq, ordering_then}
-use Rattle.std.specs.declared.cmp.Ordering.{Ordering}
-use Rattle.std.specs.declared.cmp.Ordering.TheVariants.{Less, Equal, Greater}
-use Rattle.std.proofs.lemmas.Bool.{cases_Bool, cases_lt, true≢false}
-use Rattle.std.proofs.lemmas.Cmp.{tied_itself}
+use Rattle.std.specs.Ordering.{is_eq}
+use Rattle.std.proofs.lemmas.Bool.{cases_Bool, cases_lt}
 use Rattle.std.proofs.lemmas.List.{get_or_append_left, get_or_at, length-append}
 use Rattle.std.proofs.lemmas.List.Quantifiers.{all_pairs_push}
-use Rattle.std.proofs.lemmas.Map.Lookups.{CmpEqualImpliesEq, exact_bytes, exact_unsigned}
 use Rattle.std.proofs.lemmas.Option.{get_or_from_slice_get, same_Some, slice_get-get_or, slice_get_within}
 use Rattle.list_base.proofs.Membership.{member_at}
 use Rattle.bspl_types.specs.declared.value.Value.{Value}
-use Rattle.bspl_types.specs.declared.value.Value.TheVariants.{Number, Text}
-use Rattle.key_table.specs.KeyOrder.{TiedKeysAreOne, key_cmp, key_cmp_total, value_cmp}
+use Rattle.key_table.specs.KeyOrder.{key_cmp}
 use Rattle.key_table.specs.inner.KeyIndex.{IsKeyIndex, index_by_number}
-
--- values that tie are one value
-exact_values : CmpEqualImpliesEq value_cmp
-exact_values (Number a) (Number b) tie = ap Number (exact_unsigned a b tie)
-exact_values (Number a) (Text b) tie = absurd (cc)
-exact_values (Text a) (Number b) tie = absurd (cc)
-exact_values (Text a) (Text b) tie = ap Text (exact_bytes a b tie)
-
--- of two answers in turn that tie each ties
-first_ties : (o p : Ordering) → ordering_then o p ≡ Equal → o ≡ Equal
-first_ties Less p tie = tie
-first_ties Equal p tie = refl
-first_ties Greater p tie = tie
-
-then_ties : (o p : Ordering) → o ≡ Equal → ordering_then o p ≡ Equal → p ≡ Equal
-then_ties o p is tie = sym (ap (λ first. ordering_then first p) is) ∙ tie
-
--- keys that tie are one key
-exact_keys : CmpEqualImpliesEq key_cmp
-exact_keys [] [] tie = refl
-exact_keys [] (w ∷ ws) tie = absurd (cc)
-exact_keys (v ∷ vs) [] tie = absurd (cc)
-exact_keys (v ∷ vs) (w ∷ ws) tie =
-    let first = first_ties (value_cmp v w) (key_cmp vs ws) tie in
-    ap₂ (λ x xs. x ∷ xs) (exact_values v w first) (exact_keys vs ws (then_ties (value_cmp v w) (key_cmp vs ws) first tie))
-
--- an answer that passes the test is a tie
-tie_is : (o : Ordering) → is_eq o ≡ true → o ≡ Equal
-tie_is Less is = absurd (true≢false (sym is))
-tie_is Equal is = refl
-tie_is Greater is = absurd (true≢false (sym is))
-
--- a key is equal to itself, and to no other
-pub tied_is_one : TiedKeysAreOne
-tied_is_one k l = (
-  λ tie. exact_keys k l (tie_is (key_cmp k l) tie),
-  λ one. ap is_eq (sym (ap (key_cmp k) one) ∙ tied_itself key_cmp_total k),
-)
+use Rattle.key_table.proofs.TieLemmas.{tied_is_one}
 
 -- an item that comes last changes no earlier one
 early_item : (keys : List (List Value)) (key q : List Value) (i : ℕ) → i < length keys → slice_get (keys ++ key ∷ []) i ≡ slice_get keys i

@@ -1,1 +1,2 @@
 mod KeyIndexLemmas
+mod TieLemmas

@@ -1,7 +1,8 @@
 ghost use Rattle.std.specs.Prelude.{◌≡◌};
+ghost use Rattle.key_table.specs.EventOrder.{event_cmp, instance_cmp};
 ghost use Rattle.key_table.specs.KeyOrder.{value_cmp, key_cmp};
 
-use bspl_types::Value;
+use bspl_types::{Event, Instance, Value};
 use std::cmp::Ordering;
 
 /// The order of two values: numbers come before texts, each by their own order.
@@ -33,5 +34,30 @@ pub(crate) fn compare_all(left: &[Value], right: &[Value]) -> Ordering
                 differs => differs,
             },
         },
+    }
+}
+
+/// The order of two instances: by message, then by key, then by values.
+fn compare_instances(left: &Instance, right: &Instance) -> Ordering
+    ensures { result ≡ instance_cmp left.now right.now }
+{
+    match left.message.cmp(&right.message) {
+        Ordering::Equal => match compare_all(left.key.as_slice(), right.key.as_slice()) {
+            Ordering::Equal => compare_all(left.values.as_slice(), right.values.as_slice()),
+            differs => differs,
+        },
+        differs => differs,
+    }
+}
+
+/// The order of two events: emissions come before receptions, each by the order of instances.
+pub(crate) fn compare_events(left: &Event, right: &Event) -> Ordering
+    ensures { result ≡ event_cmp left.now right.now }
+{
+    match (left, right) {
+        (Event::Emit(instance), Event::Emit(other)) => compare_instances(instance, other),
+        (Event::Receive(instance), Event::Receive(other)) => compare_instances(instance, other),
+        (Event::Emit(_), Event::Receive(_)) => Ordering::Less,
+        (Event::Receive(_), Event::Emit(_)) => Ordering::Greater,
     }
 }

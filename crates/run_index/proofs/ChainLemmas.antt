@@ -10,9 +10,10 @@ use Rattle.std.proofs.lemmas.Option.{same_Some, slice_get-get_or, slice_get_with
 use Rattle.bspl_types.specs.declared.event.Event.{Event}
 use Rattle.bspl_types.specs.declared.value.Value.{Value}
 use Rattle.bspl_types.specs.History.{instance_of}
+use Rattle.key_table.specs.EventOrder.{TiedEventsAreOne, event_cmp}
 use Rattle.key_table.specs.KeyOrder.{TiedKeysAreOne, key_cmp}
 use Rattle.run_index.specs.FirstOfKey.{IsFirstOfKey, IsRepeatOfKey}
-use Rattle.run_index.specs.inner.Chain.{IsIndexFrom, IsNextUnder}
+use Rattle.run_index.specs.inner.Chain.{HasFirstsFrom, IsFirstFrom, IsIndexFrom, IsNextUnder}
 
 -- from the end on there is no event
 pub none_from_end : (run : List Event) (key : List Value) (n : ℕ) → n ≡ length run → IsNextUnder run key n n
@@ -85,6 +86,42 @@ index_start run firsts empty =
       first = λ key. rw empty (none_from_end run key (length run) refl);
       next = λ k e from at. absurd (omega (arith, from, slice_get_within run k e at));
     }
+
+-- the empty map has the position of no event of the run
+pub firsts_start : (run : List Event) (acts : BTreeMap Event ℕ) → acts.entries ≡ [] → HasFirstsFrom run (length run) acts
+firsts_start run acts empty event = rw empty (record {
+  within = omega arith;
+  none_before = λ k from before at. absurd (omega (arith, from, before));
+  there = λ within. absurd (omega (arith, within));
+})
+
+-- an event is the first of its kind from its position on
+event_here : (run : List Event) (p : ℕ) (e : Event) → slice_get run p ≡ Some e → IsFirstFrom run e p p
+event_here run p e at =
+    record {
+      within = omega (arith, slice_get_within run p e at);
+      none_before = λ k from before there. absurd (omega (arith, from, before));
+      there = λ within. at;
+    }
+
+-- another event is passed over
+event_later : (run : List Event) (p found : ℕ) (e other : Event) → slice_get run p ≡ Some e → (e ≡ other → ⊥) → IsFirstFrom run other (p + 1) found → IsFirstFrom run other p found
+event_later run p found e other at differs later =
+    record {
+      within = later.within;
+      none_before = λ k from before there. elim (cases_lt p k) [
+        | inl more ↦ later.none_before k (omega (arith, more)) before there
+        | inr here ↦ let is : k ≡ p = omega (arith, here, from) in differs (same_Some e other (sym at ∙ ap (slice_get run) (sym is) ∙ there))
+      ];
+      there = later.there;
+    }
+
+-- the map has the position of one more event
+pub firsts_more : TiedEventsAreOne → (run : List Event) (n p : ℕ) (event : Event) (acts more : BTreeMap Event ℕ) → n ≡ p + 1 → slice_get run p ≡ Some event → HasFirstsFrom run n acts → ((q : Event) → get event_cmp more q ≡ cond (is_eq (event_cmp event q)) (Some p) (get event_cmp acts q)) → HasFirstsFrom run p more
+firsts_more exact run n p event acts more is_next at old updates q = elim (cases_Bool (is_eq (event_cmp event q))) [
+  | inl is_yes ↦ rw (updates q, is_yes) (subst (λ e. IsFirstFrom run e p p) ((exact event q).0 is_yes) (event_here run p event at))
+  | inr is_no ↦ rw (updates q, is_no) (event_later run p (unwrap_or (get event_cmp acts q) (length run)) event q at (λ same. true≢false (sym ((exact event q).1 same) ∙ is_no)) (subst (λ k. IsFirstFrom run q k (unwrap_or (get event_cmp acts q) (length run))) is_next (old q)))
+]
 
 -- one more event at the front of the index
 pub index_more : TiedKeysAreOne → (run : List Event) (n p next : ℕ) (event : Event) (firsts more : BTreeMap (List Value) ℕ) (following : List ℕ) → n ≡ p + 1 → slice_get run p ≡ Some event → IsIndexFrom run n firsts following → next ≡ unwrap_or (get key_cmp firsts (instance_of event).key) (length run) → ((q : List Value) → get key_cmp more q ≡ cond (is_eq (key_cmp (instance_of event).key q)) (Some p) (get key_cmp firsts q)) → IsIndexFrom run p more (following ++ next ∷ [])

@@ -6,3 +6,6 @@ pub mod FailureLemmas
 pub mod LegalLemmas
 pub mod EmissionLemmas
 pub mod ConflictLemmas
+mod FactLemmas
+mod PermissionLemmas
+mod AddLemmas

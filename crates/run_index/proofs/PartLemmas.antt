@@ -1,19 +1,13 @@
--- What may be said of an event under a key depends on the earlier events under that key alone.
-use Rattle.std.proofs.Common.{◌≡◌, ℕ, List, refl, sym, ap, ◌∙◌}
-use Rattle.std.specs.List.{Any, Contains}
+-- What the events under a key make known and permit, they do in the run.
+use Rattle.std.proofs.Common.{◌≡◌, ℕ, List}
+use Rattle.std.specs.List.{Contains}
 use Rattle.std.specs.Prelude.{◌==◌}
 use Rattle.list_base.proofs.Filtered.{filtered_member, kept_member}
 use Rattle.bspl_types.specs.declared.event.Event.{Event}
-use Rattle.bspl_types.specs.declared.event.Event.TheVariants.{Emit, Receive}
 use Rattle.bspl_types.specs.declared.expanded.Expanded.{Expanded}
 use Rattle.bspl_types.specs.declared.value.Value.{Value}
-use Rattle.bspl_types.specs.Expansion.{message_of}
 use Rattle.bspl_types.specs.History.{history_of, instance_of, role_of}
 use Rattle.bspl_types.specs.Knowledge.{CanEmit, IsKnown, Knows}
-use Rattle.enactment_model.specs.Legal.{MayFollow}
-use Rattle.run_index.specs.declared.demand.Demand.{Demand}
-use Rattle.run_index.specs.declared.demand.Demand.TheVariants as demands
-use Rattle.run_index.specs.inner.Demands.{IsRivalOf, Meets}
 use Rattle.run_index.specs.inner.Enactment.{HasEventsUnder}
 
 -- both lists have the same events under the key
@@ -59,28 +53,3 @@ can_from x key events others agree role m can =
       outs = λ p adorned known. can.outs p adorned (known_from x key others events back role p known);
       nils = λ p adorned known. can.nils p adorned (known_from x key others events back role p known);
     }
-
--- an event that may follow one may follow the other
-follows_from : (x : Expanded) (e : Event) (events others : List Event) → AgreeUnder (instance_of e).key events others → MayFollow x events e → MayFollow x others e
-follows_from x (Emit i) events others agree enabled =
-    let role = (message_of x i.message).sender in
-    record {
-      can = can_from x i.key events others agree role i.message enabled.can;
-      same = λ p v carries. knows_from x i.key events others agree role p v (enabled.same p v carries);
-    }
-follows_from x (Receive i) events others agree emitted = agree.to (Emit i) refl emitted
-
--- an event without a rival in one has none in the other
-unrivalled_from : (x : Expanded) (e : Event) (events others : List Event) → AgreeUnder (instance_of e).key events others → ¬ Any (IsRivalOf x e) events → ¬ Any (IsRivalOf x e) others
-unrivalled_from x e events others agree none (k, earlier, within, is, rival) =
-    let own : (instance_of earlier).key ≡ (instance_of e).key =
-    ap (λ f. (instance_of f).key) rival.earlier_is ∙ rival.under ∙ sym (ap (λ f. (instance_of f).key) rival.event_is) in
-    let (j, inside, same) = agree.back earlier own (k, within, is) in
-    none (j, earlier, inside, same, rival)
-
--- an event meets a demand after one exactly if it does after the other
-pub meets_from : (x : Expanded) (demand : Demand) (e : Event) (events others : List Event) → AgreeUnder (instance_of e).key events others → Meets x demand events e → Meets x demand others e
-meets_from x demands.MayFollow e events others agree meets = follows_from x e events others agree meets
-meets_from x demands.Unrivalled e events others agree meets = unrivalled_from x e events others agree meets
-meets_from x demands.Enabled (Emit i) events others agree meets = follows_from x (Emit i) events others agree meets
-meets_from x demands.Enabled (Receive i) events others agree meets = tt

@@ -1,16 +1,21 @@
 -- How an enactment is left depends on its own events alone.
-use Rattle.std.proofs.Common.{ℕ, List, Option, None, Some, inl, inr}
-use Rattle.std.specs.Prelude.{IfSome}
+use Rattle.std.proofs.Common.{ℕ, ◌<◌, ◌≤◌, Bool, true, false, List, length, Option, None, Some, inl, inr, refl, arith}
+use Rattle.std.specs.Prelude.{IfSome, MatchBool}
+use Rattle.std.proofs.lemmas.List.Elements.{All-contains}
 use Rattle.bspl_types.specs.declared.event.Event.{Event}
-use Rattle.bspl_types.specs.declared.event.Event.TheVariants.{Emit, Receive}
+use Rattle.bspl_types.specs.declared.event.Event.TheVariants.{Emit}
 use Rattle.bspl_types.specs.declared.expanded.Expanded.{Expanded}
 use Rattle.bspl_types.specs.declared.value.Value.{Value}
 use Rattle.bspl_types.specs.Expansion.{message_of}
-use Rattle.enactment_model.specs.declared.quietness.Loose.{Loose}
-use Rattle.enactment_model.specs.FirstLoose.{IsFirstLoose, IsLoose}
+use Rattle.bspl_types.specs.History.{instance_of, IsRun}
+use Rattle.bspl_types.specs.Instance.{Fits}
+use Rattle.enactment_model.specs.FirstLoose.{IsLoose, IsStillEnabled, IsUnreceived}
 use Rattle.enactment_model.specs.FirstUnbound.{BindsPublic, IsFirstUnbound}
 use Rattle.enactment_model.specs.Liveness.{Bound, IsEmitted, Quiet}
-use Rattle.run_index.proofs.PartLemmas.{AgreeUnder, can_from, flipped, known_from}
+use Rattle.enactment_model.specs.inner.Rest.{IsAtRest}
+use Rattle.run_index.specs.inner.Enactment.{HasEventsUnder}
+use Rattle.run_index.specs.inner.Waiting.{HasAllReceived, HasUnreceived, IsExhausted}
+use Rattle.run_index.proofs.PartLemmas.{AgreeUnder, can_from, flipped, known_from, part_agrees}
 
 -- what is said of a value is weakened
 pub if_some_weaker : {X : Type 0} (o : Option X) (P Q : X → Type 0) → ((v : X) → P v → Q v) → IfSome o P → IfSome o Q
@@ -27,39 +32,55 @@ emitted_from key events others agree m emitted =
       message_is = emitted.message_is;
     }
 
--- both are quiet, or neither
-pub quiet_from : (x : Expanded) (key : List Value) (events others : List Event) → AgreeUnder key events others → Quiet x events key → Quiet x others key
-quiet_from x key events others agree quiet =
-    let back = flipped key events others agree in
+-- what both answers of a test say is weakened
+pub match_weaker : (b : Bool) (P Q R S : Type 0) → (P → R) → (Q → S) → MatchBool b P Q → MatchBool b R S
+match_weaker true P Q R S if_true if_false is = if_true is
+match_weaker false P Q R S if_true if_false is = if_false is
+
+-- a message that may be emitted after the events under the key may be after the run
+pub still_from : (x : Expanded) (run : List Event) (key : List Value) (m : ℕ) (events : List Event) → HasEventsUnder run key events → IsStillEnabled x events key m → IsStillEnabled x run key m
+still_from x run key m events part still =
+    let agree = part_agrees run key events part in
     record {
-      received = λ i own emitted. agree.to (Receive i) own (quiet.received i own (agree.back (Emit i) own emitted));
-      exhausted = λ m none can. quiet.exhausted m
-          (λ emitted. none (emitted_from key events others agree m emitted))
-          (can_from x key others events back (message_of x m).sender m can);
+      unemitted = λ emitted. still.unemitted (emitted_from key run events (flipped key events run agree) m emitted);
+      can = can_from x key events run agree (message_of x m).sender m still.can;
     }
 
--- a message is loose in both, or in neither
-loose_from : (x : Expanded) (key : List Value) (events others : List Event) → AgreeUnder key events others → (m : ℕ) → IsLoose x events key m → IsLoose x others key m
-loose_from x key events others agree m (inl lost) =
-    inl (record {
+-- what is not received among the events is not received in the run
+pub unreceived_from : (run : List Event) (key : List Value) (m : ℕ) (events : List Event) → HasEventsUnder run key events → HasUnreceived run key m events → IsUnreceived run key m
+unreceived_from run key m events part lost =
+    record {
       instance = lost.instance;
-      emitted = agree.to (Emit lost.instance) lost.under lost.emitted;
+      emitted = ((part.members (Emit lost.instance)).0 lost.emitted).0;
       under = lost.under;
       message_is = lost.message_is;
-      unreceived = λ received. lost.unreceived (agree.back (Receive lost.instance) lost.under received);
-    })
-loose_from x key events others agree m (inr enabled) =
-    inr (record {
-      unemitted = λ emitted. enabled.unemitted (emitted_from key others events (flipped key events others agree) m emitted);
-      can = can_from x key events others agree (message_of x m).sender m enabled.can;
-    })
+      unreceived = lost.unreceived;
+    }
 
--- the first loose message is one for both
-pub first_loose_from : (x : Expanded) (key : List Value) (events others : List Event) → AgreeUnder key events others → (found : Loose) → IsFirstLoose x events key found → IsFirstLoose x others key found
-first_loose_from x key events others agree found first =
+-- a message of which all is received is at rest if it was emitted or cannot be
+pub rest_from : (x : Expanded) (run : List Event) (key : List Value) (m : ℕ) (events : List Event) → HasEventsUnder run key events → HasAllReceived run key m events → IsExhausted x events key m → IsAtRest x run key m
+rest_from x run key m events part received exhausted =
+    let back = flipped key events run (part_agrees run key events part) in
     record {
-      loose = loose_from x key events others agree found.message first.loose;
-      first = λ m below loose. first.first m below (loose_from x key others events (flipped key events others agree) m loose);
+      received = record { received = λ i message under emitted. received i message under ((part.members (Emit i)).1 (emitted, under)) };
+      exhausted = λ unemitted can. exhausted
+          (λ emitted. unemitted (emitted_from key events run (part_agrees run key events part) m emitted))
+          (can_from x key run events back (message_of x m).sender m can);
+    }
+
+-- a message at rest is not loose
+pub rest_not_loose : (x : Expanded) (run : List Event) (key : List Value) (m : ℕ) → IsAtRest x run key m → ¬ IsLoose x run key m
+rest_not_loose x run key m rest (inl lost) = lost.unreceived (rest.received.received lost.instance lost.message_is lost.under lost.emitted)
+rest_not_loose x run key m rest (inr enabled) = rest.exhausted enabled.unemitted enabled.can
+
+-- if all messages are at rest, the run is quiet
+pub quiet_from_rest : (x : Expanded) (run : List Event) (key : List Value) (n : ℕ) → IsRun x run → length x.messages ≤ n → ((m : ℕ) → m < n → IsAtRest x run key m) → Quiet x run key
+quiet_from_rest x run key n is_run all rest =
+    record {
+      received = λ i under emitted.
+          let fits = All-contains (λ e. Fits x (instance_of e)) run (Emit i) is_run emitted in
+          (rest i.message (omega (arith, fits.known))).received.received i refl under emitted;
+      exhausted = λ m unemitted can. (rest m (omega (arith, can.known))).exhausted unemitted can;
     }
 
 -- a parameter is bound in both, or in neither

@@ -3,15 +3,15 @@ ghost use Rattle.bspl_types.specs.History.{instance_of, IsRun};
 ghost use Rattle.run_index.specs.inner.Failures.{IsFirstFailure};
 
 use super::demand::{Demand, meets};
-use super::enactment::add_event;
+use super::facts::Facts;
 use super::index::RunIndex;
 use bspl_types::{Expanded, Key};
-use list_base::{NoMemory, Seq};
+use list_base::NoMemory;
 use std::alloc::Global;
 
 /// The position of the first event that does not meet the demand, or the length of the run.
 ///
-/// It goes over the enactments one by one, so that the events of one alone are copied at a time.
+/// It goes over the enactments one by one, so that the facts of one alone are kept at a time.
 pub(crate) fn first_failure(
     alloc: Global,
     x: &Expanded,
@@ -45,14 +45,14 @@ fn failure_under(
         (IsFirstFailure x.now demand index.now (λ e. (instance_of e).key ≡ key.now)) }
 {
     let run = index.events();
-    let mut events = Seq::new(alloc);
+    let mut facts = Facts::new(alloc);
     let mut position = index.first(key);
     while position < run.len() {
         let event = &run[position];
-        if !meets(x, demand, events.as_slice(), event) {
+        if !meets(x, demand, index, &facts, position) {
             return Ok(position);
         }
-        add_event(&mut events, event)?;
+        facts.learn(x, event)?;
         position = index.next(position);
     }
     Ok(position)

@@ -1,14 +1,14 @@
-//! The questions on a run, answered in linear time.
+//! The questions on a run, answered in time that grows with its length and little more.
 #![tactic(auto)]
 
 mod conflicts;
 mod demand;
 mod enablement;
-mod enactment;
+mod facts;
 mod failures;
 mod index;
 mod legality;
-mod occurrence;
+mod permission;
 mod rest;
 
 pub use conflicts::producers;

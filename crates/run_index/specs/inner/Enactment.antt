@@ -1,5 +1,5 @@
--- The different events of one enactment.
-use Rattle.std.specs.Prelude.{◌≡◌, ◌↔◌, ◌⊎◌, List}
+-- The events of one enactment.
+use Rattle.std.specs.Prelude.{◌≡◌, ◌↔◌, List}
 use Rattle.std.specs.List.{Contains}
 use Rattle.bspl_types.specs.declared.event.Event.{Event}
 use Rattle.bspl_types.specs.declared.value.Value.{Value}
@@ -10,7 +10,3 @@ pub record HasEventsUnder (run : List Event) (key : List Value) (events : List E
     : Type 0 where
   pub members : (e : Event) →
       (Contains events e) ↔ (Contains run e × ((instance_of e).key ≡ key))
-
--- the events afterwards are those before and this one
-pub record IsAdded (event : Event) (before after : List Event) : Type 0 where
-  pub members : (e : Event) → (Contains after e) ↔ (Contains before e ⊎ (event ≡ e))

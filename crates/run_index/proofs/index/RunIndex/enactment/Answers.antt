@@ -18,7 +18,7 @@ pub loop-position-preserved : goal.loop-position-preserved
 loop-position-preserved c =
     let e = c.index-run-position.result in
     let at = read_at c.args.self.now c.events-run.result.now c.loop-position.position e c.events-run.ensures c.loop-position-test.true c.index-run-position.is in
-    at_next c.args.self.now c.args.key.now c.loop-position.position c.next-position.result e c.loop-position.events c.add_event.new.events at c.loop-position.invariant c.in_ok-add_event.ensures (c.next-position.ensures e at)
+    rw c.in_ok-push.ensures.ok (at_next c.args.self.now c.args.key.now c.loop-position.position c.next-position.result e c.loop-position.events at c.loop-position.invariant (c.next-position.ensures e at))
 
 pub returns : goal.returns
 returns c = at_end c.args.self.now c.args.key.now c.loop-position.position c.loop-position.events (rw c.events-run.ensures at c.loop-position-test.false) c.loop-position.invariant
