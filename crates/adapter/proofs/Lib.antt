@@ -14,3 +14,4 @@ mod StateLemmas
 mod StepLemmas
 mod TakingLemmas
 mod ValueLemmas
+mod WorkerLemmas

@@ -1,5 +1,6 @@
 -- What the steps at a role's state do, and what one holding of its lock does.
 use Rattle.std.specs.Prelude.{◌≡◌, ◌⊎◌, ℕ, ◌≤◌, List, ◌++◌, length, Option}
+use Rattle.std.specs.Prelude.{Result, OnErr, OnOk}
 use Rattle.rand_pcg.specs.Lcg.{Lcg}
 use Rattle.bspl_types.specs.declared.envelope.Envelope.{Envelope}
 use Rattle.agent_scripts.specs.Job.{Job}
@@ -8,6 +9,7 @@ use Rattle.reorder_net.specs.Pass.{BoxId}
 use Rattle.adapter.specs.Next.{IsWorkload}
 use Rattle.adapter.specs.State.{IsStateKept, StateView, taken_of}
 use Rattle.adapter.specs.Steps.{IsNextEnvelope, IsTaking, after_emission, after_pick}
+use Rattle.adapter.specs.Worker.{IsSameThread, WorkerState}
 
 -- the state is kept for the job, its role and the mailboxes; the number is one of a workload key
 pub record IsStateAtWork (job : Job) (boxes : List BoxId) (s : StateView) (n : ℕ) : Type 0 where
@@ -36,24 +38,38 @@ pub record EmitsNext (job : Job) (n : ℕ) (old : StateView) (envelope : Option 
   pub desk : new.desk ≡ after_emission old.desk envelope
   pub taken : taken_of new ≡ taken_of old
 
--- envelopes are moved in, then one is taken, then one is emitted
-pub record IsRoleTurn (job : Job) (n : ℕ) (g : Lcg) (old : StateView) (h : Lcg) (new : StateView)
-    : Type 0 where
+-- the worker's turn: envelopes are moved in, then it takes one, then one is emitted
+pub record IsRoleTurn (job : Job) (n : ℕ) (worker : WorkerState) (old : StateView)
+    (next : WorkerState) (new : StateView) : Type 0 where
+  pub same : IsSameThread worker next
   pub filled : StateView
   pub moves : MovesIn 65536 old filled
   pub receipt : Option Receipt
   pub received : StateView
-  pub takes : TakesOne g filled receipt h received
+  pub takes : TakesOne worker.generator filled receipt next.generator received
   pub envelope : Option Envelope
   pub emits : EmitsNext job n received envelope new
 
--- envelopes are moved in, then one is taken, and nothing is emitted
-pub record IsUnposted (g : Lcg) (old : StateView) (h : Lcg) (new : StateView) : Type 0 where
+-- envelopes are moved in, then the worker takes one, and nothing is emitted
+pub record IsUnposted (worker : WorkerState) (old : StateView) (next : WorkerState)
+    (new : StateView) : Type 0 where
+  pub same : IsSameThread worker next
   pub filled : StateView
   pub moves : MovesIn 65536 old filled
   pub receipt : Option Receipt
-  pub takes : TakesOne g filled receipt h new
+  pub takes : TakesOne worker.generator filled receipt next.generator new
 
 -- a turn that ran out of memory, as it moved envelopes in or before it emitted
-abbrev pub IsCutOff : Lcg → StateView → Lcg → StateView → Type 0
-IsCutOff g old h new = (MovesIn 65536 old new × (h ≡ g)) ⊎ IsUnposted g old h new
+abbrev pub IsCutOff : WorkerState → StateView → WorkerState → StateView → Type 0
+IsCutOff worker old next new =
+    (MovesIn 65536 old new × (next ≡ worker)) ⊎ IsUnposted worker old next new
+
+-- what one holding of the role's lock did: some kept state of the role had one turn of the worker
+-- at the number, or one that ran out of memory, as the result says
+pub record HasHadTurn {X E : Type 0} (job : Job) (role : ℕ) (boxes : List BoxId) (n : ℕ)
+    (worker : WorkerState) (result : Result X E) (next : WorkerState) : Type 0 where
+  pub old : StateView
+  pub kept : IsStateKept job role boxes old
+  pub new : StateView
+  pub ok : OnOk result (IsRoleTurn job n worker old next new)
+  pub err : OnErr result (IsCutOff worker old next new)

@@ -17,17 +17,5 @@ pub fn deliver(desk: &mut Desk, job: &Job, e: Envelope) -> Result<(), NoMemory>
     ensures room { 0 < desk.old.inbox.spare → IsOk result }
     ensures err { OnErr result (desk.new ≡ desk.old) }
 {
-    deliver_lent(desk, job, &e)
-}
-
-/// What `deliver` does, of an envelope that is lent.
-pub(crate) fn deliver_lent(desk: &mut Desk, job: &Job, e: &Envelope) -> Result<(), NoMemory>
-    requires kept { IsKept job.now desk.old.store.role desk.old }
-    requires own { 0 < e.now.copies → IsFor job.now desk.old.store.role e.now }
-    ensures kept { IsKept job.now desk.old.store.role desk.new }
-    ensures ok { OnOk result (AcceptsEnvelope desk.old e.now desk.new) }
-    ensures room { 0 < desk.old.inbox.spare → IsOk result }
-    ensures err { OnErr result (desk.new ≡ desk.old) }
-{
-    desk.inbox.put_lent(e)
+    desk.inbox.put(e)
 }

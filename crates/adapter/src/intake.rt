@@ -3,7 +3,7 @@ ghost use Rattle.adapter.specs.Kept.{IsKept};
 ghost use Rattle.adapter.specs.State.{IsStateKept};
 ghost use Rattle.adapter.specs.StateSteps.{MovesIn};
 
-use super::arrival::deliver_lent;
+use super::arrival::deliver;
 use super::desk::Desk;
 use super::role_state::RoleState;
 use agent_scripts::{Job, Scene};
@@ -48,10 +48,10 @@ fn take_in<N: Scene, W: Wait>(
 {
     make_room(&mut state.desk, job)?;
     let role = state.desk.store().role();
-    let Some(parcel) = post.take_parcel(rt, &mut state.passes, role) else {
+    let Some(parcel) = post.take(rt, &mut state.passes, role) else {
         return Ok(false);
     };
-    deliver_lent(&mut state.desk, job, parcel.envelope()).unwrap();
+    deliver(&mut state.desk, job, *parcel.envelope()).unwrap();
     state.spares.keep(parcel);
     Ok(true)
 }

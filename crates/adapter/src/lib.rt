@@ -13,6 +13,7 @@ mod posted_emission;
 mod reception;
 mod role_state;
 mod step;
+mod worker;
 
 pub use arrival::deliver;
 pub use desk::Desk;
@@ -24,7 +25,7 @@ pub use laws::{
     orders_are_distinct, taken_envelopes_explain,
 };
 pub use locked::Locked;
-pub use next::next_message;
 pub use posted_emission::step_emit;
 pub use reception::{desk_take, step_take};
 pub use role_state::RoleState;
+pub use worker::Worker;

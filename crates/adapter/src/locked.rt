@@ -5,12 +5,11 @@ ghost use Rattle.adapter.specs.StateSteps.{IsCutOff, IsRoleTurn};
 
 use super::gate::Gate;
 use super::intake::drain;
-use super::posted_emission::emit_next;
-use super::reception::step_take;
+use super::posted_emission::step_emit;
 use super::role_state::RoleState;
+use super::worker::Worker;
 use agent_scripts::{Job, Scene};
 use list_base::NoMemory;
-use rand_pcg::Pcg32;
 use reorder_net::{Mail, Post};
 use std::marker::{Model, PhantomData};
 use std::sync::Wait;
@@ -46,29 +45,30 @@ impl<N: Scene, M: Mail, const R: u32> Locked<N, M, R> {
         }
     }
 
-    /// The role's turn at the workload number, in one holding of the lock: the gate is passed, the
-    /// mailbox is drained, one envelope is received, and one message is emitted. An error cuts the
-    /// turn off, and leaves what was done.
+    /// The worker's turn at the workload number, in one holding of its role's lock: the gate is
+    /// passed, the mailbox is drained, one envelope is received, and one message is emitted. An error
+    /// cuts the turn off, and leaves what was done.
     pub fn turn<W: Wait, G: Gate>(
         &mut self,
         rt: &W,
         job: &Job,
         post: &Post<N>,
         n: u64,
-        rng: &mut Pcg32,
+        worker: &mut Worker<N>,
         gate: &G,
-        thread: u32,
     ) -> Result<(), NoMemory>
-        requires scene { N.job ≡ job.now }
-        requires post { post.now ≡ M.boxes }
+        requires scene { (N.job ≡ job.now) × (post.now ≡ M.boxes) }
+        requires own { worker.old.role ≡ R }
         requires number { IsWorkload job.now n }
-        ensures ok { OnOk result (IsRoleTurn job.now n rng.old self.old rng.new self.new) }
-        ensures err { OnErr result (IsCutOff rng.old self.old rng.new self.new) }
+        ensures kept { IsStateKept N.job R M.boxes self.old }
+        ensures ok { OnOk result (IsRoleTurn N.job n worker.old self.old worker.new self.new) }
+        ensures err { OnErr result (IsCutOff worker.old self.old worker.new self.new) }
     {
-        gate.at(R, thread);
+        gate.at(R, worker.thread());
         drain(rt, &mut self.state, job, post)?;
-        step_take(&mut self.state, job, rng);
-        emit_next(rt, &mut self.state, job, n, post)
+        worker.take(&mut self.state, job);
+        step_emit(rt, &mut self.state, job, n, post)?;
+        Ok(())
     }
 
     /// The state, as it comes out of the lock.

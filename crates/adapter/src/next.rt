@@ -9,15 +9,6 @@ use super::desk::Desk;
 use agent_scripts::{Job, Script, scripts_fit};
 use local_store::Store;
 
-/// The message that the role's agent emits next at the workload number: the first one of its order
-/// that is not declined, was never emitted under the key, and can be emitted.
-pub fn next_message(desk: &Desk, job: &Job, n: u64) -> Option<u32>
-    requires { IsAtWork job.now desk.now n }
-    ensures { IsNext job.now desk.now.store n result }
-{
-    next_at(desk, job, row_of(desk, job, n), n)
-}
-
 /// The row of the workload number's key. Keys are held in the order of their numbers, unless others
 /// were added before, so the row is looked for at the number.
 pub(crate) fn row_of(desk: &Desk, job: &Job, n: u64) -> usize
@@ -27,7 +18,8 @@ pub(crate) fn row_of(desk: &Desk, job: &Job, n: u64) -> usize
     desk.store().row_near(&job.script().key(n), n as usize - 1)
 }
 
-/// The message that is next at the number, whose key has the row.
+/// The message that the role's agent emits next at the workload number, whose key has the row: the
+/// first one of its order that is not declined, was never emitted under the key, and can be emitted.
 pub(crate) fn next_at(desk: &Desk, job: &Job, row: usize, n: u64) -> Option<u32>
     requires at_work { IsAtWork job.now desk.now n }
     requires row { slice_get desk.now.store.keys row ≡ Some (key_of job.now n) }

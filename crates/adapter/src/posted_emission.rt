@@ -1,4 +1,4 @@
-ghost use Rattle.std.specs.Prelude.{◌≡◌, ℕ, ◌<◌, ◌++◌, List, Option, Some, length, IfOk, OnErr};
+ghost use Rattle.std.specs.Prelude.{◌≡◌, ℕ, ◌<◌, ◌++◌, List, Some, length, IfOk, OnErr};
 ghost use Rattle.std.specs.Prelude.{OnOk};
 ghost use Rattle.bspl_types.specs.declared.envelope.Envelope.{Envelope};
 ghost use Rattle.reorder_net.specs.Mail.{IsPosted};
@@ -40,27 +40,6 @@ pub fn step_emit<N: Scene, W: Wait>(
     let planned = plan(&state.desk, job, n, &ready);
     emit_posted(rt, state, job, n, post, &planned)?;
     Ok(Some(planned.envelope))
-}
-
-/// What `step_emit` does, without its answer: an envelope is large, and no turn asks for it.
-pub(crate) fn emit_next<N: Scene, W: Wait>(
-    rt: &W,
-    state: &mut RoleState,
-    job: &Job,
-    n: u64,
-    post: &Post<N>,
-) -> Result<(), NoMemory>
-    requires scene { N.job ≡ job.now }
-    requires at_work { IsStateAtWork job.now post.now state.old n }
-    ensures kept { IsStateKept job.now state.old.desk.store.role post.now state.new }
-    ensures ok { OnOk result ((e : Option Envelope) × EmitsNext job.now n state.old e state.new) }
-    ensures err { OnErr result (state.new ≡ state.old) }
-{
-    let Some(ready) = next_ready(&state.desk, job, n) else {
-        return Ok(());
-    };
-    let planned = plan(&state.desk, job, n, &ready);
-    emit_posted(rt, state, job, n, post, &planned)
 }
 
 /// The desk emits what was planned, once its envelope is posted.
@@ -110,5 +89,5 @@ fn post_planned<N: Scene, W: Wait>(
         return Ok(());
     }
     let parcel = spares.pack(e)?;
-    post.put_parcel(rt, passes, parcel)
+    post.put(rt, passes, parcel)
 }

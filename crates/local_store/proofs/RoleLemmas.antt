@@ -13,10 +13,9 @@ use Rattle.bspl_types.specs.Expansion.{message_of, no_message}
 use Rattle.bspl_types.specs.History.{instance_of, role_of}
 use Rattle.bspl_types.specs.Instance.{Fits}
 use Rattle.bspl_types.specs.Knowledge.{IsKnown}
-use Rattle.enactment_model.specs.Liveness.{IsEmitted}
+use Rattle.enactment_model.specs.Liveness.{IsEmitted, IsReceived}
 use Rattle.local_store.specs.declared.act.Kind.{Kind}
 use Rattle.local_store.specs.declared.act.Kind.TheVariants.{Emitted, Received}
-use Rattle.local_store.specs.Consistent.{IsReceived}
 use Rattle.local_store.specs.State.{StoreState, acts_of}
 use Rattle.local_store.specs.inner.Kept.{HasEvent, IsOfRole, IsSound}
 use Rattle.local_store.proofs.InstanceLemmas.{pair_exists}

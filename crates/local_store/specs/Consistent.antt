@@ -1,9 +1,6 @@
 -- What is true of every store.
 use Rattle.std.specs.Prelude.{◌≡◌, ◌≢◌, ℕ, ◌+◌, ◌<◌, ◌≤◌, List, length}
 use Rattle.std.specs.List.{All, AllPairs, Contains}
-use Rattle.bspl_types.specs.declared.event.Event.{Event}
-use Rattle.bspl_types.specs.declared.event.Event.TheVariants.{Receive}
-use Rattle.bspl_types.specs.declared.event.Instance.{Instance}
 use Rattle.bspl_types.specs.declared.value.Value.{Value}
 use Rattle.bspl_types.specs.Admission.{IsAdmitted}
 use Rattle.bspl_types.specs.History.{instance_of}
@@ -24,10 +21,3 @@ pub record IsConsistent (s : StoreState) : Type 0 where
   pub held : All (λ e. Contains s.keys (instance_of e.event).key) s.entries
   pub local : IsLocal s.protocol s.role s.entries
   pub few : length s.entries + s.spare ≤ 4294967295
-
--- some instance of the message is received under the key
-pub record IsReceived (history : List Event) (key : List Value) (m : ℕ) : Type 0 where
-  pub instance : Instance
-  pub received : Contains history (Receive instance)
-  pub under : instance.key ≡ key
-  pub message_is : instance.message ≡ m

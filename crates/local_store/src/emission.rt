@@ -28,28 +28,6 @@ impl Store {
         ensures err { OnErr result (self.new ≡ self.old) }
     {
         let row = self.held_row(key);
-        self.emit_near(message, key, outs, row)
-    }
-
-    /// Emits the message, as `emit` does. The guess is a row at which the key is looked for first.
-    pub fn emit_near(
-        &mut self,
-        message: u32,
-        key: &Key,
-        outs: &[Value],
-        guess: usize,
-    ) -> Result<Stamped, Block>
-        requires { IsAttempt self.old message key.now outs.now }
-        ensures ok { IfOk result (IsEmission self.old message key.now outs.now) }
-        ensures entry { IfOk result
-            (λ m. self.new ≡ with_entry self.old (Emit m.instance) m.stamp m.number) }
-        ensures exact { IsOk result ↔
-            CanEmit self.old.protocol (acts_of self.old) message key.now }
-        ensures blocked { IfErr result (IsFirstBlock self.old.protocol (acts_of self.old) key.now
-            (message_of self.old.protocol message).carried) }
-        ensures err { OnErr result (self.new ≡ self.old) }
-    {
-        let row = self.near_row(key, guess);
         if let Some(block) = self.block_at(row, message) {
             return Err(block);
         }

@@ -1,9 +1,9 @@
 ghost use Rattle.std.specs.Prelude.{◌≡◌, ◌↔◌, ◌<◌, length, slice_get, IsTrue, Some};
 ghost use Rattle.bspl_types.specs.History.{instance_of};
 ghost use Rattle.stamped_history.specs.declared.entry.Entry.{Entry};
-ghost use Rattle.local_store.specs.Consistent.{IsReceived};
 ghost use Rattle.local_store.specs.Outline.{outlines};
 ghost use Rattle.local_store.specs.State.{acts_of, numbers, stamped_events};
+ghost use Rattle.enactment_model.specs.Liveness.{IsReceived};
 
 use super::act::Kind;
 use super::row_values::{event_as, read_values};

@@ -1,8 +1,7 @@
 ghost use Rattle.std.specs.Prelude.{◌≡◌, ◌↔◌, ◌<◌, length, slice_get, Some, IsTrue, MatchOption};
 ghost use Rattle.std.specs.List.{Contains};
 ghost use Rattle.bspl_types.specs.Knowledge.{CanEmit, IsKnown, Knows};
-ghost use Rattle.enactment_model.specs.Liveness.{IsEmitted};
-ghost use Rattle.local_store.specs.Consistent.{IsReceived};
+ghost use Rattle.enactment_model.specs.Liveness.{IsEmitted, IsReceived};
 ghost use Rattle.local_store.specs.State.{AreIndices, acts_of, key_at};
 ghost use Rattle.local_store.specs.inner.Kept.{HasEvent, IsOfRole, IsSound};
 

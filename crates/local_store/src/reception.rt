@@ -13,16 +13,6 @@ impl Store {
         ensures { IsReceipt self.old m.now result self.new }
     {
         let row = self.held_row(&m.instance.key);
-        self.receive_near(m, row)
-    }
-
-    /// Takes a message in, as `receive` does. The guess is a row at which its key is looked for
-    /// first.
-    pub fn receive_near(&mut self, m: &Stamped, guess: usize) -> Receipt
-        requires { IsArrival self.old m.now }
-        ensures { IsReceipt self.old m.now result self.new }
-    {
-        let row = self.near_row(&m.instance.key, guess);
         if let Some(differs) = self.difference_at(row, &m.instance) {
             return differs;
         }

@@ -93,17 +93,6 @@ impl Inbox {
         ensures spare { self.old.spare ≤ self.new.spare + 1 }
         ensures err { OnErr result (self.new ≡ self.old) }
     {
-        self.put_lent(&envelope)
-    }
-
-    /// Puts an envelope that is lent, as `put` does.
-    pub fn put_lent(&mut self, envelope: &Envelope) -> Result<(), NoMemory>
-        ensures ok { OnOk result
-            (self.new.envelopes ≡ put_last self.old.envelopes envelope.now) }
-        ensures room { 0 < self.old.spare → IsOk result }
-        ensures spare { self.old.spare ≤ self.new.spare + 1 }
-        ensures err { OnErr result (self.new ≡ self.old) }
-    {
         if envelope.copies == 0 {
             return Ok(());
         }
@@ -111,7 +100,7 @@ impl Inbox {
         let block = self.slots.len() / WIDTH;
         raise(&mut self.blocks, block);
         raise(&mut self.groups, block / WIDTH);
-        self.slots.push_reserved(*envelope);
+        self.slots.push_reserved(envelope);
         self.marks.push_reserved(true);
         self.all += 1;
         self.spare -= 1;

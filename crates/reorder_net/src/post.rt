@@ -8,10 +8,9 @@ ghost use Rattle.reorder_net.specs.Passes.{AreFresh, with_put, with_taken};
 use super::mailbox::Mailbox;
 use super::parcel::Parcel;
 use super::passes::{PassList, RolePasses};
-use super::steps::{put, take, take_parcel};
+use super::steps::{put, take};
 use super::stock::{deal_role, open_boxes};
 use agent_scripts::Scene;
-use bspl_types::Envelope;
 use list_base::{NoMemory, Seq};
 use std::alloc::Global;
 use std::marker::{Brand, Model};
@@ -21,8 +20,6 @@ use std::sync::Wait;
 #[derive(Drop)]
 pub struct Post<N: Scene> {
     boxes: Seq<Mailbox<N>>,
-    /// Where parcels are made.
-    alloc: Global,
 }
 
 impl<N: Scene> Model for Post<N> {
@@ -62,14 +59,7 @@ impl<N: Scene> Post<N> {
         for role in 0..boxes.len() {
             list.push(deal_role(alloc, &boxes, &mut wholes, role)?)?;
         }
-        Ok((Post { boxes, alloc }, list))
-    }
-
-    /// How many mailboxes there are.
-    pub fn len(&self) -> usize
-        ensures { result ≡ length self.now }
-    {
-        self.boxes.len()
+        Ok((Post { boxes }, list))
     }
 
     /// Lends the mailbox of the role.
@@ -80,28 +70,9 @@ impl<N: Scene> Post<N> {
         self.boxes.at(role)
     }
 
-    /// Puts the envelope into its receiver's mailbox. An error puts nothing: memory ran out, or the
-    /// mailbox has taken 2^62 envelopes.
-    pub fn put<R: Wait>(&self, rt: &R, passes: &mut RolePasses, e: Envelope) -> Result<(), NoMemory>
-        requires known { (e.to < length self.now) × (length passes.old.puts ≡ length self.now) }
-        requires pass { (p : PassState) → slice_get passes.old.puts e.to ≡ Some p →
-            (slice_get self.now e.to ≡ Some p.box) × IsSender e.to e.from p }
-        requires posted { IsPosted N.job e.from e.to e }
-        ensures ok { OnOk result ((p : PassState) → slice_get passes.old.puts e.to ≡ Some p →
-            passes.new ≡ with_put passes.old p e) }
-        ensures err { OnErr result (passes.new ≡ passes.old) }
-    {
-        let parcel = Parcel::of(self.alloc, &e)?;
-        self.put_parcel(rt, passes, parcel)
-    }
-
-    /// Puts what `put` would, in the parcel that has it. It takes no memory for the envelope.
-    pub fn put_parcel<R: Wait>(
-        &self,
-        rt: &R,
-        passes: &mut RolePasses,
-        e: Parcel,
-    ) -> Result<(), NoMemory>
+    /// Puts the envelope of the parcel into its receiver's mailbox. An error puts nothing: memory ran
+    /// out, or the mailbox has taken 2^62 envelopes.
+    pub fn put<R: Wait>(&self, rt: &R, passes: &mut RolePasses, e: Parcel) -> Result<(), NoMemory>
         requires known { (e.to < length self.now) × (length passes.old.puts ≡ length self.now) }
         requires pass { (p : PassState) → slice_get passes.old.puts e.to ≡ Some p →
             (slice_get self.now e.to ≡ Some p.box) × IsSender e.to e.from p }
@@ -117,8 +88,8 @@ impl<N: Scene> Post<N> {
         }
     }
 
-    /// Takes the envelope at the front of the role's own mailbox, if that holds any.
-    pub fn take<R: Wait>(&self, rt: &R, passes: &mut RolePasses, role: u32) -> Option<Envelope>
+    /// Takes the parcel at the front of the role's own mailbox, if that holds any.
+    pub fn take<R: Wait>(&self, rt: &R, passes: &mut RolePasses, role: u32) -> Option<Parcel>
         requires known { role < length self.now }
         requires pass { slice_get self.now role ≡ Some passes.old.own.box }
         requires takes { passes.old.own.hold.takes ≡ true }
@@ -127,17 +98,5 @@ impl<N: Scene> Post<N> {
             × IsPosted N.job e.from passes.old.own.hold.home e) }
     {
         take(rt, self.at(role as usize), &mut passes.own)
-    }
-
-    /// Takes what `take` would, and leaves it in the parcel.
-    pub fn take_parcel<R: Wait>(&self, rt: &R, passes: &mut RolePasses, role: u32) -> Option<Parcel>
-        requires known { role < length self.now }
-        requires pass { slice_get self.now role ≡ Some passes.old.own.box }
-        requires takes { passes.old.own.hold.takes ≡ true }
-        ensures { MatchOption result (passes.new ≡ passes.old) (λ e.
-            (passes.new ≡ with_taken passes.old e)
-            × IsPosted N.job e.from passes.old.own.hold.home e) }
-    {
-        take_parcel(rt, self.at(role as usize), &mut passes.own)
     }
 }

@@ -13,7 +13,6 @@ use super::moves::{Dealing, Home, Joining, Leaving, Naming, Puts, Takes, Tells};
 use super::parcel::Parcel;
 use super::passes::MailPass;
 use agent_scripts::Scene;
-use bspl_types::Envelope;
 use std::alloc::{AllocError, Global};
 use std::marker::Brand;
 use std::sync::Wait;
@@ -105,25 +104,8 @@ pub(crate) fn put<N: Scene, R: Wait>(
     mailbox.queue.push_as::<Puts, R>(rt, &mut pass.seat, e)
 }
 
-/// The envelope at the front leaves the mailbox and its parcel, if the mailbox holds any.
-pub(crate) fn take<N: Scene, R: Wait>(
-    rt: &R,
-    mailbox: &Mailbox<N>,
-    pass: &mut MailPass,
-) -> Option<Envelope>
-    requires pass { pass.old.box ≡ mailbox.now }
-    requires takes { pass.old.hold.takes ≡ true }
-    ensures pass { pass.new.box ≡ mailbox.now }
-    ensures view { MatchOption result
-        (pass.new ≡ pass.old)
-        (λ e. HasTaken N.job pass.old.hold e pass.new.hold) }
-{
-    let parcel = take_parcel(rt, mailbox, pass)?;
-    Some(*parcel.envelope())
-}
-
 /// The parcel at the front leaves the mailbox, if that holds any.
-pub(crate) fn take_parcel<N: Scene, R: Wait>(
+pub(crate) fn take<N: Scene, R: Wait>(
     rt: &R,
     mailbox: &Mailbox<N>,
     pass: &mut MailPass,

@@ -4,13 +4,12 @@ ghost use Rattle.world_run.specs.Shared.{AreNewPasses};
 
 use super::gates::OneAfterTheOther;
 use adapter::{Gate, OpenGate};
-use adornment_check::admit;
 use agent_scripts::{Job, Scene};
 use bspl_parser::{parse, reads_back};
 use bspl_types::{Admitted, Event, Expanded, NoMemory, Refusal, Seq};
 use enactment_model::single_producer;
 use local_store::Store;
-use protocol_expand::expand;
+use protocol_expand::{admit, expand};
 use reorder_net::{Mail, PassList, Post};
 use script_text::read_scripts;
 use std::alloc::Global;

@@ -16,7 +16,6 @@ use Rattle.bspl_types.specs.Instance.{Fits}
 use Rattle.adapter.specs.Desk.{DeskState}
 use Rattle.adapter.specs.Rules.{rules_of}
 use Rattle.agent_scripts.specs.Job.{Job}
-use Rattle.local_store.specs.Consistent.{IsReceived}
 use Rattle.local_store.specs.State.{acts_of, stamped_events, StoreState}
 use Rattle.stamped_history.specs.Rules.{IsNumber}
 use Rattle.reorder_net.specs.Losses.{copies_of, is_lost}
@@ -33,6 +32,7 @@ use Rattle.world_run.proofs.FinishLemmas.{number_once}
 use Rattle.world_run.proofs.RenewalLemmas.{lost_none, receipt_none, received_none}
 use Rattle.world_run.proofs.UndeliveredLemmas.{emitted_in, received_is}
 use Rattle.world_run.proofs.WorldLemmas.{history_is, local_at}
+use Rattle.enactment_model.specs.Liveness.{IsReceived}
 
 -- an entry of the role's history as its store shows it
 pub record SeenAt (desks : List DeskState) (role k : ℕ) (d : DeskState) (entry : Entry) (event : Event) (stamp : ℕ) : Type 0 where

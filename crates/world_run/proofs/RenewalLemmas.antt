@@ -11,7 +11,6 @@ use Rattle.bspl_types.specs.Expansion.{message_of}
 use Rattle.adapter.specs.Desk.{DeskState}
 use Rattle.adapter.specs.Rules.{rules_of}
 use Rattle.agent_scripts.specs.Job.{Job}
-use Rattle.local_store.specs.Consistent.{IsReceived}
 use Rattle.local_store.specs.State.{acts_of, StoreState}
 use Rattle.reorder_net.specs.Losses.{copies_of}
 use Rattle.stamped_history.specs.declared.entry.Entry.{Entry}
@@ -25,6 +24,7 @@ use Rattle.world_run.proofs.FinishLemmas.{number_once}
 use Rattle.world_run.proofs.SetLemmas.{set_same}
 use Rattle.world_run.proofs.UndeliveredLemmas.{emitted_in}
 use Rattle.world_run.proofs.WorldLemmas.{history_is}
+use Rattle.enactment_model.specs.Liveness.{IsReceived}
 
 -- nothing is undelivered of a receipt
 pub receipt_none : (job : Job) (histories : List (List Entry)) (entry : Entry) (j : Instance) → entry.event ≡ Receive j → (e : Envelope) → IsUndelivered job histories entry e → ⊥

@@ -19,7 +19,7 @@ use Rattle.adapter.specs.Kept.{AreDistinctEvents, IsFor, IsKept}
 use Rattle.adapter.specs.Pending.{messages_of, pairs_of, pending}
 use Rattle.adapter.specs.Rules.{rules_of}
 use Rattle.agent_scripts.specs.Job.{Job}
-use Rattle.local_store.specs.Consistent.{IsConsistent, IsReceived}
+use Rattle.local_store.specs.Consistent.{IsConsistent}
 use Rattle.local_store.specs.State.{acts_of, StoreState}
 use Rattle.stamped_history.specs.Played.{Played}
 use Rattle.reorder_net.specs.Inbox.{put_last}
@@ -38,6 +38,7 @@ use Rattle.world_run.proofs.InboxLemmas.{put_all, put_holds, put_keeps}
 use Rattle.world_run.proofs.SetLemmas.{item_after, set_same}
 use Rattle.world_run.proofs.SoundLemmas.{inbox_sound}
 use Rattle.world_run.proofs.WorldLemmas.{all_items, history_is}
+use Rattle.enactment_model.specs.Liveness.{IsReceived}
 
 -- nothing was posted
 pub posted_none : (job : Job) (desks : List DeskState) → AreSound job desks → ArePosted job desks desks

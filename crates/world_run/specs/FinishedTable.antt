@@ -31,13 +31,16 @@ pub record TableHas (x : Expanded) (desks : List DeskState) (key : List Value) (
   pub histories : HasHistories x desks run
   pub value : IsTableValue x run key p found
 
--- all stores of a finished world of a safe protocol agree: what any of them knows of a parameter
--- under a key is the value that the table has
+-- the stores agree: what any of them knows of a parameter under a key is the value that the table
+-- has
+abbrev pub AgreeWithTable : Expanded → List DeskState → Type 0
+AgreeWithTable x desks = (key : List Value) (p : ℕ) (v : Value) (found : Option Value) →
+    StoreKnows x desks key p v → TableHas x desks key p found → found ≡ Some v
+
+-- those of a finished world of a safe protocol do
 abbrev pub FinishedStoresAgree : Type 0
 FinishedStoresAgree = (job : Job) (desks : List DeskState) →
-    SafeProtocol job.protocol → IsFinished job desks →
-    (key : List Value) (p : ℕ) (v : Value) (found : Option Value) →
-    StoreKnows job.protocol desks key p v → TableHas job.protocol desks key p found → found ≡ Some v
+    SafeProtocol job.protocol → IsFinished job desks → AgreeWithTable job.protocol desks
 
 -- the plan loses no message at the number, and the script declines none
 pub record LetsAllPass (job : Job) (n : ℕ) : Type 0 where
@@ -51,10 +54,13 @@ pub record IsCompleted (x : Expanded) (desks : List DeskState) (key : List Value
   pub bound : (p : ℕ) (found : Option Value) → HasPublicValue x p →
       TableHas x desks key p found → IsSome found
 
--- in a finished world of a live protocol each workload key is completed, unless at its number a
--- message is lost or declined
-abbrev pub LiveKeysAreBound : Type 0
-LiveKeysAreBound = (job : Job) (desks : List DeskState) →
-    LiveProtocol job.protocol → IsFinished job desks →
+-- each workload key is completed, unless at its number a message is lost or declined
+abbrev pub AreCompleted : Job → List DeskState → Type 0
+AreCompleted job desks =
     (n : ℕ) (key : List Value) → IsNumber (rules_of job) n key → LetsAllPass job n →
     IsCompleted job.protocol desks key
+
+-- so it is in a finished world of a live protocol
+abbrev pub LiveKeysAreBound : Type 0
+LiveKeysAreBound = (job : Job) (desks : List DeskState) →
+    LiveProtocol job.protocol → IsFinished job desks → AreCompleted job desks

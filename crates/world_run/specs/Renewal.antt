@@ -8,7 +8,6 @@ use Rattle.bspl_types.specs.Expansion.{message_of}
 use Rattle.adapter.specs.Desk.{DeskState}
 use Rattle.adapter.specs.Rules.{rules_of}
 use Rattle.agent_scripts.specs.Job.{Job}
-use Rattle.local_store.specs.Consistent.{IsReceived}
 use Rattle.stamped_history.specs.declared.entry.Entry.{Entry}
 use Rattle.stamped_history.specs.Entries.{events_of}
 use Rattle.stamped_history.specs.Explained.{history_at}
@@ -16,6 +15,7 @@ use Rattle.stamped_history.specs.Rules.{IsNumber}
 use Rattle.reorder_net.specs.Losses.{copies_of}
 use Rattle.world_run.specs.Course.{AreSteps, PostsAny}
 use Rattle.world_run.specs.World.{histories_of}
+use Rattle.enactment_model.specs.Liveness.{IsReceived}
 
 -- as many copies as the plan gives to the message at the number of its key, at least one
 pub record HasCopies (job : Job) (e : Envelope) : Type 0 where

@@ -10,4 +10,3 @@ pub mod Ending
 pub mod Work
 pub mod Locks
 pub mod Released
-pub mod Workers

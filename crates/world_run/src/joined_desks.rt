@@ -1,16 +1,55 @@
-ghost use Rattle.std.specs.Prelude.{◌≡◌, ◌+◌, ◌<◌, length, min, slice_set};
+ghost use Rattle.std.specs.Prelude.{◌≡◌, ◌+◌, ◌<◌, length, min, replicate, slice_get, slice_set};
+ghost use Rattle.std.specs.Prelude.{Some};
 ghost use Rattle.bspl_types.specs.Limits.{role_limit};
 ghost use Rattle.world_run.specs.Joined.{AreJoined};
 ghost use Rattle.world_run.specs.inner.Locks.{HasLock};
 
 use super::laws::told_histories_explain;
+use super::role_lock::RoleLock;
 use super::world::{DeskList, World};
-use adapter::{Desk, Locked};
+use adapter::Desk;
 use agent_scripts::Scene;
 use bspl_types::ROLE_LIMIT;
 use reorder_net::{Gathered, Mail, Post};
 use std::marker::{Model, PhantomData};
-use std::sync::{Mutex, Wait};
+use std::sync::Wait;
+
+/// How many entries each role's store had when its desk came out of its lock, or 0 if it was in none.
+/// Nobody can count later: the field is this module's, where desks come out of their locks.
+#[derive(Drop)]
+pub struct JoinedCounts {
+    counts: [u32; ROLE_LIMIT],
+}
+
+impl Model for JoinedCounts {
+    ghost use Rattle.std.specs.Prelude.{◌≡◌, ℕ, List, length};
+    ghost use Rattle.bspl_types.specs.Limits.{role_limit};
+
+    ghost Value = { List ℕ };
+
+    ghost view = { λ c. c.counts };
+
+    ghost invariant = { λ c. length c.counts ≡ role_limit };
+}
+
+impl JoinedCounts {
+    /// Those of desks that were in no locks.
+    pub fn none() -> JoinedCounts
+        ensures { result ≡ replicate role_limit 0 }
+    {
+        JoinedCounts {
+            counts: [0; ROLE_LIMIT],
+        }
+    }
+
+    /// That of the role.
+    pub fn of(&self, role: u32) -> u32
+        requires { role < role_limit }
+        ensures { slice_get self.now role ≡ Some result }
+    {
+        self.counts[role as usize]
+    }
+}
 
 /// The desks of the first roles, out of their locks, and the passes of these roles, joined by
 /// mailbox. Contracts see how many roles they are.
@@ -18,7 +57,7 @@ use std::sync::{Mutex, Wait};
 pub struct JoinedDesks<N: Scene, M: Mail> {
     count: u32,
     places: DeskList,
-    joined: [u32; ROLE_LIMIT],
+    joined: JoinedCounts,
     passes: Gathered,
     of: PhantomData<(N, M)>,
 }
@@ -39,16 +78,16 @@ impl<N: Scene, M: Mail> JoinedDesks<N, M> {
     pub fn of(
         post: &Post<N>,
         mut places: DeskList,
-        lock: Option<Mutex<Locked<N, M, 0>>>,
+        lock: Option<RoleLock<N, M, 0>>,
     ) -> JoinedDesks<N, M>
         requires post { post.now ≡ M.boxes }
         requires places { length places ≡ length N.job.protocol.roles }
         requires lock { HasLock 0 (length N.job.protocol.roles) lock }
         ensures { result ≡ min 1 (length N.job.protocol.roles) }
     {
-        let (desk, passes) = lock.unwrap().into_inner().into_state().close();
+        let (desk, passes) = lock.unwrap().into_state().close();
         let passes = post.first(passes);
-        let mut joined = [0; ROLE_LIMIT];
+        let mut joined = JoinedCounts::none();
         put_desk(&mut places, &mut joined, 0, desk);
         JoinedDesks {
             count: 1,
@@ -60,7 +99,7 @@ impl<N: Scene, M: Mail> JoinedDesks<N, M> {
     }
 
     /// Adds those of role `R`, if it has a lock. It takes no memory.
-    pub fn add<const R: u32>(&mut self, post: &Post<N>, lock: Option<Mutex<Locked<N, M, R>>>)
+    pub fn add<const R: u32>(&mut self, post: &Post<N>, lock: Option<RoleLock<N, M, R>>)
         requires post { post.now ≡ M.boxes }
         requires lock { HasLock R (length N.job.protocol.roles) lock }
         requires next { (0 < R) × (self.old ≡ min R (length N.job.protocol.roles)) }
@@ -69,7 +108,7 @@ impl<N: Scene, M: Mail> JoinedDesks<N, M> {
         let Some(lock) = lock else {
             return;
         };
-        let (desk, passes) = lock.into_inner().into_state().close();
+        let (desk, passes) = lock.into_state().close();
         post.gather(&mut self.passes, passes, R);
         put_desk(&mut self.places, &mut self.joined, R as usize, desk);
         self.count = R + 1;
@@ -100,12 +139,12 @@ impl<N: Scene, M: Mail> JoinedDesks<N, M> {
 }
 
 /// Puts the role's desk into its place, and the number of its entries into that of the role.
-fn put_desk(places: &mut DeskList, joined: &mut [u32; ROLE_LIMIT], role: usize, desk: Desk)
+fn put_desk(places: &mut DeskList, joined: &mut JoinedCounts, role: usize, desk: Desk)
     requires role { role < length places.old }
     requires joined { role < role_limit }
     ensures places { places.new ≡ slice_set places.old role desk }
     ensures joined { joined.new ≡ slice_set joined.old role (length desk.store.entries) }
 {
-    joined[role] = desk.store().len();
+    joined.counts[role] = desk.store().len();
     places.replace(role, desk);
 }

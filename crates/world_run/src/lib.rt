@@ -10,6 +10,7 @@ mod locks;
 mod merged_run;
 mod opened_desks;
 mod pace;
+mod role_lock;
 mod rounds;
 mod run;
 mod shared;

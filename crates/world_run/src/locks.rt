@@ -4,20 +4,20 @@ ghost use Rattle.std.specs.Prelude.{◌≡◌, ◌+◌, ◌<◌, length, IfOk};
 ghost use Rattle.adapter.specs.Laws.{IsNewState};
 ghost use Rattle.world_run.specs.inner.Locks.{AreUnlocked, HasLock};
 
+use super::role_lock::RoleLock;
 use super::world::DeskList;
-use adapter::{Desk, Locked, RoleState, new_states_are_kept};
+use adapter::{Desk, RoleState, new_states_are_kept};
 use agent_scripts::{Job, Scene};
 use list_base::{NoMemory, Seq};
 use local_store::Store;
 use reorder_net::{Inbox, Mail, PassList, RolePasses};
 use std::alloc::Global;
-use std::sync::Mutex;
 
 /// Puts the last of the desks behind a lock, with its passes, if it is the desk of role `R`.
 pub fn lock_last<N: Scene, M: Mail, const R: u32>(
     desks: &mut DeskList,
     passes: &mut PassList,
-) -> Option<Mutex<Locked<N, M, R>>>
+) -> Option<RoleLock<N, M, R>>
     requires { AreUnlocked N.job M.boxes (R + 1) desks.old passes.old }
     ensures lock { HasLock R (length N.job.protocol.roles) result }
     ensures left { AreUnlocked N.job M.boxes R desks.new passes.new }
@@ -27,16 +27,19 @@ pub fn lock_last<N: Scene, M: Mail, const R: u32>(
     }
     let desk = desks.pop().unwrap();
     let own = passes.pop().unwrap();
-    Some(Mutex::new(locked_state(desk, own)))
+    Some(locked_state(desk, own))
 }
 
-/// What goes behind the lock of role `R`.
-fn locked_state<N: Scene, M: Mail, const R: u32>(desk: Desk, passes: RolePasses) -> Locked<N, M, R>
+/// The new state of role `R` behind its lock.
+fn locked_state<N: Scene, M: Mail, const R: u32>(
+    desk: Desk,
+    passes: RolePasses,
+) -> RoleLock<N, M, R>
     requires { IsNewState N.job R M.boxes (record { desk = desk; passes = passes }) }
 {
     // law: a new state is kept
     new_states_are_kept();
-    Locked::of(RoleState::open(desk, passes))
+    RoleLock::of(RoleState::open(desk, passes))
 }
 
 /// A desk for each role, without keys, events and room for any.

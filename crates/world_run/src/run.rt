@@ -1,19 +1,21 @@
 ghost use Rattle.std.specs.Prelude.{◌≡◌, replicate, IfOk, OnOk};
 ghost use Rattle.bspl_types.specs.Limits.{role_limit};
+ghost use Rattle.enactment_model.specs.Liveness.{LiveProtocol};
 ghost use Rattle.enactment_model.specs.Safety.{SafeProtocol};
 ghost use Rattle.stamped_history.specs.Explained.{AreExplained};
 ghost use Rattle.world_run.specs.Course.{generator_of};
 ghost use Rattle.world_run.specs.Finished.{IsFinished};
+ghost use Rattle.world_run.specs.FinishedTable.{AgreeWithTable, AreCompleted};
 ghost use Rattle.world_run.specs.Settling.{Continues, HaveRunWhole, Settles};
 ghost use Rattle.world_run.specs.World.{AreKept, histories_of};
 
 use super::inboxes::renew_inboxes;
-use super::laws::idle_desks_finish;
+use super::joined_desks::JoinedCounts;
+use super::laws::{finished_stores_agree, idle_desks_finish, live_keys_are_bound};
 use super::opened_desks::open_desks;
 use super::rounds::play;
 use super::world::World;
 use agent_scripts::Job;
-use bspl_types::ROLE_LIMIT;
 use list_base::NoMemory;
 use rand_core::SeedableRng;
 use rand_pcg::Pcg32;
@@ -25,11 +27,17 @@ pub fn run_one(alloc: Global, job: &Job) -> Result<World, NoMemory>
     ensures finished { IfOk result (λ world. IsFinished job.now world.desks) }
     ensures course { IfOk result (λ world. HaveRunWhole job.now world.desks) }
     ensures joined { IfOk result (λ world. world.joined ≡ replicate role_limit 0) }
+    ensures agree { IfOk result (λ world. AgreeWithTable job.now.protocol world.desks) }
+    ensures bound { LiveProtocol job.now.protocol →
+        IfOk result (λ world. AreCompleted job.now world.desks) }
 {
+    // laws: the stores of a finished world agree, and the keys of a live protocol are completed
+    finished_stores_agree();
+    live_keys_are_bound();
     let desks = open_desks(alloc, job)?;
     let mut world = World {
         desks,
-        joined: [0; ROLE_LIMIT],
+        joined: JoinedCounts::none(),
     };
     settle(alloc, job, &mut world)?;
     Ok(world)

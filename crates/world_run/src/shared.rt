@@ -1,5 +1,6 @@
-ghost use Rattle.std.specs.Prelude.{◌≡◌, ◌<◌, ◌≤◌, length, IfOk, IsSome};
+ghost use Rattle.std.specs.Prelude.{◌≡◌, ◌-◌, ◌%◌, ◌<◌, ◌≤◌, length, IfOk, IsSome};
 ghost use Rattle.adapter.specs.Next.{IsWorkload};
+ghost use Rattle.adapter.specs.StateSteps.{HasHadTurn};
 ghost use Rattle.world_run.specs.Joined.{AreJoined};
 ghost use Rattle.world_run.specs.Shared.{AreNewPasses};
 
@@ -7,22 +8,18 @@ use super::joined_desks::JoinedDesks;
 use super::locks::{empty_desks, lock_last};
 use super::opened_desks::open_desks;
 use super::pace::Pace;
+use super::role_lock::RoleLock;
 use super::world::{DeskList, World};
-use adapter::{Gate, Locked};
+use adapter::{Gate, Worker};
 use agent_scripts::{Job, Scene};
 use list_base::NoMemory;
-use rand_pcg::Pcg32;
 use reorder_net::{Mail, PassList, Post};
 use std::alloc::Global;
 use std::marker::Model;
-use std::sync::{Mutex, MutexGuard, Wait};
-use std::thread::yield_now;
+use std::sync::Wait;
 
-/// How often a thread looks for a free lock before it sleeps.
-const LOOKS: u32 = 100;
-
-/// The states of all roles, each behind a lock of its own. Workers share them by reference, and a
-/// worker holds one lock at a time. Contracts see how many threads each role has.
+/// The states of all roles, each behind a lock of its own. Workers share them by reference.
+/// Contracts see how many threads each role has.
 #[derive(Drop)]
 pub struct Shared<'a, N: Scene, M: Mail> {
     pub(crate) job: &'a Job,
@@ -31,14 +28,14 @@ pub struct Shared<'a, N: Scene, M: Mail> {
     pub(crate) pace: Pace,
     /// A list with a place for each desk when it comes out of its lock.
     pub(crate) places: DeskList,
-    pub(crate) role0: Option<Mutex<Locked<N, M, 0>>>,
-    pub(crate) role1: Option<Mutex<Locked<N, M, 1>>>,
-    pub(crate) role2: Option<Mutex<Locked<N, M, 2>>>,
-    pub(crate) role3: Option<Mutex<Locked<N, M, 3>>>,
-    pub(crate) role4: Option<Mutex<Locked<N, M, 4>>>,
-    pub(crate) role5: Option<Mutex<Locked<N, M, 5>>>,
-    pub(crate) role6: Option<Mutex<Locked<N, M, 6>>>,
-    pub(crate) role7: Option<Mutex<Locked<N, M, 7>>>,
+    pub(crate) role0: Option<RoleLock<N, M, 0>>,
+    pub(crate) role1: Option<RoleLock<N, M, 1>>,
+    pub(crate) role2: Option<RoleLock<N, M, 2>>,
+    pub(crate) role3: Option<RoleLock<N, M, 3>>,
+    pub(crate) role4: Option<RoleLock<N, M, 4>>,
+    pub(crate) role5: Option<RoleLock<N, M, 5>>,
+    pub(crate) role6: Option<RoleLock<N, M, 6>>,
+    pub(crate) role7: Option<RoleLock<N, M, 7>>,
 }
 
 impl<'a, N: Scene, M: Mail> Model for Shared<'a, N, M> {
@@ -106,28 +103,29 @@ impl<'a, N: Scene, M: Mail> Shared<'a, N, M> {
         })
     }
 
-    /// A turn of the role's agent at the workload number, within one holding of its lock.
+    /// A turn of the worker at a workload number of its share, within one holding of its role's
+    /// lock. Of `T` threads, number `n` belongs to thread `(n - 1) mod T`.
     pub fn turn<W: Wait, G: Gate>(
         &self,
         rt: &W,
-        role: u32,
         n: u64,
-        rng: &mut Pcg32,
+        worker: &mut Worker<N>,
         gate: &G,
-        thread: u32,
     ) -> Result<(), NoMemory>
-        requires role { role < length N.job.protocol.roles }
+        requires role { worker.old.role < length N.job.protocol.roles }
+        requires share { (n - 1) % self.now.threads ≡ worker.old.thread }
         requires number { IsWorkload N.job n }
+        ensures { HasHadTurn N.job worker.old.role M.boxes n worker.old result worker.new }
     {
-        match role {
-            0 => hold(rt, self, role, &self.role0, n, rng, gate, thread),
-            1 => hold(rt, self, role, &self.role1, n, rng, gate, thread),
-            2 => hold(rt, self, role, &self.role2, n, rng, gate, thread),
-            3 => hold(rt, self, role, &self.role3, n, rng, gate, thread),
-            4 => hold(rt, self, role, &self.role4, n, rng, gate, thread),
-            5 => hold(rt, self, role, &self.role5, n, rng, gate, thread),
-            6 => hold(rt, self, role, &self.role6, n, rng, gate, thread),
-            7 => hold(rt, self, role, &self.role7, n, rng, gate, thread),
+        match worker.role() {
+            0 => hold(rt, self, &self.role0, n, worker, gate),
+            1 => hold(rt, self, &self.role1, n, worker, gate),
+            2 => hold(rt, self, &self.role2, n, worker, gate),
+            3 => hold(rt, self, &self.role3, n, worker, gate),
+            4 => hold(rt, self, &self.role4, n, worker, gate),
+            5 => hold(rt, self, &self.role5, n, worker, gate),
+            6 => hold(rt, self, &self.role6, n, worker, gate),
+            7 => hold(rt, self, &self.role7, n, worker, gate),
             _ => unreachable!(),
         }
     }
@@ -164,33 +162,20 @@ impl<'a, N: Scene, M: Mail> Shared<'a, N, M> {
     }
 }
 
-/// A turn within one holding of the lock, which is that of the role.
+/// A turn of the worker within one holding of the lock, which is that of its role.
 fn hold<N: Scene, M: Mail, W: Wait, G: Gate, const R: u32>(
     rt: &W,
     shared: &Shared<'_, N, M>,
-    _role: u32,
-    lock: &Option<Mutex<Locked<N, M, R>>>,
+    lock: &Option<RoleLock<N, M, R>>,
     n: u64,
-    rng: &mut Pcg32,
+    worker: &mut Worker<N>,
     gate: &G,
-    thread: u32,
 ) -> Result<(), NoMemory>
-    requires own { _role ≡ R }
+    requires own { worker.old.role ≡ R }
     requires some { IsSome lock.now }
     requires number { IsWorkload N.job n }
+    ensures { HasHadTurn N.job worker.old.role M.boxes n worker.old result worker.new }
 {
-    let mut state = take_soon(rt, lock.as_ref().unwrap());
-    state.turn(rt, shared.job, shared.post, n, rng, gate, thread)
-}
-
-/// Takes the lock. A thread that finds it held lets others run and looks again, and sleeps only
-/// after many looks: a turn is shorter than it takes to wake a thread.
-fn take_soon<'b, T, W: Wait>(rt: &W, lock: &'b Mutex<T>) -> MutexGuard<'b, T> {
-    for _look in 0..LOOKS {
-        if let Some(guard) = lock.try_lock() {
-            return guard;
-        }
-        yield_now();
-    }
-    lock.lock(rt)
+    let lock = lock.as_ref().unwrap();
+    lock.turn(rt, shared.job, shared.post, n, worker, gate)
 }

@@ -1,9 +1,12 @@
 ghost use Rattle.std.specs.Prelude.{◌≡◌, ◌≤◌, IfOk};
+ghost use Rattle.enactment_model.specs.Liveness.{LiveProtocol};
 ghost use Rattle.enactment_model.specs.Safety.{SafeProtocol};
 ghost use Rattle.world_run.specs.Finished.{IsFinished};
+ghost use Rattle.world_run.specs.FinishedTable.{AgreeWithTable, AreCompleted};
 ghost use Rattle.world_run.specs.Joined.{AreAtMost, HaveSettled};
 ghost use Rattle.world_run.specs.Shared.{AreNewPasses};
 
+use super::laws::{finished_stores_agree, live_keys_are_bound};
 use super::run::settle;
 use super::shared::Shared;
 use super::workers::run_workers;
@@ -31,7 +34,13 @@ pub fn run_threads<H: Threads + Wait + Sync, G: Gate + Sync>(
     ensures finished { IfOk result (λ world. IsFinished job.now world.desks) }
     ensures settled { IfOk result (HaveSettled job.now) }
     ensures joined { IfOk result (λ world. AreAtMost world.joined world.desks) }
+    ensures agree { IfOk result (λ world. AgreeWithTable job.now.protocol world.desks) }
+    ensures bound { LiveProtocol job.now.protocol →
+        IfOk result (λ world. AreCompleted job.now world.desks) }
 {
+    // laws: the stores of a finished world agree, and the keys of a live protocol are completed
+    finished_stores_agree();
+    live_keys_are_bound();
     run_named::<Brand, H, G>(rt, alloc, job, threads, gate)
 }
 

@@ -1,13 +1,11 @@
-ghost use Rattle.std.specs.Prelude.{◌≡◌, ◌*◌, ◌<◌, length};
-ghost use Rattle.world_run.specs.inner.Workers.{worker_generator};
+ghost use Rattle.std.specs.Prelude.{◌≡◌, ◌*◌, ◌/◌, ◌%◌, ◌<◌, length, IfOk, OnOk};
+ghost use Rattle.adapter.specs.Worker.{IsSameThread};
 
 use super::pace::Stride;
 use super::shared::Shared;
-use adapter::Gate;
-use agent_scripts::{Job, Scene};
+use adapter::{Gate, Worker};
+use agent_scripts::Scene;
 use list_base::NoMemory;
-use rand_core::SeedableRng;
-use rand_pcg::Pcg32;
 use reorder_net::Mail;
 use std::alloc::Global;
 use std::sync::Wait;
@@ -19,8 +17,6 @@ const STRETCHES: u64 = 2;
 /// What one thread of a role does: the given number of passes over its share of the workload
 /// numbers. Of `T` threads, number `n` belongs to thread `(n - 1) mod T`. At each number the worker
 /// passes the gate's `before`, and takes the role's lock for one turn. Out of memory ends the work.
-/// A worker that is half a pass ahead of the others waits for them a while: it would find nothing to
-/// do, and would be through with its passes before their envelopes come.
 pub fn work<N: Scene, M: Mail, W: Wait, G: Gate>(
     rt: &W,
     shared: &Shared<'_, N, M>,
@@ -32,25 +28,43 @@ pub fn work<N: Scene, M: Mail, W: Wait, G: Gate>(
     requires role { role < length N.job.protocol.roles }
     requires thread { thread < shared.now.threads }
 {
-    let mut rng = worker_generator(shared.job, role, thread);
-    let mut stride = Stride::new();
-    for _pass in 0..passes {
-        work_once(rt, shared, role, thread, &mut rng, &mut stride, gate)?;
-    }
+    let _worker = worker_after(rt, shared, role, thread, passes, gate)?;
     Ok(())
 }
 
-/// One pass over the thread's workload numbers.
-fn work_once<N: Scene, M: Mail, W: Wait, G: Gate>(
+/// The worker once it has worked. A worker that is half a pass ahead of the others waits for them a
+/// while: it would find nothing to do, and would be through with its passes before their envelopes
+/// come.
+fn worker_after<N: Scene, M: Mail, W: Wait, G: Gate>(
     rt: &W,
     shared: &Shared<'_, N, M>,
     role: u32,
     thread: u32,
-    rng: &mut Pcg32,
+    passes: u32,
+    gate: &G,
+) -> Result<Worker<N>, NoMemory>
+    requires role { role < length N.job.protocol.roles }
+    requires thread { thread < shared.now.threads }
+    ensures { IfOk result (λ w. (w.role ≡ role) × (w.thread ≡ thread)) }
+{
+    let mut worker = Worker::new(shared.job, role, thread);
+    let mut stride = Stride::new();
+    for _pass in 0..passes {
+        work_once(rt, shared, &mut worker, &mut stride, gate)?;
+    }
+    Ok(worker)
+}
+
+/// One pass over the worker's workload numbers.
+fn work_once<N: Scene, M: Mail, W: Wait, G: Gate>(
+    rt: &W,
+    shared: &Shared<'_, N, M>,
+    worker: &mut Worker<N>,
     stride: &mut Stride,
     gate: &G,
 ) -> Result<(), NoMemory>
-    requires role { role < length N.job.protocol.roles }
+    requires role { worker.old.role < length N.job.protocol.roles }
+    ensures { OnOk result (IsSameThread worker.old worker.new) }
 {
     let threads = u64::from(shared.threads);
     let numbers = shared.job.script().count();
@@ -58,20 +72,12 @@ fn work_once<N: Scene, M: Mail, W: Wait, G: Gate>(
         if index % (numbers / STRETCHES + 1) == 0 {
             shared.pace.begin(rt, stride);
         }
-        if index % threads == u64::from(thread) {
-            gate.before(role, thread);
-            shared.turn(rt, role, index + 1, rng, gate, thread)?;
+        if index % threads == u64::from(worker.thread()) {
+            gate.before(worker.role(), worker.thread());
+            shared.turn(rt, index + 1, worker, gate)?;
         }
     }
     Ok(())
-}
-
-/// The generator of the role's thread, by which it picks envelopes.
-fn worker_generator(job: &Job, role: u32, thread: u32) -> Pcg32
-    requires { (role < 8) × (thread < 8) }
-    ensures { result ≡ worker_generator job.now role thread }
-{
-    Pcg32::seed_from_u64(job.plan().seed ^ u64::from(8 * role + thread))
 }
 
 /// Runs a worker for each thread of each role, and returns once all have returned. A worker that
@@ -93,7 +99,7 @@ pub fn run_workers<
         { run_worker(rt, shared, index, gate) },
     )?;
     for result in results {
-        result?;
+        let _worker = result?;
     }
     Ok(())
 }
@@ -105,13 +111,15 @@ fn run_worker<N: Scene, M: Mail, W: Wait, G: Gate>(
     shared: &Shared<'_, N, M>,
     index: usize,
     gate: &G,
-) -> Result<(), NoMemory>
+) -> Result<Worker<N>, NoMemory>
     requires { index < length N.job.protocol.roles * shared.now.threads }
+    ensures { IfOk result (λ w. (w.role ≡ index / shared.now.threads)
+        × (w.thread ≡ index % shared.now.threads)) }
 {
     let threads = shared.threads as usize;
     let messages = shared.job.admitted().expanded().messages.len();
     let passes = messages as u32 + 1;
-    work(
+    worker_after(
         rt,
         shared,
         (index / threads) as u32,

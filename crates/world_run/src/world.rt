@@ -2,8 +2,8 @@ ghost use Rattle.std.specs.Prelude.{◌≡◌, ◌<◌, length, replicate, slice
 ghost use Rattle.bspl_types.specs.Limits.{role_limit};
 ghost use Rattle.world_run.specs.World.{AreDesksOfOne};
 
+use super::joined_desks::JoinedCounts;
 use adapter::Desk;
-use bspl_types::ROLE_LIMIT;
 use list_base::Seq;
 use std::marker::Model;
 
@@ -15,19 +15,17 @@ pub type DeskList = Seq<Desk>;
 #[derive(Drop)]
 pub struct World {
     pub(crate) desks: DeskList,
-    pub(crate) joined: [u32; ROLE_LIMIT],
+    pub(crate) joined: JoinedCounts,
 }
 
 impl Model for World {
-    ghost use Rattle.std.specs.Prelude.{◌≡◌, length};
-    ghost use Rattle.bspl_types.specs.Limits.{role_limit};
     ghost use Rattle.world_run.specs.World.{AreDesksOfOne, WorldState};
 
     ghost Value = { WorldState };
 
     ghost view = { λ w. record { desks = w.desks; joined = w.joined } };
 
-    ghost invariant = { λ w. AreDesksOfOne w.desks × (length w.joined ≡ role_limit) };
+    ghost invariant = { λ w. AreDesksOfOne w.desks };
 }
 
 impl World {
@@ -38,7 +36,7 @@ impl World {
     {
         World {
             desks: states,
-            joined: [0; ROLE_LIMIT],
+            joined: JoinedCounts::none(),
         }
     }
 
@@ -57,6 +55,6 @@ impl World {
         requires { role < length self.now.desks }
         ensures { slice_get self.now.joined role ≡ Some result }
     {
-        self.joined[role as usize]
+        self.joined.of(role)
     }
 }

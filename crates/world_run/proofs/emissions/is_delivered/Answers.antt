@@ -10,7 +10,6 @@ use Rattle.bspl_types.specs.declared.protocol.Message.{Message}
 use Rattle.bspl_types.specs.Expansion.{message_of, no_message}
 use Rattle.bspl_types.specs.History.{instance_of}
 use Rattle.local_store.specs.declared.act.Kind.{Kind}
-use Rattle.local_store.specs.Consistent.{IsReceived}
 use Rattle.local_store.specs.State.{acts_of, StoreState}
 use Rattle.stamped_history.specs.declared.entry.Entry.{Entry}
 use Rattle.stamped_history.specs.Explained.{history_at}
@@ -21,6 +20,7 @@ use Rattle.world_run.proofs.OutlineLemmas.{emits_as, outlined, receives_as}
 use Rattle.world_run.proofs.UndeliveredLemmas.{item_there}
 use Rattle.world_run.proofs.WorldLemmas.{history_is}
 use Rattle.world_run.proofs.emissions.is_delivered.Goals as goal
+use Rattle.enactment_model.specs.Liveness.{IsReceived}
 
 pub at-requires-in-Emitted : goal.at-requires-in-Emitted
 at-requires-in-Emitted c =

@@ -11,7 +11,6 @@ use Rattle.bspl_types.specs.declared.event.Instance.{Instance}
 use Rattle.bspl_types.specs.declared.expanded.Expanded.{Expanded}
 use Rattle.bspl_types.specs.declared.protocol.Message.{Message}
 use Rattle.bspl_types.specs.Expansion.{message_of, no_message}
-use Rattle.local_store.specs.Consistent.{IsReceived}
 use Rattle.local_store.specs.State.{acts_of, numbers, StoreState}
 use Rattle.stamped_history.specs.Rules.{IsNumber}
 use Rattle.reorder_net.specs.Losses.{copies_of}
@@ -24,6 +23,7 @@ use Rattle.world_run.proofs.EntryLemmas.{number_is}
 use Rattle.world_run.proofs.UndeliveredLemmas.{item_there}
 use Rattle.world_run.proofs.WorldLemmas.{history_is}
 use Rattle.world_run.proofs.emissions.undelivered_envelope.Goals as goal
+use Rattle.enactment_model.specs.Liveness.{IsReceived}
 
 pub returns-in_default : goal.returns-in_default
 returns-in_default c = λ entry at.

@@ -13,7 +13,7 @@ use Rattle.world_run.proofs.WorldLemmas.{of_one}
 use Rattle.world_run.proofs.run.settle.Goals as goal
 
 pub invariant_of-world : goal.invariant_of-world
-invariant_of-world c = (of_one c.args.job.now c.renew_inboxes.new.desks c.renew_inboxes.ensures.extend.sound.kept, c.world.invariant.1)
+invariant_of-world c = of_one c.args.job.now c.renew_inboxes.new.desks c.renew_inboxes.ensures.extend.sound.kept
 
 pub returns-in_err-renew_inboxes-clause-continues : goal.returns-in_err-renew_inboxes-clause-continues
 returns-in_err-renew_inboxes-clause-continues c =
@@ -25,7 +25,7 @@ returns-in_err-renew_inboxes-clause-continues c =
     }
 
 pub invariant_of-world-2 : goal.invariant_of-world-2
-invariant_of-world-2 c = (of_one c.args.job.now c.play.new.desks c.play.ensures.extend.sound.kept, c.world.invariant.1)
+invariant_of-world-2 c = of_one c.args.job.now c.play.new.desks c.play.ensures.extend.sound.kept
 
 pub returns-clause-ok : goal.returns-clause-ok
 returns-clause-ok c =

@@ -1,31 +1,39 @@
 -- The steps of a turn, one after another.
-use Rattle.std.proofs.Common.{inr, subst}
-use Rattle.std.proofs.lemmas.Result.{on_err_weaker, on_ok_weaker}
+use Rattle.std.proofs.Common.{Result, Ok, Err, inr, subst, sym}
+use Rattle.std.specs.Prelude.{OnErr}
+use Rattle.agent_scripts.specs.Job.{Job}
 use Rattle.adapter.specs.State.{StateView}
-use Rattle.adapter.specs.StateSteps.{IsCutOff, IsUnposted, MovesIn}
+use Rattle.adapter.specs.StateSteps.{EmitsNext, IsCutOff, IsUnposted, MovesIn}
 use Rattle.adapter.proofs.locked.Locked.turn.Goals as goal
 
-pub returns-clause-err : goal.returns-clause-err
-returns-clause-err g c =
+-- what holds of each result holds of an error
+at_err : {X E : Type 0} (r : Result X E) (P : Type 0) → P → OnErr r P
+at_err (Ok x) P p = tt
+at_err (Err e) P p = p
+
+pub returns-in_err-step_emit-clause-err : goal.returns-in_err-step_emit-clause-err
+returns-in_err-step_emit-clause-err g c =
     let filled = c.drain.new.state in
-    let unposted : IsUnposted c.args.rng.now c.args.self.now c.step_take.new.rng c.step_take.new.state = record {
+    let unposted : IsUnposted c.args.worker.now c.args.self.now c.take.new.self c.take.new.state = record {
+      same = c.take.ensures.same;
       filled = filled;
       moves = subst (λ (s : StateView). MovesIn 65536 s filled) c.self.view_is c.drain.ensures.moved;
-      receipt = c.step_take.result;
-      takes = c.step_take.ensures.taken;
+      receipt = c.take.result;
+      takes = c.take.ensures.taken;
     } in
-    let cut : IsCutOff c.args.rng.now c.args.self.now c.step_take.new.rng c.step_take.new.state = inr unposted in
-    on_err_weaker c.emit_next.result (λ same. rw same cut) c.emit_next.ensures.err
+    let cut : IsCutOff c.args.worker.now c.args.self.now c.take.new.self c.take.new.state = inr unposted in
+    rw c.in_err-step_emit.ensures.err (at_err _ _ cut)
 
 pub returns-clause-ok : goal.returns-clause-ok
 returns-clause-ok g c =
     let filled = c.drain.new.state in
-    on_ok_weaker c.emit_next.result (λ emits. record {
+    record {
+      same = c.take.ensures.same;
       filled = filled;
       moves = subst (λ (s : StateView). MovesIn 65536 s filled) c.self.view_is c.drain.ensures.moved;
-      receipt = c.step_take.result;
-      received = c.step_take.new.state;
-      takes = c.step_take.ensures.taken;
-      envelope = emits.0;
-      emits = emits.1;
-    }) c.emit_next.ensures.ok
+      receipt = c.take.result;
+      received = c.take.new.state;
+      takes = c.take.ensures.taken;
+      envelope = c.in_ok-step_emit.field-0;
+      emits = subst (λ (j : Job). EmitsNext j c.args.n c.take.new.state c.in_ok-step_emit.field-0 c.step_emit.new.state) (sym c.requires.scene.0) c.in_ok-step_emit.ensures.ok;
+    }

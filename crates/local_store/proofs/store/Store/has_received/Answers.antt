@@ -3,13 +3,13 @@ use Rattle.std.proofs.Common.{◌≡◌, [], Some, ap, sym, subst, ◌∙◌}
 use Rattle.std.specs.Prelude.{◌↔◌, IsTrue, slice_get, option_map}
 use Rattle.std.proofs.lemmas.Option.{get_or_from_slice_get, same_Some, slice_get-map}
 use Rattle.bspl_types.specs.History.{instance_of}
-use Rattle.local_store.specs.Consistent.{IsReceived}
 use Rattle.local_store.specs.State.{acts_of}
 use Rattle.local_store.specs.inner.Acts.{entries_in, entry_in, instance_in}
 use Rattle.local_store.specs.inner.Kept.{rows_of}
 use Rattle.local_store.proofs.EntryLemmas.{instance_as}
 use Rattle.local_store.proofs.SoundLemmas.{act_exists}
 use Rattle.local_store.proofs.store.Store.has_received.Goals as goal
+use Rattle.enactment_model.specs.Liveness.{IsReceived}
 
 pub at-key-requires : goal.at-key-requires
 at-key-requires c =

@@ -12,7 +12,7 @@ invariant_of-result g c =
     let boxes = g.M.Mail.boxes in
     let old = c.self.inside in
     let joined : HaveJoined job boxes (length job.protocol.roles) old.places old.joined old.passes = subst (λ n. HaveJoined job boxes n old.places old.joined old.passes) (c.self.view_is ∙ c.requires.all) c.self.invariant in
-    (of_one job old.places (released_kept job boxes old.places old.joined old.passes joined), joined.room)
+    of_one job old.places (released_kept job boxes old.places old.joined old.passes joined)
 
 pub returns : goal.returns
 returns g c =

@@ -17,7 +17,7 @@ invariant_of-result g c =
     let zeros : List ℕ = replicate 8 0 in
     let own = c.close-desk.ensures in
     let places : c.put_desk.new.places ≡ slice_set c.args.places 0 s.desk = c.put_desk.ensures.places ∙ ap (slice_set c.args.places 0) own.0 in
-    let counts : c.put_desk.new.joined ≡ slice_set zeros 0 (length s.desk.store.entries) = c.put_desk.ensures.joined ∙ ap (λ (d : DeskState). slice_set zeros 0 (length d.store.entries)) own.0 in
+    let counts : c.put_desk.new.joined ≡ slice_set zeros 0 (length s.desk.store.entries) = c.put_desk.ensures.joined ∙ ap (λ (y : List ℕ × DeskState). slice_set y.0 0 (length y.1.store.entries)) (λ i. (c.none-joined.ensures i, own.0 i)) in
     let begins : Begins boxes s.passes c.first-passes.result = subst (λ (y : List BoxId × RolePasses). Begins y.0 y.1 c.first-passes.result) (λ i. (c.requires.post i, own.1 i)) c.first-passes.ensures in
     let joined = joined_first job boxes c.args.places zeros c.first-passes.result s c.requires.places refl c.into_state.ensures.kept begins in
     subst (λ (y : List DeskState × List ℕ). HaveJoined job boxes 1 y.0 y.1 c.first-passes.result) (λ i. (sym places i, sym counts i)) joined

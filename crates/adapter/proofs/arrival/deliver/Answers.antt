@@ -3,7 +3,7 @@ use Rattle.std.proofs.Common.{subst, sym}
 use Rattle.adapter.proofs.InboxLemmas.{after_put, with_inbox}
 use Rattle.adapter.specs.Desk.{DeskState}
 use Rattle.adapter.specs.Kept.{IsKept}
-use Rattle.adapter.proofs.arrival.deliver_lent.Goals as goal
+use Rattle.adapter.proofs.arrival.deliver.Goals as goal
 
 pub returns-clause-kept : goal.returns-clause-kept
 returns-clause-kept c =
@@ -11,5 +11,5 @@ returns-clause-kept c =
     let role = c.args.desk.now.store.role in
     let old : DeskState = record { store = c.desk.inside.store; inbox = c.desk.inside.inbox } in
     let kept : IsKept job role old = subst (IsKept job role) (sym c.desk.view_is) c.requires.kept in
-    with_inbox job role old c.put_lent.new.self kept
-    (after_put job role old.inbox c.put_lent.new.self c.args.e.now c.put_lent.result kept.inbox c.requires.own c.put_lent.ensures.ok c.put_lent.ensures.err)
+    with_inbox job role old c.put.new.self kept
+    (after_put job role old.inbox c.put.new.self c.args.e c.put.result kept.inbox c.requires.own c.put.ensures.ok c.put.ensures.err)
