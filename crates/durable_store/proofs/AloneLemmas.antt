@@ -1,5 +1,5 @@
 -- A row of calls each of which leaves a disk as it was.
-use Rattle.std.proofs.Common.{ℕ, ⊎_elim, inl, inr, List, refl, sym, ◌∙◌, arith}
+use Rattle.std.proofs.Common.{ℕ, ◌+◌, ◌≤◌, ⊎_elim, inl, inr, List, refl, sym, ◌∙◌, arith}
 use Rattle.role_journal.specs.Crash.{Leaves, Stays}
 use Rattle.durable_store.specs.Start.{IsKeptAsItWas}
 use Rattle.durable_store.specs.inner.Gates.{IsLeftAlone}
@@ -31,9 +31,10 @@ module _ {D : Type 0} (seen : D → List ℕ) (may_leave : D → List ℕ → Ty
   }
 
   -- nothing is left that might not have been left at first
-  pub kept_as_it_was : (old new : D) → ((c : List ℕ) → left_since old (clock old) c → may_leave old c) → IsLeftAlone seen may_leave clock left_since old new → IsKeptAsItWas seen may_leave clock left_since old new
-  kept_as_it_was old new only alone = record {
+  pub kept_as_it_was : (calls : ℕ) (old new : D) → ((c : List ℕ) → left_since old (clock old) c → may_leave old c) → clock new ≤ clock old + calls → IsLeftAlone seen may_leave clock left_since old new → IsKeptAsItWas seen may_leave clock left_since calls old new
+  kept_as_it_was calls old new only soon alone = record {
     same = alone.same;
+    soon = soon;
     now = alone.crash;
     meanwhile = record {
       later = alone.later;

@@ -14,7 +14,7 @@ use Rattle.local_store.specs.State.{StoreState}
 use Rattle.role_journal.specs.Counts.{Counts}
 use Rattle.role_journal.specs.Crash.{CrashLeavesOnly}
 use Rattle.role_journal.specs.EntryBody.{IsEntry}
-use Rattle.role_journal.specs.Journal.{IsBeforeOrAfter, KeepsJournal, places}
+use Rattle.role_journal.specs.Journal.{HasSameTail, IsBeforeOrAfter, KeepsJournal, places}
 use Rattle.stamped_history.specs.declared.entry.Entry.{Entry}
 use Rattle.stamped_history.specs.Local.{IsLocal}
 use Rattle.durable_store.specs.Calls.{BecomesSpent, Ends, HasRoom, HasWritten, WritesEntry, Acknowledged, appended_as}
@@ -47,7 +47,7 @@ module _ {D : Type 0} (seen : D → List ℕ) (may_leave : D → List ℕ → Ty
     pub room : HasRoom s
     pub next : IsNextEntry s.store e
     pub crash : (entries : List Entry) → length s.store.entries ≡ length entries → KeepsJournal seen may_leave s.disk entries → CrashLeavesOnly clock left_since s.disk new (IsBeforeOrAfter entries e)
-    pub size : length (seen new) ≡ length (seen s.disk)
+    pub tail : HasSameTail (seen s.disk) (seen new)
 
   -- what a call that appends writes, however it ends
   writes : (s t : DurableState D) (e : Entry) → IsAppending s e t.disk → WritesEntry seen clock left_since e s t
@@ -55,7 +55,7 @@ module _ {D : Type 0} (seen : D → List ℕ) (may_leave : D → List ℕ → Ty
     room = appending.room;
     may_come = history_with s.store e appending.sound.history appending.next;
     crash = appending.crash s.store.entries refl (appending.sound.ready appending.room.unspent).keeps;
-    size = appending.size;
+    tail = appending.tail;
   }
 
   -- a store that was cut short is sound
@@ -88,7 +88,7 @@ module _ {D : Type 0} (seen : D → List ℕ) (may_leave : D → List ℕ → Ty
         history = subst (λ (u : StoreState). IsHistoryFor u u.entries) (sym written.store) w.may_come;
         ready = λ _. record {
           keeps = written.keeps;
-          room = omega (arith, ap length entries_are, length-append s.store.entries (e ∷ []), ready.room) ∙ ap places (sym w.size);
+          room = omega (arith, ap length entries_are, length-append s.store.entries (e ∷ []), ready.room) ∙ ap places (sym w.tail.size);
           countable = subst (λ (k : Counts). k.faults < last_count) (sym still) ready.countable;
         };
         cut_short = λ spent. let unspent = written.unspent in absurd (cc);

@@ -11,3 +11,4 @@ mod KeyLemmas
 mod CrashLemmas
 mod ServingLemmas
 mod RestoredLemmas
+mod RestartLemmas

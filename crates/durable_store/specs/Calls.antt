@@ -5,7 +5,7 @@ use Rattle.bspl_io.specs.declared.sink.Trouble.{Trouble}
 use Rattle.stamped_history.specs.declared.entry.Entry.{Entry}
 use Rattle.local_store.specs.State.{with_entry}
 use Rattle.role_journal.specs.Crash.{CrashLeavesOnly}
-use Rattle.role_journal.specs.Journal.{IsBeforeOrAfter, KeepsJournal}
+use Rattle.role_journal.specs.Journal.{HasSameTail, IsBeforeOrAfter, KeepsJournal}
 use Rattle.durable_store.specs.State.{DurableState, IsHistoryFor}
 
 -- no call was cut short, and there is a place for one event more
@@ -26,14 +26,14 @@ appended_as (Ok _) e = Acknowledged e
 appended_as (Err _) e = Unacknowledged e
 
 -- the entry may come next, and a crash at any moment of the call leaves a journal of the store's
--- entries, or of this one more; the disk keeps its size
+-- entries, or of this one more; the disk keeps its size, and what lies behind its last place
 pub record WritesEntry {D : Type 0} (seen : D → List ℕ) (clock : D → ℕ)
     (left_since : D → ℕ → List ℕ → Type 0) (e : Entry) (old new : DurableState D) : Type 0 where
   pub room : HasRoom old
   pub may_come : IsHistoryFor old.store (old.store.entries ++ e ∷ [])
   pub crash :
       CrashLeavesOnly clock left_since old.disk new.disk (IsBeforeOrAfter old.store.entries e)
-  pub size : length (seen new.disk) ≡ length (seen old.disk)
+  pub tail : HasSameTail (seen old.disk) (seen new.disk)
 
 -- the store has the entry as its last one, and each crash from now on leaves it
 pub record HasWritten {D : Type 0} (seen : D → List ℕ) (may_leave : D → List ℕ → Type 0)

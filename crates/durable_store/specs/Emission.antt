@@ -33,20 +33,21 @@ pub record EmissionIsCutOff {D : Type 0} (s : DurableState D) (message : ℕ) (k
   pub emission : IsEmission s.store message key outs planned
   pub ends : outcome ≡ Unacknowledged (emission_entry planned)
 
--- what holds of the store if this is the answer, and how the call ends
-abbrev pub IsEmitAnswer : {D : Type 0} → DurableState D → ℕ → List Value → List Value →
+-- what holds of the store if this is the answer, and how the call ends; memory runs out only if the
+-- disk may lack it
+abbrev pub IsEmitAnswer : {D : Type 0} → Type 0 → DurableState D → ℕ → List Value → List Value →
     Result Stamped EmitRefusal → Outcome → Type 0
-IsEmitAnswer s message key outs (Ok m) outcome =
+IsEmitAnswer lacks s message key outs (Ok m) outcome =
     MayWrite s message key × IsEmission s.store message key outs m ×
     (outcome ≡ Acknowledged (emission_entry m))
-IsEmitAnswer s message key outs (Err Spent) outcome =
+IsEmitAnswer lacks s message key outs (Err Spent) outcome =
     (s.spent ≡ true) × (outcome ≡ Unchanged)
-IsEmitAnswer s message key outs (Err Full) outcome =
+IsEmitAnswer lacks s message key outs (Err Full) outcome =
     (s.spent ≡ false) × (s.store.spare ≡ 0) × (outcome ≡ Unchanged)
-IsEmitAnswer s message key outs (Err (Blocked block)) outcome =
+IsEmitAnswer lacks s message key outs (Err (Blocked block)) outcome =
     HasRoom s × IsFirstBlock s.store.protocol (acts_of s.store) key
     (message_of s.store.protocol message).carried block × (outcome ≡ Unchanged)
-IsEmitAnswer s message key outs (Err DiskFault) outcome =
+IsEmitAnswer lacks s message key outs (Err DiskFault) outcome =
     EmissionIsCutOff s message key outs outcome
-IsEmitAnswer s message key outs (Err NoMemory) outcome =
-    EmissionIsCutOff s message key outs outcome
+IsEmitAnswer lacks s message key outs (Err NoMemory) outcome =
+    lacks × EmissionIsCutOff s message key outs outcome

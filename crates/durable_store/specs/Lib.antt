@@ -3,6 +3,7 @@ pub mod History
 pub mod State
 pub mod Alien
 pub mod Start
+pub mod Restart
 pub mod Laws
 pub mod Troubles
 pub mod Calls

@@ -35,13 +35,14 @@ pub record ReceiptIsCutOff {D : Type 0} (s : DurableState D) (m : Stamped) (outc
   pub fresh : IsForeseen s.store m Fresh
   pub ends : outcome ≡ Unacknowledged (receipt_entry s.store m)
 
--- what holds of the store if this is the answer, and how the call ends
-abbrev pub IsReceiveAnswer : {D : Type 0} → DurableState D → Stamped →
+-- what holds of the store if this is the answer, and how the call ends; memory runs out only if the
+-- disk may lack it
+abbrev pub IsReceiveAnswer : {D : Type 0} → Type 0 → DurableState D → Stamped →
     Result Receipt ReceiveRefusal → Outcome → Type 0
-IsReceiveAnswer s m (Ok receipt) outcome =
+IsReceiveAnswer lacks s m (Ok receipt) outcome =
     HasRoom s × IsForeseen s.store m receipt × (outcome ≡ receipt_outcome s.store m receipt)
-IsReceiveAnswer s m (Err Spent) outcome = (s.spent ≡ true) × (outcome ≡ Unchanged)
-IsReceiveAnswer s m (Err Full) outcome =
+IsReceiveAnswer lacks s m (Err Spent) outcome = (s.spent ≡ true) × (outcome ≡ Unchanged)
+IsReceiveAnswer lacks s m (Err Full) outcome =
     (s.spent ≡ false) × (s.store.spare ≡ 0) × (outcome ≡ Unchanged)
-IsReceiveAnswer s m (Err DiskFault) outcome = ReceiptIsCutOff s m outcome
-IsReceiveAnswer s m (Err NoMemory) outcome = ReceiptIsCutOff s m outcome
+IsReceiveAnswer lacks s m (Err DiskFault) outcome = ReceiptIsCutOff s m outcome
+IsReceiveAnswer lacks s m (Err NoMemory) outcome = lacks × ReceiptIsCutOff s m outcome

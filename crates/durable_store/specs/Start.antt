@@ -1,5 +1,5 @@
 -- What `start` answers, and what it leaves of the disk.
-use Rattle.std.specs.Prelude.{◌≡◌, ◌≢◌, ◌↔◌, ℕ, false, List, Result, Ok, Err}
+use Rattle.std.specs.Prelude.{◌≡◌, ◌≢◌, ◌↔◌, ◌+◌, ◌≤◌, ℕ, false, List, length, Result, Ok, Err}
 use Rattle.std.specs.List.{AllPairs, Contains}
 use Rattle.bspl_types.specs.declared.expanded.Expanded.{Expanded}
 use Rattle.bspl_types.specs.declared.value.Value.{Value}
@@ -25,11 +25,19 @@ abbrev pub disk_of : {D : Type 0} → Result (DurableState D) (StartRefusal × D
 disk_of (Ok s) = s.disk
 disk_of (Err e) = e.1
 
--- the disk holds what it held, and a crash now, or at any moment since, leaves nothing that it
--- might not have left before
+-- how many calls a start makes of a disk with so many places, at most: it syncs, looks at each
+-- gate, and reads the body of each entry that it gives back, or else of any place
+abbrev pub start_calls : {D : Type 0} → ℕ → Result (DurableState D) (StartRefusal × D) → ℕ
+start_calls count (Ok s) = 1 + count + length s.store.entries
+start_calls count (Err e) = 1 + count + count
+
+-- the disk holds what it held, after so many calls at most; a crash now, or at any moment since,
+-- leaves nothing that it might not have left before
 pub record IsKeptAsItWas {D : Type 0} (seen : D → List ℕ) (may_leave : D → List ℕ → Type 0)
-    (clock : D → ℕ) (left_since : D → ℕ → List ℕ → Type 0) (old new : D) : Type 0 where
+    (clock : D → ℕ) (left_since : D → ℕ → List ℕ → Type 0) (calls : ℕ) (old new : D)
+    : Type 0 where
   pub same : seen new ≡ seen old
+  pub soon : clock new ≤ clock old + calls
   pub now : LeavesNoMore (may_leave old) (may_leave new)
   pub meanwhile : CrashLeavesOnly clock left_since old new (may_leave old)
 

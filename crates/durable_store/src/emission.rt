@@ -27,7 +27,8 @@ impl<D: Disk> DurableStore<D> {
             self.old.store.role }
         ensures ok { IfOk result (IsEmission self.old.store message key.now outs.now) }
         ensures ends { EndsWith D.seen D.may_leave D.clock D.left_since
-            (IsEmitAnswer self.old message key.now outs.now result) self.old self.new }
+            (IsEmitAnswer (D.may_lack self.new.disk) self.old message key.now outs.now result)
+            self.old self.new }
         ensures costs { Costs D.clock D.counts 4 (IsErrOf result EmitRefusal.DiskFault)
             self.old.disk self.new.disk }
     {

@@ -9,6 +9,7 @@ mod next_event;
 mod places;
 mod reception;
 mod refusals;
+mod restart;
 mod restoring;
 mod start;
 

@@ -23,6 +23,7 @@ impl<D: Disk> DurableStore<D> {
             (appended_as result entry.now) self.old self.new }
         ensures costs { Costs D.clock D.counts 4 (IsErrOf result Trouble.Failed)
             self.old.disk self.new.disk }
+        ensures memory { IsErrOf result Trouble.NoMemory → D.may_lack self.new.disk }
     {
         self.spent = true;
         append(&mut self.disk, self.store.len(), entry)?;

@@ -1,4 +1,4 @@
-ghost use Rattle.std.specs.Prelude.{◌≡◌, ◌+◌, ◌<◌, ◌≤◌, List, ℕ, IfOk, MatchOption, OnErr, OnOk};
+ghost use Rattle.std.specs.Prelude.{◌≡◌, ◌+◌, ◌-◌, ◌<◌, ◌≤◌, List, ℕ, IfOk, MatchOption, OnErr, OnOk};
 ghost use Rattle.std.specs.Prelude.{length};
 ghost use Rattle.bspl_io.specs.Faults.{last_count};
 ghost use Rattle.role_journal.specs.Counts.{after_fault};
@@ -56,6 +56,7 @@ pub fn first_open<D: Disk>(disk: &mut D, from: u32, count: u32) -> Result<Option
     ensures place { IfOk result (λ found. MatchOption found
         (AreClosed (D.seen disk.old) from count) (IsFirstOpen (D.seen disk.old) from count)) }
     ensures alone { IsLeftAlone D.seen D.may_leave D.clock D.left_since disk.old disk.new }
+    ensures soon { D.clock disk.new ≤ D.clock disk.old + (count - from) }
     ensures failed { OnErr result (D.counts disk.new ≡ after_fault (D.counts disk.old)) }
     ensures still { OnOk result (D.counts disk.new ≡ D.counts disk.old) }
 {

@@ -29,7 +29,7 @@ impl<D: Disk> DurableStore<D> {
         requires stamp { m.now.stamp < clock_limit }
         ensures ok { IfOk result (λ r. IsReceipt self.old.store m.now r self.new.store) }
         ensures ends { EndsWith D.seen D.may_leave D.clock D.left_since
-            (IsReceiveAnswer self.old m.now result) self.old self.new }
+            (IsReceiveAnswer (D.may_lack self.new.disk) self.old m.now result) self.old self.new }
         ensures costs { Costs D.clock D.counts 4 (IsErrOf result ReceiveRefusal.DiskFault)
             self.old.disk self.new.disk }
     {

@@ -6,7 +6,7 @@ ghost use Rattle.role_journal.specs.Crash.{Leaves, Stays};
 ghost use Rattle.role_journal.specs.Journal.{places};
 ghost use Rattle.durable_store.specs.Start.{HoldsKeys, IsStartRefusal};
 ghost use Rattle.durable_store.specs.inner.Begun.{IsBegun, IsBlank, IsOfSame, IsRestored, Stops};
-ghost use Rattle.durable_store.specs.inner.Gates.{IsLeftAlone};
+ghost use Rattle.durable_store.specs.inner.Gates.{IsLeftAlone, entry_calls, restore_calls};
 
 use super::laws::begun_are_native;
 use super::places::{first_open, next_entry};
@@ -36,6 +36,8 @@ pub fn restore<D: Disk>(
         (D.counts disk.old) (D.counts disk.new)) }
     ensures still { OnOk result (D.counts disk.new ≡ D.counts disk.old) }
     ensures alone { IsLeftAlone D.seen D.may_leave D.clock D.left_since disk.old disk.new }
+    ensures soon { D.clock disk.new ≤ D.clock disk.old +
+        restore_calls (places (length (D.seen disk.old))) result }
 {
     // law: no place of the first entries is alien
     begun_are_native();
@@ -110,6 +112,8 @@ fn restore_entries<D: Disk>(disk: &mut D, store: &mut Store, count: u32) -> Resu
         (D.seen disk.old) (D.counts disk.old) (D.counts disk.new)) }
     ensures still { OnOk result (D.counts disk.new ≡ D.counts disk.old) }
     ensures alone { IsLeftAlone D.seen D.may_leave D.clock D.left_since disk.old disk.new }
+    ensures soon { D.clock disk.new ≤ D.clock disk.old +
+        entry_calls count (length store.new.entries) result }
 {
     // law: no place of the first entries is alien
     begun_are_native();

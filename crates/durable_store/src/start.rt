@@ -2,10 +2,10 @@ ghost use Rattle.std.specs.Prelude.{◌≡◌, ◌<◌, ◌≤◌, List, IfErr, 
 ghost use Rattle.std.specs.List.{All};
 ghost use Rattle.stamped_history.specs.declared.entry.Entry.{Entry};
 ghost use Rattle.bspl_io.specs.Faults.{last_count};
-ghost use Rattle.role_journal.specs.Journal.{IsJournal};
+ghost use Rattle.role_journal.specs.Journal.{IsJournal, places};
 ghost use Rattle.durable_store.specs.History.{IsHistory};
 ghost use Rattle.durable_store.specs.Start.{IsKeptAsItWas, IsStartAnswer, IsStarted};
-ghost use Rattle.durable_store.specs.Start.{IsStartRefusal, Stands, disk_of};
+ghost use Rattle.durable_store.specs.Start.{IsStartRefusal, Stands, disk_of, start_calls};
 
 use super::durable::DurableStore;
 use super::laws::{histories_are_native, journals_are_one};
@@ -34,8 +34,8 @@ impl<D: Disk> DurableStore<D> {
         ensures refused { IfErr result (λ e. IsStartRefusal a.now role keys.now (D.seen disk)
             (D.counts disk) (D.counts e.1) e.0) }
         ensures still { OnOk result (D.counts (disk_of result) ≡ D.counts disk) }
-        ensures kept { IsKeptAsItWas D.seen D.may_leave D.clock D.left_since disk
-            (disk_of result) }
+        ensures kept { IsKeptAsItWas D.seen D.may_leave D.clock D.left_since
+            (start_calls (places (length (D.seen disk))) result) disk (disk_of result) }
         ensures answer { IsStartAnswer D.seen D.may_leave D.counts a.now role keys.now
             (D.seen disk) result }
         ensures stands { (entries : List Entry) → IsHistory a.now role keys.now entries →

@@ -4,5 +4,7 @@ mod StartLemmas
 mod KeeperLemmas
 mod RoleLemmas
 mod EntryLemmas
+mod MidwayLemmas
+mod StampLemmas
 mod SizeLemmas
 mod StopLemmas

@@ -8,6 +8,7 @@ use Rattle.std.proofs.lemmas.List.Elements.{filter-append}
 use Rattle.std.proofs.lemmas.Option.{get_or_from_slice_get, slice_get-get_or, slice_get-map, slice_get_within}
 use Rattle.bspl_types.specs.Limits.{role_limit}
 use Rattle.adapter.specs.Desk.{DeskState}
+use Rattle.adapter.specs.Laws.{KeptEventsAreFew}
 use Rattle.agent_scripts.specs.Job.{Job}
 use Rattle.durable_store.specs.State.{DurableState, IsSoundStore}
 use Rattle.local_store.specs.State.{StoreState}
@@ -22,9 +23,14 @@ use Rattle.world_run.specs.World.{AreDesksOfOne, AreKept, WorldState, histories_
 use Rattle.restart_run.specs.declared.roles.KeptRoles.{KeptRoles}
 use Rattle.restart_run.specs.Disks.{AreBlank, IsBlank, IsWrittenDisk, bytes_for, faulty}
 use Rattle.restart_run.specs.Restarted.{IsRestarted}
-use Rattle.restart_run.specs.inner.Keeping.{HasKept, IsKeeper, counts_when}
+use Rattle.restart_run.specs.inner.Keeping.{HasKept, IsKeeper, MayKeep, counts_when}
+use Rattle.restart_run.specs.Steps.{AreFromSteps}
+use Rattle.restart_run.specs.declared.keeper.Keeper.{Keeper}
+use Rattle.restart_run.specs.inner.Midway.{AreNewKeepers, AreWhole, IsNewKeeper}
 use Rattle.restart_run.specs.inner.Roles.{AddsRole, AreKeptTo, IsEmptyDesk}
 use Rattle.restart_run.proofs.KeeperLemmas.{kept_written}
+use Rattle.restart_run.proofs.MidwayLemmas.{at_index}
+use Rattle.restart_run.proofs.PrefixLemmas.{desk_may}
 
 -- an item of a longer list was there, or is the last one
 pub item_push : {X : Type 0} (xs : List X) (x : X) (k : ℕ) (z : X) → slice_get (xs ++ x ∷ []) k ≡ Some z → (slice_get xs k ≡ Some z) ⊎ ((k ≡ length xs) × (x ≡ z))
@@ -137,32 +143,86 @@ module _ {D : Type 0} (may_leave : D → List ℕ → Type 0) (counts : D → Co
       counted = adds.restarts ∙ faulty_more restarted old.disks s.disk old.restarts keeper.counts_are kept.counted ∙ ap (λ (ds : List D). length (faulty counts ds)) (sym adds.disks);
     }
 
--- a role's history is that of its desk
-history_is : (desks : List DeskState) (role : ℕ) (d : DeskState) → slice_get desks role ≡ Some d → history_at (histories_of desks) role ≡ d.store.entries
-history_is desks role d at =
-    get_or_from_slice_get (histories_of desks) role d.store.entries []
-    (slice_get-map (λ (e : DeskState). e.store.entries) desks role ∙ ap (option_map (λ (e : DeskState). e.store.entries)) at)
-
 -- a filtered list is not longer
 filter_short : {X : Type 0} (test : X → Bool) (xs : List X) → length (filter test xs) ≤ length xs
 filter_short test [] = omega arith
 filter_short test (x ∷ xs) = cond_both (test x) (x ∷ filter test xs) (filter test xs) (λ ys. length ys ≤ suc (length xs))
     (λ yes. omega (arith, filter_short test xs)) (λ no. omega (arith, filter_short test xs))
 
-module _ {D : Type 0} (seen : D → List ℕ) (may_leave : D → List ℕ → Type 0) (counts : D → Counts) (job : Job) (desks : List DeskState) (all count role : ℕ) (old : KeptRoles D) (kept : AreKept job desks) (few : all ≤ length job.protocol.roles) (one : all ≡ count + 1) (role_is : role ≡ count) (to : AreKeptTo may_leave counts job (histories_of desks) count old) where
-  -- few roles were restarted
-  pub restarts_few : old.restarts < role_limit
-  restarts_few = omega (arith, to.counted, filter_short (λ (d : D). nat_lt 0 (counts d).faults) old.disks, to.disks_count, few, one, job.protocol.shape.counts.few_roles)
+-- a role's history is that of its desk
+pub history_is : (desks : List DeskState) (role : ℕ) (d : DeskState) → slice_get desks role ≡ Some d → history_at (histories_of desks) role ≡ d.store.entries
+history_is desks role d at =
+    get_or_from_slice_get (histories_of desks) role d.store.entries []
+    (slice_get-map (λ (e : DeskState). e.store.entries) desks role ∙ ap (option_map (λ (e : DeskState). e.store.entries)) at)
 
-  -- the next role is kept
-  pub next_kept : (new : KeptRoles D) (restarted : Bool) (s : DurableState D) (d : DeskState) (size : ℕ) → slice_get desks role ≡ Some d → HasKept seen counts job role d.store.entries size restarted s → IsSoundStore seen may_leave counts s → AddsRole restarted s old new → AreKeptTo may_leave counts job (histories_of desks) all new
-  next_kept new restarted s d size at has sound adds =
-      let keeper : IsKeeper counts job count restarted s = subst (λ (r : ℕ). IsKeeper counts job r restarted s) role_is has.keeper in
-      let here : slice_get desks count ≡ Some d = subst (λ (r : ℕ). slice_get desks r ≡ Some d) role_is at in
-      let within : count < length (histories_of desks) = omega (arith, slice_get_within desks count d here, length-map desks (λ (e : DeskState). e.store.entries)) in
-      subst (λ (n : ℕ). AreKeptTo may_leave counts job (histories_of desks) n new) (sym one)
-      (kept_more may_leave counts job (histories_of desks) count old new restarted s within to adds keeper (has.entries_are ∙ sym (history_is desks count d here))
-      (kept_written seen may_leave (λ (e : D). 0) (λ (e : D) (t : ℕ) (c : List ℕ). Unit {0}) counts job count restarted s keeper sound))
+-- few roles were restarted
+pub restarts_few : {D : Type 0} (may_leave : D → List ℕ → Type 0) (counts : D → Counts) (job : Job) (histories : List (List Entry)) (count : ℕ) (old : KeptRoles D) → count < length job.protocol.roles → AreKeptTo may_leave counts job histories count old → old.restarts < role_limit
+restarts_few {D} may_leave counts job histories count old few to =
+    omega (arith, to.counted, filter_short (λ (d : D). nat_lt 0 (counts d).faults) old.disks, to.disks_count, few, job.protocol.shape.counts.few_roles)
+
+module _ {D : Type 0} (seen : D → List ℕ) (may_leave : D → List ℕ → Type 0) (counts : D → Counts) (job : Job) (histories : List (List Entry)) (keepers first : List (Keeper D)) (k : Keeper D) (is : keepers ≡ first ++ k ∷ []) (whole : AreWhole seen may_leave counts job histories keepers) where
+  -- there is one store more
+  one_more : length keepers ≡ length first + 1
+  one_more = ap length is ∙ length-append first (k ∷ [])
+
+  -- the first stores have their whole histories
+  early_at : (role : ℕ) (l : Keeper D) → slice_get first role ≡ Some l → slice_get keepers role ≡ Some l
+  early_at role l at = subst (λ (ks : List (Keeper D)). slice_get ks role ≡ Some l) (sym is) (item_early first (k ∷ []) role l at)
+
+  pub first_whole : AreWhole seen may_leave counts job histories first
+  first_whole = record {
+    keeper = λ role l at. whole.keeper role l (early_at role l at);
+    sound = λ role l at. whole.sound role l (early_at role l at);
+    entries = λ role l at. whole.entries role l (early_at role l at);
+    from_steps = whole.from_steps;
+  }
+
+  -- the last one is kept after them
+  pub last_kept : (old new : KeptRoles D) → length keepers ≤ length histories → AreKeptTo may_leave counts job histories (length first) old → AddsRole k.restarted k.store old new → AreKeptTo may_leave counts job histories (length keepers) new
+  last_kept old new many to adds =
+      let at : slice_get keepers (length first) ≡ Some k = subst (λ (ks : List (Keeper D)). slice_get ks (length first) ≡ Some k) (sym is) (item_last first k) in
+      let keeper = whole.keeper (length first) k at in
+      subst (λ (n : ℕ). AreKeptTo may_leave counts job histories n new) (sym one_more)
+      (kept_more may_leave counts job histories (length first) old new k.restarted k.store (omega (arith, many, one_more)) to adds keeper (whole.entries (length first) k at)
+      (kept_written seen may_leave (λ (e : D). 0) (λ (e : D) (t : ℕ) (c : List ℕ). Unit {0}) counts job (length first) k.restarted k.store keeper (whole.sound (length first) k at)))
+
+-- a new store
+pub new_keeper : {D : Type 0} (seen : D → List ℕ) (may_leave : D → List ℕ → Type 0) (counts : D → Counts) (job : Job) (role given : ℕ) (k : Keeper D) → HasKept seen counts job role [] given k.restarted k.store → IsSoundStore seen may_leave counts k.store → bytes_for job role ≤ given → IsNewKeeper seen may_leave counts job role k
+new_keeper seen may_leave counts job role given k kept sound large = record {
+  kept = record { keeper = kept.keeper; entries_are = kept.entries_are; size_is = refl };
+  sound = sound;
+  large = omega (arith, large, kept.size_is);
+}
+
+-- what the desks have may be kept by new stores
+pub desks_may : {D : Type 0} (seen : D → List ℕ) (may_leave : D → List ℕ → Type 0) (counts : D → Counts) (job : Job) (desks : List DeskState) (keepers : List (Keeper D)) → AreKept job desks → KeptEventsAreFew → AreNewKeepers seen may_leave counts job (length job.protocol.roles) keepers → (role : ℕ) (k : Keeper D) → slice_get keepers role ≡ Some k → MayKeep job role (history_at (histories_of desks) role) (length (seen k.store.disk))
+desks_may seen may_leave counts job desks keepers kept few new role k at =
+    let found = at_index desks role (omega (arith, slice_get_within keepers role k at, new.count_is, kept.count)) in
+    let size : ℕ = length (seen k.store.disk) in
+    subst (λ (h : List Entry). MayKeep job role h size) (sym (history_is desks role found.0 found.1))
+    (desk_may job role size size found.0 found.0.store refl (kept.each role found.0 found.1) few (new.each role k at).large refl)
+
+-- one store fewer
+pub one_fewer : {X : Type 0} (all first : List X) (x : X) (n : ℕ) → all ≡ first ++ x ∷ [] → length all ≤ n → length first ≤ n
+one_fewer all first x n is few = omega (arith, few, ap length is, length-append first (x ∷ []))
+
+-- and it is within
+pub last_within : {X : Type 0} (all first : List X) (x : X) (n : ℕ) → all ≡ first ++ x ∷ [] → length all ≤ n → length first < n
+last_within all first x n is few = omega (arith, few, ap length is, length-append first (x ∷ []))
+
+-- there are as many histories as desks
+pub few_histories : (desks : List DeskState) (n : ℕ) → n ≤ length desks → n ≤ length (histories_of desks)
+few_histories desks n few = omega (arith, few, length-map desks (λ (e : DeskState). e.store.entries))
+
+-- one new store more
+pub new_more : {D : Type 0} (seen : D → List ℕ) (may_leave : D → List ℕ → Type 0) (counts : D → Counts) (job : Job) (count : ℕ) (old new : List (Keeper D)) (k : Keeper D) → AreNewKeepers seen may_leave counts job count old → new ≡ old ++ k ∷ [] → IsNewKeeper seen may_leave counts job count k → AreNewKeepers seen may_leave counts job (count + 1) new
+new_more {D} seen may_leave counts job count old new k before is last = record {
+  count_is = ap length is ∙ length-append old (k ∷ []) ∙ ap (λ n. n + 1) before.count_is;
+  each = λ role l at. elim (item_push old k role l (subst (λ (ks : List (Keeper D)). slice_get ks role ≡ Some l) is at)) [
+    | inl early ↦ before.each role l early
+    | inr here ↦ subst (λ (m : Keeper D). IsNewKeeper seen may_leave counts job role m) here.1 (subst (λ (n : ℕ). IsNewKeeper seen may_leave counts job n k) (sym (here.0 ∙ before.count_is)) last)
+  ];
+}
 
 -- all desks are of one protocol
 pub of_one : {D : Type 0} (may_leave : D → List ℕ → Type 0) (counts : D → Counts) (job : Job) (histories : List (List Entry)) (count : ℕ) (kept : KeptRoles D) → count ≡ length job.protocol.roles → AreKeptTo may_leave counts job histories count kept → AreDesksOfOne kept.desks
@@ -186,8 +246,8 @@ finished_same job old new same finished = record {
 }
 
 -- all roles are kept
-pub all_kept : {D : Type 0} (may_leave : D → List ℕ → Type 0) (counts : D → Counts) (job : Job) (played : List DeskState) (kept : KeptRoles D) (world : WorldState) (count : ℕ) → count ≡ length job.protocol.roles → HaveRunWhole job played → IsFinished job played → AreKeptTo may_leave counts job (histories_of played) count kept → world.desks ≡ kept.desks → IsRestarted may_leave counts job world kept.restarts kept.disks
-all_kept may_leave counts job played kept world count whole course finished to desks_is =
+pub all_kept : {D : Type 0} (may_leave : D → List ℕ → Type 0) (counts : D → Counts) (job : Job) (played : List DeskState) (kept : KeptRoles D) (world : WorldState) (count : ℕ) → count ≡ length job.protocol.roles → AreFromSteps job.protocol (histories_of played) → HaveRunWhole job played → IsFinished job played → AreKeptTo may_leave counts job (histories_of played) count kept → world.desks ≡ kept.desks → IsRestarted may_leave counts job world kept.restarts kept.disks
+all_kept may_leave counts job played kept world count whole from course finished to desks_is =
     let as_many : length (histories_of played) ≡ count = length-map played (λ (d : DeskState). d.store.entries) ∙ course.kept.count ∙ sym whole in
     let kept_same : histories_of kept.desks ≡ histories_of played = to.histories_are ∙ take_all count (histories_of played) (omega (arith, as_many)) in
     let same : histories_of world.desks ≡ histories_of played = ap histories_of desks_is ∙ kept_same in
@@ -200,6 +260,7 @@ all_kept may_leave counts job played kept world count whole course finished to d
       finished = finished_same job played world.desks (sym same) finished;
       empty = λ k d within. (at_world k (slice_index_or world.desks k d) (slice_get-get_or world.desks k d within)).empty;
       course = record { played = played; course = course; same = same };
+      from_steps = subst (AreFromSteps job.protocol) (sym same) from;
       written = record {
         count = to.disks_count ∙ sym as_many ∙ ap length (sym same);
         each = λ role disk at. subst (λ (hs : List (List Entry)). IsWrittenDisk may_leave counts (history_at hs role) disk) (sym same) (to.written role disk at);

@@ -15,11 +15,13 @@ use Rattle.bspl_types.specs.declared.value.Value.{Value}
 use Rattle.durable_store.specs.History.{IsHistory}
 use Rattle.durable_store.specs.Start.{IsStarted}
 use Rattle.durable_store.specs.State.{DurableState}
-use Rattle.role_journal.specs.Counts.{Counts, no_faults}
+use Rattle.role_journal.specs.Counts.{Counts, after_fault, after_restart, no_faults}
+use Rattle.role_journal.specs.Crash.{Leaves, LeavesNoMore}
 use Rattle.role_journal.specs.Journal.{IsJournal, gate_of}
+use Rattle.stamped_history.specs.declared.entry.Entry.{Entry}
 use Rattle.stamped_history.specs.Local.{IsLocal}
-use Rattle.restart_run.specs.Disks.{IsBlank}
-use Rattle.restart_run.specs.inner.Keeping.{HasKept, HoldsHistories, IsKeeper, IsStartedAgain, counts_when}
+use Rattle.restart_run.specs.Disks.{HoldsHistories, IsBlank, IsHistoryOf, IsLateDisk}
+use Rattle.restart_run.specs.inner.Keeping.{HasKept, IsKeeper, IsSecondStart, counts_when}
 
 -- a byte of zeros, and one behind the end
 zero_byte : (image : List ℕ) (i : ℕ) → All (λ byte. byte ≡ 0) image → slice_index image i ≡ 0
@@ -86,7 +88,7 @@ first_kept seen may_leave counts job role size disk s distinct calm blank starte
 }
 
 -- one that was started again, since a blank disk failed in the first start
-pub again_kept : {D : Type 0} (seen : D → List ℕ) (may_leave : D → List ℕ → Type 0) (counts : D → Counts) (job : Job) (role size : ℕ) (disk left : D) (s : DurableState D) → IsBlank seen may_leave counts size disk → ((image : List ℕ) → may_leave left image → may_leave disk image) → seen left ≡ seen disk → IsStartedAgain seen may_leave counts job role left s → HasKept seen counts job role [] (length (seen disk)) true s
+pub again_kept : {D : Type 0} (seen : D → List ℕ) (may_leave : D → List ℕ → Type 0) (counts : D → Counts) (job : Job) (role size : ℕ) (disk left : D) (s : DurableState D) → IsBlank seen may_leave counts size disk → ((image : List ℕ) → may_leave left image → may_leave disk image) → seen left ≡ seen disk → IsSecondStart seen may_leave counts job role left s → HasKept seen counts job role [] (length (seen disk)) true s
 again_kept seen may_leave counts job role size disk left s blank less same again =
     let image : seen s.disk ≡ seen disk = blank.settled (seen s.disk) (less (seen s.disk) again.left) in
     record {
@@ -103,3 +105,12 @@ started_for seen may_leave counts job role a keys s a_is keys_are started =
 -- the workload keys are distinct
 pub keys_distinct : (job : Job) (script : Script) → script ≡ job.script → IsFittingScript script.keys script.rules → AllPairs ◌≢◌ job.script.keys
 keys_distinct job script same fits = subst (λ (s : Script). AllPairs ◌≢◌ s.keys) same fits.distinct
+
+-- a disk that failed after its restart
+pub late_disk : {D : Type 0} (seen : D → List ℕ) (may_leave : D → List ℕ → Type 0) (counts : D → Counts) (job : Job) (role : ℕ) (disk mid late : D) → HoldsHistories may_leave job role disk → may_leave disk (seen mid) → Leaves (seen mid) (may_leave mid) → LeavesNoMore (may_leave mid) (may_leave late) → counts disk ≡ after_fault no_faults → counts mid ≡ after_restart (counts disk) → counts late ≡ after_fault (counts mid) → IsLateDisk may_leave counts job role late
+late_disk seen may_leave counts job role disk mid late holds image settled less fault restart again =
+    let is : counts late ≡ record { faults = 2; late = 1; restarted = true } = again ∙ ap after_fault (restart ∙ ap after_restart fault) in
+    record {
+      histories = λ i left. subst (λ (j : List ℕ). (entries : List Entry) × (IsHistoryOf job role entries × IsJournal entries j)) (sym (settled i (less i left))) (holds (seen mid) image);
+      late = omega (arith, ap (λ (c : Counts). c.late) is);
+    }

@@ -4,6 +4,7 @@ use Rattle.std.specs.Prelude.{List, length, slice_get, Some}
 use Rattle.std.specs.List.{All, filter}
 use Rattle.adapter.specs.Pending.{messages_of}
 use Rattle.agent_scripts.specs.Job.{Job}
+use Rattle.durable_store.specs.History.{IsHistory}
 use Rattle.role_journal.specs.Counts.{Counts, no_faults}
 use Rattle.role_journal.specs.Crash.{Leaves}
 use Rattle.role_journal.specs.Journal.{IsJournal}
@@ -54,8 +55,24 @@ pub record AreWritten {D : Type 0} (may_leave : D → List ℕ → Type 0) (coun
 abbrev pub faulty : {D : Type 0} → (D → Counts) → List D → List D
 faulty counts disks = filter (λ disk. nat_lt 0 (counts disk).faults) disks
 
--- a fault is that of a role's disk, and some disk failed after it was restarted
-abbrev pub IsRefused : {D : Type 0} → (D → Counts) → (ℕ → Type 0) → RestartRefusal → Type 0
-IsRefused {D} counts IsRole (DiskFault role) =
-    IsRole role × ((disk : D) × (0 < (counts disk).late))
-IsRefused counts IsRole NoMemory = Unit {0}
+-- a history of the role under the workload keys
+abbrev pub IsHistoryOf : Job → ℕ → List Entry → Type 0
+IsHistoryOf job role entries = IsHistory job.protocol role job.script.keys entries
+
+-- whatever a crash leaves of the disk is a journal of some history of the role
+abbrev pub HoldsHistories : {D : Type 0} → (D → List ℕ → Type 0) → Job → ℕ → D → Type 0
+HoldsHistories may_leave job role disk = (image : List ℕ) → may_leave disk image →
+    (entries : List Entry) × (IsHistoryOf job role entries × IsJournal entries image)
+
+-- the disk holds a history of the role, and failed after it was restarted
+pub record IsLateDisk {D : Type 0} (may_leave : D → List ℕ → Type 0) (counts : D → Counts)
+    (job : Job) (role : ℕ) (disk : D) : Type 0 where
+  pub histories : HoldsHistories may_leave job role disk
+  pub late : 0 < (counts disk).late
+
+-- a fault is that of the named role's disk
+abbrev pub IsRefused : {D : Type 0} → (D → List ℕ → Type 0) → (D → Counts) → Job →
+    RestartRefusal → Type 0
+IsRefused {D} may_leave counts job (DiskFault role) =
+    (role < length job.protocol.roles) × ((disk : D) × IsLateDisk may_leave counts job role disk)
+IsRefused may_leave counts job NoMemory = Unit {0}

@@ -3,6 +3,7 @@
 pub mod Steps
 pub mod Laws
 pub mod Disks
+pub mod OneWorld
 pub mod Restarted
 pub mod StopDisks
 pub mod inner

@@ -68,3 +68,9 @@ AllHappen x h (step ∷ steps) = MayTakeStep x h step × AllHappen x (after_step
 -- the acknowledged events of each role after all steps
 abbrev pub histories_after : Held → List Step → List (List Entry)
 histories_after h steps = (fold after_step h steps).histories
+
+-- the histories are those of the acknowledged events after steps that may happen
+pub record AreFromSteps (x : Expanded) (histories : List (List Entry)) : Type 0 where
+  pub steps : List Step
+  pub happen : AllHappen x (no_events x) steps
+  pub held : histories_after (no_events x) steps ≡ histories

@@ -4,8 +4,8 @@
 
 mod disks;
 mod entries;
-mod history;
 mod keeper;
+mod kept_world;
 mod keys;
 mod laws;
 mod refusal;

@@ -1,12 +1,13 @@
 ghost use Rattle.std.specs.Prelude.{◌≡◌, ◌+◌, ◌<◌, ◌≤◌, [], length, IfErr, IfNone, IfSome, OnOk};
 ghost use Rattle.bspl_types.specs.Limits.{role_limit};
-ghost use Rattle.world_run.specs.World.{AreKept, histories_of};
+ghost use Rattle.world_run.specs.World.{histories_of};
 ghost use Rattle.restart_run.specs.Disks.{AreBlank, IsBlank, IsRefused, bytes_for};
+ghost use Rattle.restart_run.specs.inner.Midway.{AreNewKeepers, AreWhole};
 ghost use Rattle.restart_run.specs.inner.Roles.{AddsRole, AreKeptTo};
 
-use super::history::keep_history;
-use super::keeper::Keeper;
+use super::keeper::{Keeper, KeeperList};
 use super::refusal::RestartRefusal;
+use super::start::start_first;
 use adapter::Desk;
 use agent_scripts::Job;
 use bspl_types::Key;
@@ -55,33 +56,54 @@ impl<D: Disk + Drop> KeptRoles<D> {
     }
 }
 
-/// Keeps the histories of the first roles of the world, one on each of the disks.
-pub fn keep_histories<D: Disk + Drop>(
+/// Starts a store of each of the first roles, one on each of the disks.
+pub fn start_all<D: Disk + Drop>(
     alloc: Global,
     job: &Job,
     keys: &[Key],
-    world: &World,
     disks: &mut DiskList<D>,
-    kept: &mut KeptRoles<D>,
+    keepers: &mut KeeperList<D>,
 ) -> Result<(), RestartRefusal>
     requires keys { keys.now ≡ job.now.script.keys }
-    requires kept { AreKept job.now world.now.desks }
-    requires none { kept.old ≡ record { desks = []; disks = []; restarts = 0 } }
+    requires none { keepers.old ≡ [] }
     requires few { length disks.old ≤ length job.now.protocol.roles }
     requires blank { AreBlank D.seen D.may_leave D.counts job.now disks.old }
-    ensures ok { OnOk result (AreKeptTo D.may_leave D.counts job.now
-        (histories_of world.now.desks) (length disks.old) kept.new) }
-    ensures refused { IfErr result
-        (IsRefused D.counts (λ role. role < length job.now.protocol.roles)) }
+    ensures ok { OnOk result (AreNewKeepers D.seen D.may_leave D.counts job.now (length disks.old)
+        keepers.new) }
+    ensures refused { IfErr result (IsRefused D.may_leave D.counts job.now) }
 {
     let Some(disk) = last_disk(job, disks) else {
         return Ok(());
     };
     let role = disks.len() as u32;
-    keep_histories(alloc, job, keys, world, disks, kept)?;
-    let keeper = keep_history(alloc, job, keys, role, world.state(role), disk)?;
+    start_all(alloc, job, keys, disks, keepers)?;
+    let keeper = start_first(alloc, job, keys, role, disk)?;
     // law: each durable store is sound
     keeper.store.is_sound();
+    keepers.push(keeper)?;
+    Ok(())
+}
+
+/// Takes the first roles' stores apart, each of which has its history of the world.
+pub fn take_apart<D: Disk + Drop>(
+    alloc: Global,
+    job: &Job,
+    world: &World,
+    keepers: &mut KeeperList<D>,
+    kept: &mut KeptRoles<D>,
+) -> Result<(), NoMemory>
+    requires few { length keepers.old ≤ length job.now.protocol.roles }
+    requires many { length keepers.old ≤ length world.now.desks }
+    requires whole { AreWhole D.seen D.may_leave D.counts job.now (histories_of world.now.desks)
+        keepers.old }
+    requires none { kept.old ≡ record { desks = []; disks = []; restarts = 0 } }
+    ensures { OnOk result (AreKeptTo D.may_leave D.counts job.now (histories_of world.now.desks)
+        (length keepers.old) kept.new) }
+{
+    let Some(keeper) = keepers.pop() else {
+        return Ok(());
+    };
+    take_apart(alloc, job, world, keepers, kept)?;
     kept.add(alloc, keeper)?;
     Ok(())
 }

@@ -1,12 +1,15 @@
-ghost use Rattle.std.specs.Prelude.{◌≡◌, ◌<◌, length, IfErr, IfOk};
+ghost use Rattle.std.specs.Prelude.{◌≡◌, length, IfErr, IfOk};
 ghost use Rattle.enactment_model.specs.Safety.{SafeProtocol};
 ghost use Rattle.restart_run.specs.Disks.{AreBlank, IsRefused};
 ghost use Rattle.restart_run.specs.Restarted.{IsRestarted};
 
+use super::kept_world::keep_world;
 use super::keys::workload_keys;
 use super::refusal::RestartRefusal;
-use super::roles::{DiskList, KeptRoles, keep_histories};
+use super::roles::{DiskList, KeptRoles, start_all, take_apart};
+use adapter::kept_events_are_few;
 use agent_scripts::Job;
+use list_base::Seq;
 use role_journal::Disk;
 use std::alloc::Global;
 use world_run::{World, run_one};
@@ -20,9 +23,9 @@ pub struct Restarted<D> {
     pub disks: DiskList<D>,
 }
 
-/// Runs all roles on one thread, as `run_one` does, and keeps each role's history on its disk.
-/// After the first fault of its disk a role is restarted, and its store started again on what the
-/// disk kept.
+/// Runs all roles on one thread, as `run_one` does, and keeps each role's history on its disk, as
+/// `keep_world` does. After the first fault of its disk a role is restarted, and its store started
+/// again on what the disk kept.
 pub fn run_restarts<D: Disk + Drop>(
     alloc: Global,
     job: &Job,
@@ -33,13 +36,17 @@ pub fn run_restarts<D: Disk + Drop>(
     requires blank { AreBlank D.seen D.may_leave D.counts job.now disks }
     ensures ok { IfOk result
         (λ r. IsRestarted D.may_leave D.counts job.now r.world r.restarts r.disks) }
-    ensures refused { IfErr result
-        (IsRefused D.counts (λ role. role < length job.now.protocol.roles)) }
+    ensures refused { IfErr result (IsRefused D.may_leave D.counts job.now) }
 {
+    // law: a kept desk has at most one event for each workload key and message of its role
+    kept_events_are_few();
     let world = run_one(alloc, job)?;
     let keys = workload_keys(alloc, job)?;
+    let mut keepers = Seq::new(alloc);
+    start_all(alloc, job, keys.as_slice(), &mut disks, &mut keepers)?;
+    keep_world(alloc, job, keys.as_slice(), &world, &mut keepers)?;
     let mut kept = KeptRoles::new(alloc);
-    keep_histories(alloc, job, keys.as_slice(), &world, &mut disks, &mut kept)?;
+    take_apart(alloc, job, &world, &mut keepers, &mut kept)?;
     let KeptRoles {
         desks,
         disks: kept_disks,

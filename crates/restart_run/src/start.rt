@@ -1,7 +1,7 @@
 ghost use Rattle.std.specs.Prelude.{◌≡◌, ◌<◌, [], length, IfErr, IfOk};
 ghost use Rattle.role_journal.specs.Counts.{after_fault, no_faults};
-ghost use Rattle.restart_run.specs.Disks.{IsBlank, IsRefused, bytes_for};
-ghost use Rattle.restart_run.specs.inner.Keeping.{HasKept, HoldsHistories, IsStartedAgain};
+ghost use Rattle.restart_run.specs.Disks.{HoldsHistories, IsBlank, IsRefused, bytes_for};
+ghost use Rattle.restart_run.specs.inner.Keeping.{HasKept, IsSecondStart};
 
 use super::keeper::Keeper;
 use super::refusal::RestartRefusal;
@@ -24,7 +24,7 @@ pub fn start_first<D: Disk + Drop>(
     requires blank { IsBlank D.seen D.may_leave D.counts (bytes_for job.now role) disk }
     ensures ok { IfOk result (λ k. HasKept D.seen D.counts job.now role [] (length (D.seen disk))
         k.restarted k.store) }
-    ensures refused { IfErr result (IsRefused D.counts (λ r. r ≡ role)) }
+    ensures refused { IfErr result (IsRefused D.may_leave D.counts job.now) }
 {
     // laws: the workload keys are few, and have a value for each key parameter
     scripts_fit();
@@ -48,7 +48,7 @@ pub fn start_first<D: Disk + Drop>(
 
 /// Restarts the disk after its first fault, and starts the role's store again on what it kept. The
 /// disk counts a fault after that as a late one.
-pub fn start_again<D: Disk + Drop>(
+fn start_again<D: Disk + Drop>(
     alloc: Global,
     job: &Job,
     keys: &[Key],
@@ -59,8 +59,8 @@ pub fn start_again<D: Disk + Drop>(
     requires keys { keys.now ≡ job.now.script.keys }
     requires fault { D.counts disk ≡ after_fault no_faults }
     requires histories { HoldsHistories D.may_leave job.now role disk }
-    ensures ok { IfOk result (IsStartedAgain D.seen D.may_leave D.counts job.now role disk) }
-    ensures refused { IfErr result (IsRefused D.counts (λ r. r ≡ role)) }
+    ensures ok { IfOk result (IsSecondStart D.seen D.may_leave D.counts job.now role disk) }
+    ensures refused { IfErr result (IsRefused D.may_leave D.counts job.now) }
 {
     // laws: the workload keys are few, and have a value for each key parameter
     scripts_fit();

@@ -3,6 +3,7 @@ mod RecordLemmas
 mod MomentLemmas
 mod PlaceLemmas
 mod AppendLemmas
+mod TailLemmas
 mod KeyLemmas
 mod InstanceLemmas
 mod BodyLemmas

@@ -4,6 +4,7 @@ use Rattle.std.specs.Int.{to_le_bytes, w32, w64}
 use Rattle.std.specs.List.{All, flat_map}
 use Rattle.bspl_types.specs.declared.event.Event.{Event}
 use Rattle.bspl_types.specs.declared.event.Event.TheVariants.{Emit, Receive}
+use Rattle.bspl_types.specs.declared.event.Instance.{Instance}
 use Rattle.bspl_types.specs.declared.expanded.Expanded.{Expanded}
 use Rattle.bspl_types.specs.declared.value.Value.{Value}
 use Rattle.bspl_types.specs.declared.value.Value.TheVariants.{Number, Text}
@@ -49,3 +50,9 @@ BodiesAreDistinct =
 -- each entry's body is as long as a place behind its gate
 abbrev pub BodiesAreWhole : Type 0
 BodiesAreWhole = (x : Expanded) (e : Entry) → IsEntry x e → length (entry_body e) ≡ 561
+
+-- instances that fit, with one message and the same values, are one
+abbrev pub FittingInstancesAreOne : Type 0
+FittingInstancesAreOne =
+    (x : Expanded) (i j : Instance) → IsAdmitted x → Fits x i → Fits x j →
+    i.message ≡ j.message → i.values ≡ j.values → i ≡ j

@@ -29,6 +29,11 @@ pub record HoldsBodies (bodies : List (List ℕ)) (image : List ℕ) : Type 0 wh
   pub closed : (place : ℕ) → length bodies ≤ place → place < places (length image) →
       ¬ IsOpen image place
 
+-- the image has the same size, and the same bytes behind its last place
+pub record HasSameTail (old new : List ℕ) : Type 0 where
+  pub size : length new ≡ length old
+  pub tail : (i : ℕ) → gate_of (places (length old)) ≤ i → slice_index new i ≡ slice_index old i
+
 -- the image is a journal of these entries
 abbrev pub IsJournal : List Entry → List ℕ → Type 0
 IsJournal entries image = HoldsBodies (map entry_body entries) image

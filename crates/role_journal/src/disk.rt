@@ -1,4 +1,4 @@
-ghost use Rattle.std.specs.Prelude.{◌≡◌, ◌+◌, ◌<◌, ◌≤◌, length, OnErr, OnOk};
+ghost use Rattle.std.specs.Prelude.{◌≡◌, ◌+◌, ◌<◌, ◌≤◌, length, IsErrOf, OnErr, OnOk};
 ghost use Rattle.bspl_io.specs.Faults.{last_count};
 ghost use Rattle.role_journal.specs.Counts.{HasOutcome, after_fault, after_restart};
 ghost use Rattle.role_journal.specs.Crash.{Leaves, LeavesTorn, Stays, TimePasses};
@@ -26,6 +26,9 @@ pub trait Disk {
     // How often the disk failed.
     ghost counts: { Self → Counts };
 
+    // Whether memory may run out at the next call.
+    ghost may_lack: { Self → Type 0 };
+
     /// How many bytes the disk has.
     fn size(&self) -> u64
         ensures { result ≡ length (seen self.now) };
@@ -49,14 +52,16 @@ pub trait Disk {
             (may_leave self.new) }
         ensures time { TimePasses (clock self.old) (clock self.new) (left_since self.old)
             (left_since self.new) (may_leave self.new) }
-        ensures outcome { HasOutcome counts result self.old self.new };
+        ensures outcome { HasOutcome counts result self.old self.new }
+        ensures memory { IsErrOf result Trouble.NoMemory → may_lack self.new };
 
     /// After it, a crash leaves what a read gives.
     fn sync(&mut self) -> Result<(), Trouble>
         requires countable { (counts self.old).faults < last_count }
         ensures durable { OnOk result (Leaves (seen self.new) (may_leave self.new)) }
         ensures stays { Stays seen may_leave clock left_since self.old self.new }
-        ensures outcome { HasOutcome counts result self.old self.new };
+        ensures outcome { HasOutcome counts result self.old self.new }
+        ensures memory { IsErrOf result Trouble.NoMemory → may_lack self.new };
 
     /// Starts the disk again after a crash: it has an image that the crash may leave, all of it
     /// synced.

@@ -9,7 +9,8 @@ ghost use Rattle.role_journal.specs.Counts.{Costs, after_fault};
 ghost use Rattle.role_journal.specs.Crash.{CrashLeavesOnly, Stays};
 ghost use Rattle.role_journal.specs.EntryBody.{IsEntry};
 ghost use Rattle.role_journal.specs.Image.{HasBytes};
-ghost use Rattle.role_journal.specs.Journal.{IsBeforeOrAfter, IsOpen, KeepsJournal, gate_of, places};
+ghost use Rattle.role_journal.specs.Journal.{HasSameTail, IsBeforeOrAfter, IsOpen, KeepsJournal};
+ghost use Rattle.role_journal.specs.Journal.{gate_of, places};
 
 use super::body::Body;
 use super::disk::Disk;
@@ -40,9 +41,10 @@ pub fn append<D: Disk>(disk: &mut D, place: u32, entry: &Entry) -> Result<(), Tr
     ensures any_moment { (entries : List Entry) → place ≡ length entries →
         KeepsJournal D.seen D.may_leave disk.old entries →
         CrashLeavesOnly D.clock D.left_since disk.old disk.new (IsBeforeOrAfter entries entry.now) }
-    ensures size { length (D.seen disk.new) ≡ length (D.seen disk.old) }
+    ensures tail { HasSameTail (D.seen disk.old) (D.seen disk.new) }
     ensures sized { (x : Expanded) → Fits x (instance_of entry.now.event) → IsEntry x entry.now }
     ensures costs { Costs D.clock D.counts 4 (IsErrOf result Trouble.Failed) disk.old disk.new }
+    ensures memory { IsErrOf result Trouble.NoMemory → D.may_lack disk.new }
 {
     let gate = PLACE * u64::from(place);
     let body = Body::of(entry);

@@ -15,7 +15,7 @@ pub use disk::Disk;
 pub use entry::entry_of;
 pub use instance::instance_with;
 pub use journal::{append, count_places, is_open, read_body};
-pub use laws::{bodies_are_distinct, bodies_are_whole};
+pub use laws::{bodies_are_distinct, bodies_are_whole, fitting_instances_are_one};
 pub use memory::MemDisk;
 pub use recording::Call;
 pub use stop::StopDisk;

@@ -49,6 +49,8 @@ impl Disk for MemDisk {
 
     ghost counts = { λ _. no_faults };
 
+    ghost may_lack = { λ _. Unit {0} };
+
     ghost leaves_seen = { seen_suits };
 
     ghost counts_now = { suits_now };

@@ -1,5 +1,5 @@
 ghost use Rattle.std.specs.Prelude.{◌≡◌, ◌+◌, ◌<◌, ◌≤◌, length, true, nat_lt, IfOk, IsErr};
-ghost use Rattle.std.specs.Prelude.{IsTrue, OnErr, OnOk, ◌↔◌};
+ghost use Rattle.std.specs.Prelude.{IsErrOf, IsTrue, OnErr, OnOk, ◌↔◌};
 ghost use Rattle.bspl_io.specs.Faults.{last_count};
 ghost use Rattle.role_journal.specs.declared.recording.Call.TheVariants.{Sync, Write};
 ghost use Rattle.role_journal.specs.Counts.{HasOutcome, after_fault, after_restart};
@@ -98,6 +98,8 @@ impl Disk for StopDisk {
 
     ghost counts = { counts_of };
 
+    ghost may_lack = { λ _. Unit {0} };
+
     ghost leaves_seen = { λ d. seen_suits d.recording };
 
     ghost counts_now = { λ d from image late suits. suits_now d.recording from image late suits };
@@ -141,6 +143,7 @@ impl Disk for StopDisk {
             (length self.new.recording.calls) (SuitsSince self.old.recording)
             (SuitsSince self.new.recording) (Suits self.new.recording) }
         ensures outcome { HasOutcome counts_of result self.old self.new }
+        ensures memory { IsErrOf result Trouble.NoMemory → Unit {0} }
         ensures call { IsStopCall (λ done. with_call self.old.recording (Write at bytes.now done))
             result self.old self.new }
     {
@@ -155,6 +158,7 @@ impl Disk for StopDisk {
             (Suits self.new.recording)) }
         ensures stays { StopStays self.old self.new }
         ensures outcome { HasOutcome counts_of result self.old self.new }
+        ensures memory { IsErrOf result Trouble.NoMemory → Unit {0} }
         ensures call { IsStopCall (λ done. with_call self.old.recording (Sync done))
             result self.old self.new }
     {

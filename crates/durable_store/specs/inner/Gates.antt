@@ -1,7 +1,9 @@
 -- The gates from a place on, and a row of calls that leave a disk as it was.
-use Rattle.std.specs.Prelude.{◌≡◌, ℕ, ◌<◌, ◌≤◌, ◌⊎◌, List}
+use Rattle.std.specs.Prelude.{◌≡◌, ℕ, ◌+◌, ◌<◌, ◌≤◌, ◌⊎◌, min, List, length, Result, Ok, Err}
+use Rattle.local_store.specs.State.{StoreState}
 use Rattle.role_journal.specs.Crash.{LeavesNoMore}
 use Rattle.role_journal.specs.Journal.{IsOpen}
+use Rattle.durable_store.specs.declared.refusals.StartRefusal.{StartRefusal}
 
 -- the places from one on are closed, up to the other
 abbrev pub AreClosed : List ℕ → ℕ → ℕ → Type 0
@@ -13,6 +15,17 @@ pub record IsFirstOpen (image : List ℕ) (from end place : ℕ) : Type 0 where
   pub within : place < end
   pub opened : IsOpen image place
   pub before : AreClosed image from place
+
+-- how many calls it takes at most to restore so many entries from the first of the places: each
+-- body and each gate up to the first closed one; or else of all places
+abbrev pub entry_calls : {T : Type 0} → ℕ → ℕ → Result T StartRefusal → ℕ
+entry_calls count entries (Ok _) = entries + min (entries + 1) count
+entry_calls count entries (Err _) = count + count
+
+-- how many calls it takes at most to restore a store
+abbrev pub restore_calls : ℕ → Result StoreState StartRefusal → ℕ
+restore_calls count (Ok s) = 1 + count + length s.entries
+restore_calls count (Err _) = 1 + count + count
 
 -- the disk holds what it held; what a crash may leave now, or may have left at any moment
 -- meanwhile, it might have left before

@@ -3,22 +3,18 @@ use Rattle.std.specs.Prelude.{◌≡◌, ℕ, ◌<◌, ◌≤◌, Bool, true, fa
 use Rattle.std.specs.List.{Contains}
 use Rattle.agent_scripts.specs.Job.{Job}
 use Rattle.bspl_types.specs.History.{instance_of}
-use Rattle.durable_store.specs.History.{AreUnder, IsHistory}
+use Rattle.durable_store.specs.History.{AreUnder}
 use Rattle.durable_store.specs.State.{DurableState}
 use Rattle.role_journal.specs.Counts.{Counts, after_fault, no_faults}
 use Rattle.role_journal.specs.Journal.{IsBeforeOrAfter, IsJournal, places}
 use Rattle.stamped_history.specs.declared.entry.Entry.{Entry}
 use Rattle.stamped_history.specs.Local.{IsLocal}
-use Rattle.restart_run.specs.Disks.{one_fault}
-
--- a history of the role under the workload keys
-abbrev pub IsHistoryOf : Job → ℕ → List Entry → Type 0
-IsHistoryOf job role entries = IsHistory job.protocol role job.script.keys entries
-
--- whatever a crash leaves of the disk is a journal of some history of the role
-abbrev pub HoldsHistories : {D : Type 0} → (D → List ℕ → Type 0) → Job → ℕ → D → Type 0
-HoldsHistories may_leave job role disk = (image : List ℕ) → may_leave disk image →
-    (entries : List Entry) × (IsHistoryOf job role entries × IsJournal entries image)
+use Rattle.restart_run.specs.Disks.{IsHistoryOf, IsLateDisk, one_fault}
+use Rattle.bspl_io.specs.declared.sink.Trouble.{Trouble}
+use Rattle.bspl_io.specs.declared.sink.Trouble.TheVariants.{Failed}
+use Rattle.bspl_io.specs.declared.sink.Trouble.TheVariants as troubles
+use Rattle.restart_run.specs.declared.refusal.RestartRefusal.{RestartRefusal}
+use Rattle.restart_run.specs.declared.refusal.RestartRefusal.TheVariants.{DiskFault, NoMemory}
 
 -- what a disk counts on which a role was restarted once, or never
 abbrev pub counts_when : Bool → Counts
@@ -43,7 +39,7 @@ pub record HasKept {D : Type 0} (seen : D → List ℕ) (counts : D → Counts) 
 
 -- the store was started on an image that a crash may leave of the disk, and has the entries of
 -- whatever history that image is a journal of
-pub record IsStartedAgain {D : Type 0} (seen : D → List ℕ) (may_leave : D → List ℕ → Type 0)
+pub record IsSecondStart {D : Type 0} (seen : D → List ℕ) (may_leave : D → List ℕ → Type 0)
     (counts : D → Counts) (job : Job) (role : ℕ) (disk : D) (s : DurableState D) : Type 0 where
   pub keeper : IsKeeper counts job role true s
   pub left : may_leave disk (seen s.disk)
@@ -58,16 +54,41 @@ pub record MayAppend {D : Type 0} (seen : D → List ℕ) (job : Job) (role : �
   pub under : Contains job.script.keys (instance_of e.event).key
   pub room : length s.store.entries < places (length (seen s.disk))
 
+-- a failure after a restart is a late fault of the role's disk
+abbrev pub refusal_of : Trouble → ℕ → RestartRefusal
+refusal_of Failed role = DiskFault role
+refusal_of troubles.NoMemory role = NoMemory
+
 -- the disk failed while the entry was appended, and may have kept it
 pub record IsCutOff {D : Type 0} (seen : D → List ℕ) (may_leave : D → List ℕ → Type 0)
     (counts : D → Counts) (job : Job) (role : ℕ) (restarted : Bool) (s : DurableState D)
     (e : Entry) : Type 0 where
+  pub protocol_is : s.store.protocol ≡ job.protocol
+  pub role_is : s.store.role ≡ role
+  pub keys_are : s.store.keys ≡ job.script.keys
+  pub spent : s.spent ≡ true
   pub counts_are : counts s.disk ≡ after_fault (counts_when restarted)
   pub leaves : (image : List ℕ) → may_leave s.disk image →
       IsBeforeOrAfter s.store.entries e image
   pub before : IsHistoryOf job role s.store.entries
   pub after : IsHistoryOf job role (s.store.entries ++ e ∷ [])
   pub next : MayAppend seen job role s e
+
+-- the same disk keeps its size, and each image that a crash may leave is a journal of the entries,
+-- or of one more; these are histories of the role
+pub record HoldsNext {D : Type 0} (seen : D → List ℕ) (may_leave : D → List ℕ → Type 0) (job : Job)
+    (role : ℕ) (entries : List Entry) (e : Entry) (size : ℕ) (disk : D) : Type 0 where
+  pub leaves : (image : List ℕ) → may_leave disk image → IsBeforeOrAfter entries e image
+  pub before : IsHistoryOf job role entries
+  pub after : IsHistoryOf job role (entries ++ e ∷ [])
+  pub size_is : length (seen disk) ≡ size
+
+-- the role's disk failed late, or memory ran out
+abbrev pub IsRefusedAt : {D : Type 0} → (D → List ℕ → Type 0) → (D → Counts) → Job → ℕ → D →
+    RestartRefusal → Type 0
+IsRefusedAt may_leave counts job role disk (DiskFault named) =
+    (named ≡ role) × IsLateDisk may_leave counts job role disk
+IsRefusedAt may_leave counts job role disk NoMemory = Unit {0}
 
 -- a local history of the role under the workload keys, with a place for each entry on a disk of
 -- that size

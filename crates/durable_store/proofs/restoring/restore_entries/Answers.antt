@@ -56,5 +56,6 @@ loop-place-preserved g c =
       alone = alone_join seen may clock left c.args.disk.now c.is_open.new.disk c.next_entry.new.disk
           (alone_join seen may clock left c.args.disk.now c.loop-place.disk c.is_open.new.disk before.alone (alone_once seen may clock left c.loop-place.disk c.is_open.new.disk c.is_open.ensures.stays))
           (alone_once seen may clock left c.is_open.new.disk c.next_entry.new.disk c.next_entry.ensures.stays);
+      soon = omega (arith, before.soon, c.is_open.ensures.stays.time.soon, c.next_entry.ensures.stays.time.soon);
       still = c.in_ok-entry.ensures.still ∙ c.in_ok-is_open.ensures.still ∙ before.still;
     }

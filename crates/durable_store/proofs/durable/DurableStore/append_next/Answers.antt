@@ -28,7 +28,7 @@ invariant_of-self g c =
       room = subst (λ (u : DurableState X). HasRoom u) (sym c.self.view_is) c.requires.room;
       next = next;
       crash = λ entries same. c.append.ensures.any_moment entries (c.len.ensures.count ∙ same);
-      size = c.append.ensures.size;
+      tail = c.append.ensures.tail;
     } in
     let cut : BecomesSpent s t = record { store = refl; spent = refl } in
     cut_is_sound seen may clock since counts s t e (g.met.D.Disk.counts_now t.disk) appending cut
@@ -50,7 +50,7 @@ returns-in_err-append-clause-ends g c =
       room = subst (λ (u : DurableState X). HasRoom u) (sym c.self.view_is) c.requires.room;
       next = next;
       crash = λ entries same. c.append.ensures.any_moment entries (c.len.ensures.count ∙ same);
-      size = c.append.ensures.size;
+      tail = c.append.ensures.tail;
     } in
     let cut : BecomesSpent s t = record { store = refl; spent = refl } in
     let failed = err_from_is_err_and c.from_residual.result c.from_residual.ensures.1 in
@@ -74,7 +74,7 @@ invariant_of-self-2 g c =
       room = subst (λ (u : DurableState X). HasRoom u) (sym c.self.view_is) c.requires.room;
       next = next;
       crash = λ entries same. c.append.ensures.any_moment entries (c.len.ensures.count ∙ same);
-      size = c.append.ensures.size;
+      tail = c.append.ensures.tail;
     } in
     let written : HasWritten seen may e s t = record {
       store = c.add_entry.ensures;
@@ -100,7 +100,7 @@ returns-clause-ends g c =
       room = subst (λ (u : DurableState X). HasRoom u) (sym c.self.view_is) c.requires.room;
       next = next;
       crash = λ entries same. c.append.ensures.any_moment entries (c.len.ensures.count ∙ same);
-      size = c.append.ensures.size;
+      tail = c.append.ensures.tail;
     } in
     let written : HasWritten seen may e s t = record {
       store = c.add_entry.ensures;

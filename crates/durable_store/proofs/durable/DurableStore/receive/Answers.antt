@@ -1,5 +1,6 @@
 -- A fresh receipt leaves the history local, and the journal has it first.
 use Rattle.std.proofs.Common.{◌≡◌, ◌+◌, ◌<◌, ◌++◌, ◌∷◌, [], max, ap, ◌∙◌, subst, sym, arith}
+use Rattle.std.specs.Prelude.{Err}
 use Rattle.local_store.specs.declared.receipt.Receipt.TheVariants.{Fresh}
 use Rattle.local_store.specs.Consistent.{IsConsistent}
 use Rattle.local_store.specs.Reception.{IsForeseen}
@@ -30,7 +31,7 @@ returns-in_err-append_next-in-Fresh-clause-ends g c =
     let is : c.self.inside.store ≡ c.args.self.now.store = ap (λ (u : DurableState X). u.store) c.self.view_is in
     let m = c.args.m.now in
     let fresh : IsForeseen c.args.self.now.store m Fresh = subst (λ (u : StoreState). IsForeseen u m Fresh) is c.in-Fresh.ensures in
-    receipt_cut g.D.Disk.seen g.D.Disk.may_leave g.D.Disk.clock g.D.Disk.left_since c.args.self.now c.append_next.new.self m c.entry_of-entry.result c.from_residual.result _ c.from_residual.ensures.1 fresh
+    receipt_cut g.D.Disk.seen g.D.Disk.may_leave g.D.Disk.clock g.D.Disk.left_since (g.D.Disk.may_lack c.append_next.new.self.disk) c.args.self.now c.append_next.new.self m c.entry_of-entry.result c.from_residual.result _ c.from_residual.ensures.1 (λ is. c.in_err-append_next-in-Fresh.ensures.memory (ap Err is)) fresh
     (c.entry_of-entry.ensures ∙ ap (λ (u : StoreState). receipt_entry u m) is) c.in_err-append_next-in-Fresh.ensures.ends
 
 pub returns-in_ok-append_next-in-Fresh-clause-ends : goal.returns-in_ok-append_next-in-Fresh-clause-ends
@@ -39,7 +40,7 @@ returns-in_ok-append_next-in-Fresh-clause-ends g c =
     let is : c.self.inside.store ≡ c.args.self.now.store = ap (λ (u : DurableState X). u.store) c.self.view_is in
     let m = c.args.m.now in
     let fresh : IsForeseen c.args.self.now.store m Fresh = subst (λ (u : StoreState). IsForeseen u m Fresh) is c.in-Fresh.ensures in
-    receipt_done g.D.Disk.seen g.D.Disk.may_leave g.D.Disk.clock g.D.Disk.left_since c.args.self.now c.append_next.new.self m c.entry_of-entry.result fresh
+    receipt_done g.D.Disk.seen g.D.Disk.may_leave g.D.Disk.clock g.D.Disk.left_since (g.D.Disk.may_lack c.append_next.new.self.disk) c.args.self.now c.append_next.new.self m c.entry_of-entry.result fresh
     (c.entry_of-entry.ensures ∙ ap (λ (u : StoreState). receipt_entry u m) is) c.in_ok-append_next-in-Fresh.ensures.ends
 
 pub returns-in_ok-append_next-in-Fresh-clause-ok : goal.returns-in_ok-append_next-in-Fresh-clause-ok

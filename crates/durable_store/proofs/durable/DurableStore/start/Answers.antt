@@ -1,5 +1,5 @@
 -- What was restored is kept by the disk, and in a journal of a history no place is alien.
-use Rattle.std.proofs.Common.{ℕ, ◌<◌, List, length, refl, sym, ap, ◌∙◌, subst}
+use Rattle.std.proofs.Common.{ℕ, ◌+◌, ◌<◌, List, length, refl, sym, ap, ◌∙◌, subst}
 use Rattle.std.proofs.lemmas.Bool.{false≢true}
 use Rattle.bspl_io.specs.Faults.{last_count}
 use Rattle.role_journal.specs.Counts.{Counts}
@@ -7,6 +7,7 @@ use Rattle.role_journal.specs.Journal.{IsJournal, places}
 use Rattle.durable_store.specs.declared.refusals.StartRefusal.{StartRefusal}
 use Rattle.durable_store.specs.Alien.{IsAlien}
 use Rattle.durable_store.specs.Start.{IsStartRefusal}
+use Rattle.durable_store.proofs.AloneLemmas.{kept_as_it_was}
 use Rattle.durable_store.proofs.ServingLemmas.{history_of_store}
 use Rattle.durable_store.proofs.durable.DurableStore.start.Goals as goal
 
@@ -68,6 +69,17 @@ returns-in-Ok-clause-answer g c =
       },
       c.restore.ensures.alone.same,
     )
+
+pub returns-in-Ok-clause-kept : goal.returns-in-Ok-clause-kept
+returns-in-Ok-clause-kept g c =
+    let d = g.D.Disk in
+    kept_as_it_was d.seen d.may_leave d.clock d.left_since (1 + places (length (d.seen c.args.disk)) + length c.in-Ok.store.entries) c.args.disk c.restore.new.disk (g.met.D.Disk.only_now c.args.disk) c.in-Ok.ensures.soon c.restore.ensures.alone
+
+pub returns-in-Err-clause-kept : goal.returns-in-Err-clause-kept
+returns-in-Err-clause-kept g c =
+    let d = g.D.Disk in
+    let count : ℕ = places (length (d.seen c.args.disk)) in
+    kept_as_it_was d.seen d.may_leave d.clock d.left_since (1 + count + count) c.args.disk c.restore.new.disk (g.met.D.Disk.only_now c.args.disk) c.in-Err.ensures.soon c.restore.ensures.alone
 
 pub returns-in-Err-clause-answer : goal.returns-in-Err-clause-answer
 returns-in-Err-clause-answer g c = (g.D.Disk.counts c.args.disk, c.in-Err.ensures.refused)
