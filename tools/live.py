@@ -1,25 +1,39 @@
 """Trials of bspl_role with its input held open: each line has to have its reply before the next one is written.
 
 The lines and the replies are those of the worked rows on `bspl serve`, which gives the same replies at the end of its
-input. A role of an unsafe protocol, of a text that is refused, and for other arguments has to end at once.
+input; then the status is 0. A role of an unsafe protocol (1), of a text that is refused (4), and for other arguments (3)
+has to end at once. So has one whose input (5) or output (6) is cut off after a reply.
 """
 import queue
 import re
+import socket
 import subprocess
 import threading
 
+from faults import PING
 from rows import rows, without_evidence
 
-# how long one reply may take on a machine that is at work
-SECONDS = 20
+# how long the reply to a line may take
+SECONDS = 1
+# how long a role may take to end by itself, on a machine that is at work
+END_SECONDS = 20
 WIRE = b"%% wire\n"
+# the opening of a role of Ping, a line for it, and the reply
+OPENING = PING + b"\n" + WIRE
+EMIT = b'{"emit":{"key":["1"],"message":"ping","outs":[]}}\n'
+SENT = b'{"sent":{"message":"ping","number":0,"stamp":1,"values":{"ID":"1"}}}\n'
+
+
+def started(path, args):
+    """A role with pipes. As here, the signal of a broken pipe is ignored, so that writing fails."""
+    return subprocess.Popen([path, *args], stdin=subprocess.PIPE, stdout=subprocess.PIPE, restore_signals=False)
 
 
 class Role:
     """A role that plays, and the lines that it has written, which a thread collects."""
 
     def __init__(self, path, args):
-        self.process = subprocess.Popen([path, *args], stdin=subprocess.PIPE, stdout=subprocess.PIPE)
+        self.process = started(path, args)
         self.lines = queue.Queue()
         threading.Thread(target=self.collect, daemon=True).start()
 
@@ -51,10 +65,10 @@ def parts_of(row):
     return text + WIRE, head.split()[1], list(zip(lines, row.output.splitlines(keepends=True)))
 
 
-def wrong_play(path, row):
+def wrong_play(path, row, options):
     """Plays the role of the row line by line."""
     text, role, lines = parts_of(row)
-    player = Role(path, [row.args[2], role, b"--unchecked"])
+    player = Role(path, [row.args[2], role, *options])
     player.process.stdin.write(text)
     for line, wanted in lines:
         if line.endswith(b"\n"):
@@ -75,13 +89,40 @@ def wrong_end(path, args, given, status, output):
     player.process.stdin.write(given)
     player.process.stdin.flush()
     try:
-        ended = player.process.wait(SECONDS)
+        ended = player.process.wait(END_SECONDS)
     except subprocess.TimeoutExpired:
         ended = None
         player.process.kill()
     found = without_evidence(b"".join(iter(player.lines.get, b"")))
     wanted = (status, without_evidence(output))
     return None if (ended, found) == wanted else f"bspl_role {args}: ended {ended} with {found}"
+
+
+def wrong_cut_input(path):
+    """An input that is cut off gives the status 5 after the reply: its other end is closed with the reply unread."""
+    ours, theirs = socket.socketpair()
+    with ours, theirs:
+        ours.settimeout(END_SECONDS)
+        player = subprocess.Popen([path, "Ping", "A"], stdin=theirs, stdout=theirs)
+        theirs.close()
+        ours.sendall(OPENING + EMIT)
+        found = ours.recv(len(SENT), socket.MSG_PEEK | socket.MSG_WAITALL)
+    ended = player.wait(END_SECONDS)
+    return None if (ended, found) == (5, SENT) else f"bspl_role: its input is cut off: ended {ended} after {found}"
+
+
+def wrong_cut_output(path):
+    """An output that nobody reads any more gives the status 6 at the next reply."""
+    player = started(path, ["Ping", "A"])
+    with player.stdin:
+        player.stdin.write(OPENING + EMIT)
+        player.stdin.flush()
+        found = player.stdout.readline()
+        player.stdout.close()
+        player.stdin.write(EMIT)
+        player.stdin.flush()
+        ended = player.wait(END_SECONDS)
+    return None if (ended, found) == (6, SENT) else f"bspl_role: its output is cut off: ended {ended} after {found}"
 
 
 def is_on_whole_lines(row):
@@ -101,12 +142,11 @@ def is_unsafe(row):
 
 def endings(path, all_rows):
     """The calls that end by themselves: status 1, 3 and 4."""
-    ping = b"Ping { roles A, B parameters out ID key A -> B: ping[out ID] }\n"
     usage = b"usage: bspl_role NAME ROLE [--unchecked]\n"
     yield lambda: wrong_end(path, ["Ping"], b"", 3, usage)
     yield lambda: wrong_end(path, ["Ping", "A", "--brief"], b"", 3, usage)
-    yield lambda: wrong_end(path, ["Ping", "C"], ping + WIRE, 4, b"refused F5\n")
-    yield lambda: wrong_end(path, ["Pong", "A"], ping + WIRE, 4, b"refused E3 Pong\n")
+    yield lambda: wrong_end(path, ["Ping", "C"], OPENING, 4, b"refused F5\n")
+    yield lambda: wrong_end(path, ["Pong", "A"], OPENING, 4, b"refused E3 Pong\n")
     for row in [row for row in all_rows if is_unsafe(row)][:5]:
         role = re.search(rb"roles\s+(\w+)", row.given)[1]
         yield lambda row=row, role=role: wrong_end(path, [row.args[2], role], row.given + b"\n" + WIRE, 1, row.output)
@@ -117,5 +157,9 @@ def trials(paths):
     all_rows = list(rows())
     for row in all_rows:
         if row.args[:2] == [b"bspl", b"serve"] and row.status == 0 and is_on_whole_lines(row):
-            yield lambda row=row: wrong_play(path, row)
+            yield lambda row=row: wrong_play(path, row, [b"--unchecked"])
+            if row.given.startswith(PING):
+                yield lambda row=row: wrong_play(path, row, [])
+    yield lambda: wrong_cut_input(path)
+    yield lambda: wrong_cut_output(path)
     yield from endings(path, all_rows)

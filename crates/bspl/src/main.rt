@@ -2,7 +2,7 @@
 #![tactic(auto)]
 
 use bspl_tool::answer;
-use program_args::args_given;
+use program_frame::args_given;
 use std::io;
 use std::process::ExitCode;
 

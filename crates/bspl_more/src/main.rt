@@ -2,11 +2,10 @@
 #![tactic(auto)]
 
 use more_commands::MoreQuestion;
-use program_args::args_given;
-use program_frame::answer;
+use program_frame::{answer, args_given};
 use std::io;
 use std::process::ExitCode;
-use tool_frame::Request;
+use tool_input::Request;
 
 fn main(rt: HostRuntime) -> ExitCode {
     let args = args_given(&rt);

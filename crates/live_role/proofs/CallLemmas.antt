@@ -1,17 +1,22 @@
 -- How a call ends, and which faults are counted.
-use Rattle.std.proofs.Common.{◌≡◌, ℕ, List, Option, Result, Ok, Err, refl, subst}
-use Rattle.bspl_io.specs.Faults.{HasCounted, FaultCounts}
+use Rattle.std.proofs.Common.{◌≡◌, ℕ, Bool, List, Option, Result, Ok, Err, refl, subst}
+use Rattle.bspl_io.specs.Faults.{FaultCounts}
+use Rattle.bspl_io.specs.Traffic.{Traffic}
 use Rattle.list_base.specs.declared.memory.NoMemory.{NoMemory as OutOfMemory}
 use Rattle.program_frame.specs.Call.{AreCounted}
 use Rattle.program_frame.specs.Prepared.{AreWritesCounted}
 use Rattle.program_frame.specs.Reply.{IsWritten}
 use Rattle.program_frame.specs.declared.ending.Ending.{Ending}
 use Rattle.program_frame.specs.declared.ending.Ending.TheVariants as ending
+use Rattle.program_frame.specs.declared.ending.Ending.TheVariants.{Answered, NoMemory, ReadFault, WriteFault}
 use Rattle.program_frame.specs.declared.reply.Reply.{Reply}
 use Rattle.role_server.specs.Stream.{AreFaultsCounted}
 use Rattle.role_server.specs.declared.refusal.ServeRefusal.{ServeRefusal}
 use Rattle.role_server.specs.declared.refusal.ServeRefusal.TheVariants as refusal
-use Rattle.live_role.specs.Call.{serving_ending}
+use Rattle.tool_input.specs.declared.status.Status.{Status}
+use Rattle.live_role.specs.Call.{IsRoleCall, declined, serving_ending, unread}
+use Rattle.live_role.specs.Request.{RequestsRole}
+use Rattle.live_role.specs.inner.Prepared.{EndsUnserved}
 
 -- a reply does not end with a fault of reading
 not_unread : {S : Type 0} (made : Result (Reply S) OutOfMemory) (old new : Option (List ℕ)) (end : Ending S) → IsWritten made old new end → end ≡ ending.ReadFault → ⊥
@@ -61,11 +66,9 @@ serving_counted counts (Err refusal.NoMemory) is = record {
   no_write_fault = λ _. is.no_write (λ other. absurd cc);
 }
 
--- a fault of reading alone
-pub unread_counted : {S : Type 0} (counts : FaultCounts) → HasCounted counts.reads counts.reads_after → counts.writes_after ≡ counts.writes → AreCounted {S = S} counts ending.ReadFault
-unread_counted counts counted still = record {
-  read_fault = λ _. counted;
-  write_fault = λ fault. absurd cc;
-  no_read_fault = λ other. absurd (other refl);
-  no_write_fault = λ _. still;
-}
+-- a call that ended before it wrote
+pub ended_call : (args : List (List ℕ)) (name role : List ℕ) (checked : Bool) (t : Traffic) (end : Ending Status) → RequestsRole args name role checked → EndsUnserved t.remaining t.remaining_after end → t.contents_after ≡ t.contents → IsRoleCall args t end
+ended_call args name role checked t (Answered status) requests ends still = absurd ends
+ended_call args name role checked t WriteFault requests ends still = absurd ends
+ended_call args name role checked t ReadFault requests ends still = unread name role checked requests ends refl still
+ended_call args name role checked t NoMemory requests ends still = declined name role checked requests (record { made = Err (record {}); is_right = tt; written = (refl, still) })

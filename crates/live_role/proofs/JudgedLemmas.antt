@@ -6,6 +6,7 @@ use Rattle.enactment_model.specs.Safety.{SafeProtocol}
 use Rattle.list_base.specs.declared.memory.NoMemory.{NoMemory as OutOfMemory}
 use Rattle.local_store.specs.State.{StoreState}
 use Rattle.program_frame.specs.declared.reply.Reply.{Reply}
+use Rattle.program_frame.specs.Prepared.{AreReadsCounted}
 use Rattle.role_server.specs.Served.{first_store}
 use Rattle.tool_input.specs.declared.status.Status.{Status}
 use Rattle.tool_input.specs.declared.status.Status.TheVariants.{Refused}
@@ -15,9 +16,10 @@ use Rattle.tool_input.specs.Rejection.{lacks_part, over_limit, rejection_line}
 use Rattle.tool_input.specs.RoleName.{IsRoleNamed}
 use Rattle.live_role.specs.declared.judged.Judged.{Judged}
 use Rattle.live_role.specs.declared.judged.Judged.TheVariants.{Served}
-use Rattle.live_role.specs.Call.{BeginsRole, IsDeclined, no_line, too_long}
+use Rattle.live_role.specs.Call.{BeginsRole, no_line, too_long}
 use Rattle.live_role.specs.Opening.{EndsUnopened, IsUnopenedTooLong, TakesOpening}
 use Rattle.live_role.specs.inner.Judged.{IsAccepted, IsJudged, IsReply}
+use Rattle.live_role.specs.inner.Prepared.{IsPrepared, prepared_of}
 
 -- it is served
 pub accepted : (name role : List ℕ) (checked : Bool) (text : List ℕ) (x : Expanded) (index : ℕ) (judged : Judged) → Declares name text x → IsRoleNamed x role index → (checked ≡ true → SafeProtocol x) → judged ≡ Served (first_store x index) → IsJudged name role checked text judged
@@ -44,11 +46,16 @@ ahead_short text ahead old new is =
     omega (arith, is.short, ap length is.opens.whole, length-append (text ++ is.opens.line) ahead)
 
 -- the input ended before the line
-pub ended : (name role : List ℕ) (checked : Bool) (old new : Option (List ℕ)) (made : Result (Reply Status) OutOfMemory) → EndsUnopened old new → IfOk made (IsReply (rejection_line (lacks_part Wire)) Refused) → IfOk made (λ reply. IsDeclined name role checked old new reply.text reply.status)
+pub ended : (name role : List ℕ) (checked : Bool) (old new : Option (List ℕ)) (made : Result (Reply Status) OutOfMemory) → EndsUnopened old new → IfOk made (IsReply (rejection_line (lacks_part Wire)) Refused) → IsPrepared name role checked old new (prepared_of made)
 ended name role checked old new (Ok reply) ends is = no_line ends is.is_text is.is_status
 ended name role checked old new (Err e) ends is = tt
 
 -- too many bytes came before it
-pub too_many : (name role : List ℕ) (checked : Bool) (old new : Option (List ℕ)) (made : Result (Reply Status) OutOfMemory) → IsUnopenedTooLong old new → IfOk made (IsReply (rejection_line (over_limit input_limit)) Refused) → IfOk made (λ reply. IsDeclined name role checked old new reply.text reply.status)
+pub too_many : (name role : List ℕ) (checked : Bool) (old new : Option (List ℕ)) (made : Result (Reply Status) OutOfMemory) → IsUnopenedTooLong old new → IfOk made (IsReply (rejection_line (over_limit input_limit)) Refused) → IsPrepared name role checked old new (prepared_of made)
 too_many name role checked old new (Ok reply) long is = too_long long is.is_text is.is_status
 too_many name role checked old new (Err e) long is = tt
+
+-- neither of these is a fault of reading
+pub replied_counted : (made : Result (Reply Status) OutOfMemory) (reads after : ℕ) → after ≡ reads → AreReadsCounted reads after (prepared_of made)
+replied_counted (Ok reply) reads after same = record { fault = λ is. absurd (cc); no_fault = λ _. same }
+replied_counted (Err e) reads after same = record { fault = λ is. absurd (cc); no_fault = λ _. same }

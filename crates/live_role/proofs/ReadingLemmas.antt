@@ -1,11 +1,13 @@
 -- What is read until the line comes.
-use Rattle.std.proofs.Common.{◌≡◌, ◌<◌, ◌≤◌, ◌+◌, ℕ, List, [], ◌++◌, Option, Some, None, drop, length, refl, subst, arith, append-nil, length-append}
-use Rattle.std.proofs.KnownBytes.{Consumes-trans}
-use Rattle.std.specs.Io.KnownBytes.{Consumes, IsAtEnd}
+use Rattle.std.proofs.Common.{◌≡◌, ◌<◌, ◌≤◌, ◌+◌, ℕ, List, [], ◌++◌, Option, Some, None, Result, Ok, Err, IfErr, IsErrAnd, drop, length, refl, sym, subst, arith, append-nil, length-append}
+use Rattle.std.proofs.KnownBytes.{Consumes-kept, Consumes-trans}
+use Rattle.std.specs.Io.KnownBytes.{Consumes, IsAtEnd, Keeps}
+use Rattle.bspl_io.specs.declared.source.ReadRefusal.{ReadRefusal}
+use Rattle.bspl_io.specs.declared.source.ReadRefusal.TheVariants.{ReadFault}
 use Rattle.bspl_types.specs.Limits.{input_limit}
 use Rattle.live_role.specs.declared.opening.Opening.{Opening}
-use Rattle.live_role.specs.Opening.{EndsUnopened, IsUnopenedTooLong, TakesOpening}
-use Rattle.live_role.specs.inner.Opening.{HasRead, TakesPiece}
+use Rattle.live_role.specs.Opening.{EndsUnopened, IsUnopenedTooLong, TakesOpening, TakesUnopened}
+use Rattle.live_role.specs.inner.Opening.{HasRead, StopsUnopened, TakesPiece}
 use Rattle.live_role.proofs.OpeningLemmas.{fresh_taken, unopened}
 
 takes_nothing : (r : Option (List ℕ)) → Consumes r r []
@@ -36,15 +38,25 @@ module _ (r0 r1 r2 : Option (List ℕ)) (count : ℕ) (o : Opening) (is : HasRea
     opens = (takes.takes is.bytes is.has).1;
   }
 
-  -- the input ends
-  pub read_end : Consumes r1 r2 [] → IsAtEnd r2 → EndsUnopened r0 r2
-  read_end taken at_end = record {
+  -- no more comes
+  read_no_more : Consumes r0 r2 is.bytes → TakesUnopened r0 r2
+  read_no_more taken = record {
     bytes = is.bytes;
-    taken = subst (Consumes r0 r2) (append-nil is.bytes) (Consumes-trans r0 r1 r2 is.bytes [] is.taken taken);
-    at_end = at_end;
+    taken = taken;
     short = omega (arith, is.counted, is.short);
     unopened = unopened is.bytes o is.has;
   }
+
+  -- the input ends
+  pub read_end : Consumes r1 r2 [] → IsAtEnd r2 → EndsUnopened r0 r2
+  read_end taken at_end = record {
+    takes = read_no_more (subst (Consumes r0 r2) (append-nil is.bytes) (Consumes-trans r0 r1 r2 is.bytes [] is.taken taken));
+    at_end = at_end;
+  }
+
+  -- reading fails
+  pub read_fails : Keeps r1 r2 → TakesUnopened r0 r2
+  read_fails kept = read_no_more (Consumes-kept r0 r1 r2 is.bytes is.taken kept)
 
   -- too many bytes come
   pub read_long : (piece : List ℕ) → Consumes r1 r2 piece → input_limit < count + length piece → IsUnopenedTooLong r0 r2
@@ -55,3 +67,8 @@ module _ (r0 r1 r2 : Option (List ℕ)) (count : ℕ) (o : Opening) (is : HasRea
     long = omega (arith, is.counted, length-append is.bytes piece, long);
     unopened = unopened is.bytes o is.has;
   }
+
+-- a fault of reading is the answer
+pub stops_read : {X : Type 0} (old new : Option (List ℕ)) (result : Result X ReadRefusal) → IsErrAnd result (λ refusal. refusal ≡ ReadFault) → TakesUnopened old new → IfErr result (StopsUnopened old new)
+stops_read old new (Ok x) is takes = tt
+stops_read old new (Err refusal) is takes = subst (StopsUnopened old new) (sym is) takes

@@ -21,7 +21,7 @@ use Rattle.tool_input.specs.Input.{Declares}
 use Rattle.tool_input.specs.Rejection.{lacks_part, over_limit, rejection_line}
 use Rattle.tool_input.specs.RoleName.{IsRoleNamed}
 use Rattle.live_role.specs.Judgement.{Declines}
-use Rattle.live_role.specs.Opening.{EndsUnopened, IsUnopenedTooLong, TakesOpening}
+use Rattle.live_role.specs.Opening.{EndsUnopened, IsUnopenedTooLong, TakesOpening, TakesUnopened}
 use Rattle.live_role.specs.Request.{RequestsNothing, RequestsRole}
 
 -- the line for invalid arguments
@@ -91,8 +91,9 @@ pub data IsRoleCall (args : List (List ℕ)) (t : Traffic) (end : Ending Status)
   declined : (name role : List ℕ) (checked : Bool) → RequestsRole args name role checked
       → RepliesRightly (IsDeclined name role checked t.remaining t.remaining_after) t end
       → IsRoleCall args t end
-  -- reading fails before it is
+  -- reading fails before the line came: once it is there, no more is read until the role is served
   unread : (name role : List ℕ) (checked : Bool) → RequestsRole args name role checked
+      → TakesUnopened t.remaining t.remaining_after
       → end ≡ ending.ReadFault → t.contents_after ≡ t.contents → IsRoleCall args t end
   -- it is served
   served : (name role : List ℕ) (checked : Bool) → RequestsRole args name role checked

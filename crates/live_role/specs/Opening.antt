@@ -11,13 +11,17 @@ pub record TakesOpening (text ahead : List ℕ) (old new : Option (List ℕ)) : 
   pub short : length bytes ≤ input_limit
   pub opens : Opens bytes text ahead
 
--- the input ended before the line came
-pub record EndsUnopened (old new : Option (List ℕ)) : Type 0 where
+-- some bytes were taken, and the line did not come
+pub record TakesUnopened (old new : Option (List ℕ)) : Type 0 where
   pub bytes : List ℕ
   pub taken : Consumes old new bytes
-  pub at_end : IsAtEnd new
   pub short : length bytes ≤ input_limit
   pub unopened : IsUnopened bytes
+
+-- the input ended before the line came
+pub record EndsUnopened (old new : Option (List ℕ)) : Type 0 where
+  pub takes : TakesUnopened old new
+  pub at_end : IsAtEnd new
 
 -- too many bytes came before the line, at the latest with the last piece of them
 pub record IsUnopenedTooLong (old new : Option (List ℕ)) : Type 0 where

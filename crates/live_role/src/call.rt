@@ -4,15 +4,35 @@ ghost use Rattle.tool_input.specs.declared.status.Status.TheVariants.{Usage};
 ghost use Rattle.live_role.specs.Call.{IsRoleCall, role_usage, serving_ending};
 ghost use Rattle.live_role.specs.inner.Judged.{IsReply};
 
-use super::prepared::{Prepared, prepare};
+use super::prepared::prepare;
 use super::request::request_of;
 use bspl_io::{Sink, Source};
 use list_base::{Bytes, NoMemory};
 use local_store::Store;
-use program_frame::{Ending, Reply, write_reply};
+use program_frame::{Call, Ending, Prepared, Reply, write_reply};
 use role_server::{ServeRefusal, serve_from};
 use std::alloc::Global;
 use tool_input::Status;
+
+/// The program that serves a role, as its call.
+pub struct RoleCall;
+
+impl<'a> Call<'a> for RoleCall {
+    type Status = Status;
+
+    ghost use Rattle.live_role.specs.Call.{IsRoleCall};
+
+    ghost calls = { IsRoleCall };
+
+    fn call<R: Source, W: Sink>(
+        alloc: Global,
+        args: &'a [String],
+        input: &mut R,
+        output: &mut W,
+    ) -> Ending<Status> {
+        bspl_role(alloc, args, input, output)
+    }
+}
 
 /// Reads a protocol, and serves the role of it that the arguments name: each line is answered as
 /// soon as it is whole.
@@ -39,11 +59,12 @@ pub fn bspl_role<R: Source, W: Sink>(
         return write_reply(usage(alloc), output);
     };
     match prepare(alloc, &request, input) {
-        Prepared::Replied(made) => write_reply(made, output),
-        Prepared::Serves { store, ahead } => {
-            ending_of(serve_from(alloc, store, ahead.as_slice(), input, output))
-        }
-        Prepared::ReadFault => Ending::ReadFault,
+        Prepared::Replied(reply) => write_reply(Ok(reply), output),
+        Prepared::Read {
+            request: store,
+            input: ahead,
+        } => ending_of(serve_from(alloc, store, ahead.as_slice(), input, output)),
+        Prepared::Ended(ending) => ending,
     }
 }
 

@@ -8,7 +8,5 @@ mod prepared;
 mod reading;
 mod request;
 mod same;
-mod standard;
 
-pub use call::bspl_role;
-pub use standard::answer;
+pub use call::{RoleCall, bspl_role};

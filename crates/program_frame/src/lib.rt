@@ -1,6 +1,7 @@
-//! The frame of a program: it reads, answers and writes.
+//! The frame of a program: its arguments, and how it reads, answers and writes.
 #![tactic(auto)]
 
+mod arguments;
 mod call;
 mod ending;
 mod laws;
@@ -9,10 +10,11 @@ mod program;
 mod reply;
 mod standard;
 
+pub use arguments::{args_after_name, args_given};
 pub use call::serve;
 pub use ending::{Ending, ExitStatus};
 pub use laws::halves_are_calls;
 pub use prepared::{Prepared, prepare};
-pub use program::Program;
+pub use program::{Call, Program};
 pub use reply::{Reply, write_reply};
 pub use standard::answer;

@@ -11,9 +11,9 @@ use std::alloc::Global;
 /// What a call knows before it writes anything.
 #[derive(Drop)]
 pub enum Prepared<X, S> {
-    /// The reply to an input that is too long.
+    /// The reply in place of going on.
     Replied(Reply<S>),
-    /// What the arguments request, and the whole input, or no bytes if they ask for none.
+    /// What the arguments request, and what was read of the input for it.
     Read { request: X, input: Bytes },
     /// The call ends here.
     Ended(Ending<S>),

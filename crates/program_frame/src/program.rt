@@ -1,10 +1,64 @@
 ghost use Rattle.std.specs.Prelude.{◌≡◌, ◌↔◌, List, ℕ, ◌≤◌, ◌<◌, length, map, string_bytes, IfOk, IsTrue};
+ghost use Rattle.program_frame.specs.Call.{AreCounted};
 ghost use Rattle.program_frame.specs.Program.{IsRequested, NeedsNoInput};
 
-use super::ending::ExitStatus;
+use super::call::serve;
+use super::ending::{Ending, ExitStatus};
 use super::reply::Reply;
+use bspl_io::{Sink, Source};
 use list_base::{Bytes, NoMemory};
 use std::alloc::Global;
+
+/// A program, as its whole call. One that answers only when it has its input is a `Program`.
+pub trait Call<'a> {
+    ghost use Rattle.std.specs.Prelude.{List, ℕ};
+    ghost use Rattle.bspl_io.specs.Traffic.{Traffic};
+    ghost use Rattle.program_frame.specs.declared.ending.Ending.{Ending};
+
+    /// How an answer ends.
+    type Status: ExitStatus;
+
+    // A call with these arguments reads and writes this, and ends so.
+    ghost calls: { List (List ℕ) → Traffic → Ending Self.Status → Type 0 };
+
+    /// Reads and writes what the arguments ask for.
+    fn call<R: Source, W: Sink>(
+        alloc: Global,
+        args: &'a [String],
+        input: &mut R,
+        output: &mut W,
+    ) -> Ending<Self::Status>
+        ensures call { calls (map string_bytes args.now) (record {
+          remaining = R.remaining input.old;
+          remaining_after = R.remaining input.new;
+          contents = W.contents output.old;
+          contents_after = W.contents output.new;
+        }) result }
+        ensures faults { AreCounted (record {
+          reads = R.faults input.old;
+          reads_after = R.faults input.new;
+          writes = W.faults output.old;
+          writes_after = W.faults output.new;
+        }) result };
+}
+
+impl<'a, P: Program<'a>> Call<'a> for P {
+    type Status = P::Status;
+
+    ghost use Rattle.program_frame.specs.Call.{IsCall};
+
+    ghost calls = { λ args t ending.
+        IsCall (P.asks args) P.limit (P.answers args) t ending };
+
+    fn call<R: Source, W: Sink>(
+        alloc: Global,
+        args: &'a [String],
+        input: &mut R,
+        output: &mut W,
+    ) -> Ending<P::Status> {
+        serve::<P, R, W>(alloc, args, input, output)
+    }
+}
 
 /// A program, as what its arguments request: whether it wants the input, and what it answers.
 pub trait Program<'a>: Drop {

@@ -1,10 +1,9 @@
 ghost use Rattle.std.specs.Prelude.{◌≡◌, map, string_bytes, IfOk, IfErr};
-ghost use Rattle.program_frame.specs.Call.{AreCounted, IsCall};
+ghost use Rattle.program_frame.specs.Call.{AreCounted};
 ghost use Rattle.program_frame.specs.declared.ending.Ending.TheVariants.{NoMemory};
 
-use super::call::serve;
 use super::ending::Ending;
-use super::program::Program;
+use super::program::Call;
 use bspl_io::{Sink, Source, StdSink, StdSource};
 use std::alloc::Global;
 use std::io::{self, Read, Write};
@@ -12,14 +11,14 @@ use std::io::{self, Read, Write};
 /// The call for the arguments over a reader and a writer, which come back as the source and the
 /// sink of the call, with their counts of faults. If the arguments could not be had, nothing is
 /// read or written.
-pub fn answer<'a, P: Program<'a>, R: Read, W: Write>(
+pub fn answer<'a, C: Call<'a>, R: Read, W: Write>(
     alloc: Global,
     args: &'a io::Result<Vec<String>>,
     input: R,
     output: W,
-) -> (Ending<P::Status>, StdSource<R>, StdSink<W>)
-    ensures call { IfOk args.now (λ args. IsCall (P.asks (map string_bytes args.items)) P.limit
-        (P.answers (map string_bytes args.items)) (record {
+) -> (Ending<C::Status>, StdSource<R>, StdSink<W>)
+    ensures call { IfOk args.now (λ args. C.calls (map string_bytes args.items)
+        (record {
           remaining = R.remaining input;
           remaining_after = ⟦<StdSource<R> as Source>⟧.remaining result.1;
           contents = W.contents output;
@@ -40,7 +39,7 @@ pub fn answer<'a, P: Program<'a>, R: Read, W: Write>(
     let mut source = StdSource::new(input);
     let mut sink = StdSink::new(output);
     let ending = match args {
-        Ok(args) => serve::<P, _, _>(alloc, args.as_slice(), &mut source, &mut sink),
+        Ok(args) => C::call(alloc, args.as_slice(), &mut source, &mut sink),
         Err(_) => Ending::NoMemory,
     };
     (ending, source, sink)

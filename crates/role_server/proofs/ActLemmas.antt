@@ -64,7 +64,8 @@ few_held s key room fresh = elim (cases_lt (length s.keys) 10000) [
   | inr most ↦ absurd (room (inr (fresh, most)))
 ]
 
-some_spare : (s : StoreState) (key : List Value) → (¬ HasNoRoom s key) → 0 < s.spare
+-- and for an event
+pub some_spare : (s : StoreState) (key : List Value) → (¬ HasNoRoom s key) → 0 < s.spare
 some_spare s key room = elim (cases_lt 0 s.spare) [
   | inl less ↦ less
   | inr none ↦ absurd (room (inl (omega (arith, none))))

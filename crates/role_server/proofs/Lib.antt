@@ -2,3 +2,8 @@ pub mod ActLemmas
 pub mod ServedLemmas
 pub mod SessionLemmas
 pub mod ComingLemmas
+pub mod OneReceipt
+pub mod OneEmission
+pub mod OneReply
+pub mod StaysConsistent
+pub mod Determined

@@ -33,7 +33,7 @@ pub fn answer_line(
     }
 }
 
-/// Answers what a line asks for. Its key is looked for once.
+/// Answers what a line asks for.
 #[tactic(auto, using(crate::proofs::ActLemmas::own_key, crate::proofs::ActLemmas::found_held, crate::proofs::ActLemmas::ready, crate::proofs::ActLemmas::keeps_after))]
 fn answer_act(store: &mut Store, act: &Act) -> Result<Reply, NoMemory>
     requires { IsOwn store.old.protocol store.old.role act.now }
@@ -49,10 +49,8 @@ fn answer_act(store: &mut Store, act: &Act) -> Result<Reply, NoMemory>
     if is_last(store, act) {
         return Ok(Reply::Refused(Refusal::F4));
     }
-    // a key that is held from now on gets the next row
-    let near = row.unwrap_or(store.held() as usize);
     hold(store, key, row)?;
-    Ok(reply_to(store, act, near))
+    Ok(reply_to(store, act))
 }
 
 /// The key under which the act is.
@@ -107,17 +105,17 @@ fn hold(store: &mut Store, key: &Key, row: Option<usize>) -> Result<(), NoMemory
     store.add_key(key)
 }
 
-/// Does the act, and gives the reply to it. Its key is first looked for at the row that is near.
+/// Does the act, and gives the reply to it.
 #[tactic(auto, using(crate::proofs::ActLemmas::receipt_keeps))]
-fn reply_to(store: &mut Store, act: &Act, near: usize) -> Reply
+fn reply_to(store: &mut Store, act: &Act) -> Reply
     requires { IsReady store.old act.now }
     ensures reply { Acts store.old act.now result store.new }
     ensures role { KeepsRole store.old store.new }
 {
     match act {
-        Act::Arrival(message) => Reply::Received(store.receive_near(message, near)),
+        Act::Arrival(message) => Reply::Received(store.receive(message)),
         Act::Attempt { message, key, outs } => {
-            match store.emit_near(*message, key, outs.as_slice(), near) {
+            match store.emit(*message, key, outs.as_slice()) {
                 Ok(sent) => Reply::Sent(sent),
                 Err(block) => Reply::Blocked(block),
             }

@@ -2,10 +2,12 @@
 #![tactic(auto)]
 
 mod answer;
+mod laws;
 mod refusal;
 mod session;
 mod stream;
 
 pub use answer::answer_line;
+pub use laws::replies_are_determined;
 pub use refusal::ServeRefusal;
 pub use stream::{serve, serve_from, store_with_room};

@@ -2,6 +2,7 @@ pub mod TextLemmas
 pub mod RequestLemmas
 pub mod FormLemmas
 pub mod MeaningLemmas
+pub mod ActMeaning
 pub mod ActLemmas
 pub mod SortedLemmas
 pub mod DecimalLemmas

@@ -1,6 +1,15 @@
-ghost use Rattle.wire_form.specs.Laws.{LineAsksOnce};
+ghost use Rattle.wire_form.specs.Laws.{LineAsksOnce, LineHasOneAct};
 
-/// A law: a line asks for one thing at most.
+use bspl_types::spells_once;
+use role_journal::fitting_instances_are_one;
+
+/// A law: a line asks for one thing at most, and for one act of a role.
 pub fn asks_once()
-    ensures { LineAsksOnce }
-{}
+    ensures requests { LineAsksOnce }
+    ensures acts { LineHasOneAct }
+{
+    // law: values of one spelling are equal
+    spells_once();
+    // law: the message and the values of an instance tell its key
+    fitting_instances_are_one();
+}

@@ -5,7 +5,7 @@ use Rattle.bspl_io.specs.declared.source.ReadRefusal.{ReadRefusal}
 use Rattle.bspl_io.specs.declared.source.ReadRefusal.TheVariants.{ReadFault, TooLong, NoMemory}
 use Rattle.bspl_types.specs.Limits.{input_limit}
 use Rattle.live_role.specs.declared.opening.Opening.{Opening}
-use Rattle.live_role.specs.Opening.{IsUnopenedTooLong}
+use Rattle.live_role.specs.Opening.{IsUnopenedTooLong, TakesUnopened}
 use Rattle.live_role.specs.Wire.{HasNoWireLine, Opens}
 
 -- these bytes came, and the line not yet
@@ -41,6 +41,6 @@ pub record HasRead (old new : Option (List ℕ)) (count : ℕ) (o : Opening) : T
 
 -- reading stops before the line came
 abbrev pub StopsUnopened : Option (List ℕ) → Option (List ℕ) → ReadRefusal → Type 0
-StopsUnopened old new ReadFault = ⊤
+StopsUnopened old new ReadFault = TakesUnopened old new
 StopsUnopened old new TooLong = IsUnopenedTooLong old new
 StopsUnopened old new NoMemory = ⊤

@@ -2,7 +2,7 @@
 use Rattle.std.proofs.Common.{◌≡◌, ◌≤◌, ◌+◌, ℕ, List, length, take, arith, rules, length-take-le}
 use Rattle.std.proofs.lemmas.List.{take_rest}
 use Rattle.bspl_types.specs.Limits.{input_limit}
-use Rattle.live_role.proofs.ReadingLemmas.{read_long, read_more, read_wire}
+use Rattle.live_role.proofs.ReadingLemmas.{read_fails, read_long, read_more, read_wire, stops_read}
 use Rattle.live_role.proofs.reading.read_opening.Goals as goal
 
 pub returns-then-count-taken-clause-err : goal.returns-then-count-taken-clause-err
@@ -30,3 +30,10 @@ pieces-preserved g c =
       read = rw size at (read_more (g.R.Source.remaining c.args.input.now) (g.R.Source.remaining c.pieces.input) (g.R.Source.remaining c.read.new.self) c.pieces.taken c.pieces.opening c.pieces.invariant.read piece c.take.new.self c.in_ok-count.ensures.bytes.0 short takes);
       still = search rules;
     }
+
+pub returns-in_err-count-clause-err : goal.returns-in_err-count-clause-err
+returns-in_err-count-clause-err g c =
+    let before = g.R.Source.remaining c.args.input.now in
+    let after = g.R.Source.remaining c.read.new.self in
+    stops_read before after c.from_residual.result c.from_residual.ensures.1
+    (read_fails before (g.R.Source.remaining c.pieces.input) after c.pieces.taken c.pieces.opening c.pieces.invariant.read c.in_err-count.ensures.bytes)
