@@ -1,4 +1,4 @@
-"""Writes the page of a protocol, from what docs/LANGUAGE.md says of a page and from the definitions of html,
+"""Writes the page of a protocol, from what docs/COMMANDS.md says of a page and from the definitions of html,
 page_sections, page_text and run_chart: of a protocol text without references, as `bspl expand` prints it, of verdicts
 and dead messages, as `bspl verify --brief` and `bspl dead --brief` print them, and of a run text and what `bspl replay`
 prints of it, or of what `bspl run --threads 0 --brief` prints. It shares nothing with the program."""
@@ -7,7 +7,7 @@ from pathlib import Path
 from typing import NamedTuple
 
 TOP = Path(__file__).resolve().parent.parent
-LABEL, ROLE, FOOT = 28, 20, 18
+LABEL, FAR_LABEL, ROLE, FOOT, CHARTED = 28, 44, 20, 18, 200
 ENTITIES = {'"': "&quot;", "&": "&amp;", "'": "&#39;", "<": "&lt;", ">": "&gt;"}
 
 
@@ -84,6 +84,19 @@ class Chart:
         known = dict(self.known(k))
         return [(name, value) for name, value in self.run[k].values if name not in known]
 
+    def labelled(self, k):
+        """What the label shows: what is new, and in a run of several enactments the key too."""
+        several = len({tuple(self.key(event)) for event in self.run}) > 1
+        keys, new = [name for name, key in self.protocol.params if key and several], self.news(k)
+        return [pair for pair in self.run[k].values if pair[0] in keys or pair in new]
+
+    def far_role(self, event):
+        """The role at the other end of the event's message, if lifelines of others are between."""
+        sender, receiver, _ = self.protocol.messages[event.message]
+        if abs(self.column(sender) - self.column(receiver)) <= 180:
+            return ""
+        return f" to {receiver}" if event.act == "send" else f" from {sender}"
+
     def is_ringed(self, k):
         return self.finding[0] == "clash" and k + 1 in self.finding[2:] or self.finding == ("bad", k + 1)
 
@@ -117,10 +130,11 @@ class Chart:
         ring = f'<circle cx="{x}" cy="{y}" r="9"/>\n' if self.is_ringed(k) else ""
         side = 'dx="10"' if x < self.column(other) else 'dx="-10" text-anchor="end"'
         start = f'<text x="{x}" y="{y}" {side} dy="'
-        said = " ".join([event.message] + [f"{name}={value}" for name, value in self.news(k)])
-        missing = start + '16">not received</text>\n' if self.is_missing(event) else ""
+        said = " ".join([event.message + self.far_role(event)] + [f"{name}={value}" for name, value in self.labelled(k)])
+        yet = " yet" if self.finding[0] == "bad" else ""
+        missing = f'{start}16">not received{yet}</text>\n' if self.is_missing(event) else ""
         height = "-6" if event.act == "send" else "16"
-        return f'{ring}{start}{height}">{k + 1} {cut(LABEL, said)}</text>\n{missing}'
+        return f'{ring}{start}{height}">{k + 1} {cut(FAR_LABEL if self.far_role(event) else LABEL, said)}</text>\n{missing}'
 
     def row(self, k):
         event = self.run[k]
@@ -162,10 +176,10 @@ class Chart:
         return (
             f'<div class="chart">\n<figure>\n<svg role="img" width="{width}" height="{height}" viewBox="0 0 {width} {height}">\n'
             f"<title>{self.title()}</title>\n<desc>Time runs down the lifelines of {''.join(words(role) + ', ' for role in roles)}"
-            "from left to right. The table after the chart says the same.</desc>\n"
+            "from left to right. The table after the chart has the same events.</desc>\n"
             f"{CHART_STYLE}{lifelines}{''.join(map(self.stroke, each))}{''.join(map(self.label, each))}{self.foot()}</svg>\n"
             "<figcaption>A dot is an event. An arrow leads from a sending to its reception; a line to an open circle has none in "
-            'this run.</figcaption>\n</figure>\n<table>\n<thead><tr><th scope="col">#</th><th scope="col">Event</th>'
+            'this chart.</figcaption>\n</figure>\n<table>\n<thead><tr><th scope="col">#</th><th scope="col">Event</th>'
             '<th scope="col">New</th><th scope="col">Known before</th></tr></thead>\n<tbody>\n'
             f"{''.join(map(self.row, each))}</tbody>\n</table>\n</div>\n"
         )
@@ -190,14 +204,15 @@ STYLE = """<style>
 body{margin:2em auto;max-width:64em;padding:0 1em;background:var(--paper);color:var(--ink);font:16px/1.45 system-ui,sans-serif}
 h1,h2,p{overflow-wrap:anywhere}
 h2{margin-top:1.6em}
-table{border-collapse:collapse}
+table{display:block;overflow-x:auto;border-collapse:collapse}
 caption{text-align:left;color:var(--soft);padding-bottom:.4em}
-th,td{text-align:left;vertical-align:top;padding:3px 12px 3px 0;border-bottom:1px solid var(--line);overflow-wrap:anywhere}
+th,td{text-align:left;vertical-align:top;padding:3px 12px 3px 0;border-bottom:1px solid var(--line);overflow-wrap:break-word}
 .v{font:14px/22px ui-monospace,monospace}
 .v>*{display:inline-block;margin-right:.6em}
 pre{background:var(--band);padding:.6em 1em;white-space:pre-wrap;overflow-wrap:anywhere;font:14px/22px ui-monospace,monospace}
 @media print{body{margin:0;max-width:none;padding:0;font-size:12px}
 .v,pre{font-size:11px;line-height:16px}
+table{display:table}
 tr{break-inside:avoid}
 h2,caption{break-after:avoid}}
 </style>
@@ -206,6 +221,7 @@ SAFE = (
     "<h2>Safety: safe</h2>\n<p>In no legal run is a parameter of one enactment produced twice, and no two roles ever know "
     "different values of it.</p>\n"
 )
+NOT_DRAWN = f"<p>The run is not drawn, since a chart has at most {CHARTED} events.</p>\n"
 LIVE = (
     "<h2>Liveness: live</h2>\n<p>At each key at which a legal run is at rest, each public parameter that is to have a value is "
     "known to some role.</p>\n"
@@ -231,8 +247,8 @@ def section(protocol, property_, verdict, rest, run):
     else:
         finding = ("open", rest[0])
         said = (
-            "<h2>Liveness: not live</h2>\n<p>After this legal run nothing more can be sent or received in the enactment, and no "
-            f"role knows <b>{words(rest[0])}</b>.</p>\n"
+            "<h2>Liveness: not live</h2>\n<p>After this legal run the enactment is at rest: what was sent has arrived, no message "
+            f"that was not sent yet can be sent, and no role knows <b>{words(rest[0])}</b>.</p>\n"
         )
     chart = Chart(protocol, run_of(run), finding).text()
     lines = "".join(line + "\n" for line in run)
@@ -270,8 +286,7 @@ def run_section(protocol, run, report):
     if first[0] == "illegal":
         finding, events = ("bad", int(first[1])), events[: int(first[1])]
         said = (
-            f"<h2>Run: illegal</h2>\n<p>Event {first[1]} of the run, with which the chart ends, may not follow those before it: "
-            f"{why(first[2:])}.</p>\n"
+            f"<h2>Run: illegal</h2>\n<p>Event {first[1]} of the run may not follow those before it: {why(first[2:])}.</p>\n"
         )
     elif second[0] == "conflict":
         finding = ("clash", second[1], int(second[2]), int(second[3]))
@@ -280,7 +295,8 @@ def run_section(protocol, run, report):
         finding = ("plain",)
         said = f"{legal}, and none produces what another has produced in the same enactment.</p>\n"
     lines = f"<p>The lines of <code>bspl replay</code>:</p>\n<pre>{words(report)}</pre>\n"
-    return said + Chart(protocol, events, finding).text() + lines
+    chart = Chart(protocol, events, finding).text() if len(events) <= CHARTED else NOT_DRAWN
+    return said + chart + lines
 
 
 def row(head, cells):
@@ -330,8 +346,9 @@ def fates(dead):
     )
 
 
-def tables(protocol):
+def tables(protocol, dead):
     keys = dict(protocol.params)
+    never = [line.split(" ")[1] for line in dead.splitlines()[1:] if line.split(" ")[2] == "dead"]
     out = [
         '<h2>Messages</h2>\n<table>\n<thead><tr><th scope="col">Message</th><th scope="col">From</th><th scope="col">To</th>'
         '<th scope="col">Parameters</th></tr></thead>\n<tbody>\n'
@@ -343,7 +360,8 @@ def tables(protocol):
         )
     heads = "".join(f'<th scope="col">{words(role)}</th>' for role in protocol.roles)
     out.append(
-        "</tbody>\n</table>\n<h2>Knowledge</h2>\n<table>\n<caption>From which messages each role can learn each parameter.</caption>\n"
+        "</tbody>\n</table>\n<h2>Knowledge</h2>\n<table>\n<caption>From which messages each role can learn each parameter. "
+        "Dead messages are left out.</caption>\n"
         f'<thead><tr><th scope="col">Parameter</th>{heads}</tr></thead>\n<tbody>\n'
     )
     for param, _ in protocol.params:
@@ -352,8 +370,11 @@ def tables(protocol):
             sources = [
                 name
                 for name, (sender, receiver, carried) in protocol.messages.items()
-                if (sender == role and ("out", param) in carried)
-                or (receiver == role and {("in", param), ("out", param)} & set(carried))
+                if name not in never
+                and (
+                    (sender == role and ("out", param) in carried)
+                    or (receiver == role and {("in", param), ("out", param)} & set(carried))
+                )
             ]
             cells.append("<td>" + "".join(f"<span>{words(name)}</span> " for name in sources) + "</td>")
         out.append(f'<tr><th scope="row">{words(param)}</th>{"".join(cells)}</tr>\n')
@@ -372,5 +393,5 @@ def page(text, verdicts, dead, run=None, report="", played=None, events=None):
         '<!DOCTYPE html>\n<html lang="en">\n<head>\n<meta charset="utf-8">\n<meta name="viewport" content="width=device-width">\n'
         f"<title>{title}</title>\n{STYLE}</head>\n<body>\n<h1>{title}</h1>\n"
         f"{''.join(section(protocol, *one) for one in found)}"
-        f"{given}{fates(dead)}{tables(protocol)}</body>\n</html>\n"
+        f"{given}{fates(dead)}{tables(protocol, dead)}</body>\n</html>\n"
     )

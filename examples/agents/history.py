@@ -42,7 +42,7 @@ def audited(protocol, logs):
 
 
 def main():
-    protocol = Protocol(Path(sys.argv[1]).read_text())
+    protocol = Protocol(Path(sys.argv[1]).read_text(encoding="utf-8"))
     logs = dict(given.split("=", 1) for given in sys.argv[2:])
     sys.stdout.write(audited(protocol, {role: Path(log) for role, log in logs.items()}))
 

@@ -1,9 +1,21 @@
 """What a protocol text without references declares. `bspl expand NAME` prints such a text of any protocol."""
 import re
+import sys
 from pathlib import Path
 from typing import NamedTuple
 
 EXAMPLES = Path(__file__).resolve().parent.parent
+MESSAGE = re.compile(r"([\w-]+)\s*->\s*([\w-]+)\s*:\s*([\w#.-]+)\s*\[(.*?)\]", re.S)
+
+
+def declared(text):
+    """The keys, and for each message its sender, its receiver, its name and its parameters with their adornments."""
+    text = re.sub(r"//[^\n]*", " ", text).replace("\u21a6", "->")
+    first = MESSAGE.search(text)
+    head, body = (text[: first.start()], text[first.start() :]) if first else (text, "}")
+    if MESSAGE.sub("", body).strip() != "}":
+        sys.exit("protocol: more than messages; `bspl expand NAME` prints a text without references")
+    return re.findall(r"([\w#.-]+)\s+key(?![\w#.-])", head), MESSAGE.findall(body)
 
 
 class Message(NamedTuple):
@@ -15,9 +27,8 @@ class Message(NamedTuple):
 class Protocol:
     def __init__(self, text):
         self.text = text.rstrip("\n") + "\n"
-        self.name = re.match(r"\s*([\w-]+)", text)[1]
-        self.keys = re.findall(r"([\w#.-]+) key", text[: text.index("->")])
-        found = re.findall(r"([\w-]+)\s*->\s*([\w-]+)\s*:\s*([\w#.-]+)\[(.*?)\]", text, re.S)
+        self.name = re.match(r"(?:\s|//[^\n]*\n)*([\w-]+)", text)[1]
+        self.keys, found = declared(text)
         self.messages = {name: Message(s, r, valued(carried)) for s, r, name, carried in found}
 
 
@@ -27,4 +38,4 @@ def valued(carried):
 
 
 def purchase():
-    return Protocol((EXAMPLES / "Purchase.bspl").read_text())
+    return Protocol((EXAMPLES / "Purchase.bspl").read_text(encoding="utf-8"))

@@ -10,6 +10,8 @@ import json
 import re
 import sys
 
+from protocol import declared
+
 EVENTS, KEYS, LAST = 65536, 10000, 2**64 - 1
 NUMBER = re.compile(r"(?:0|[1-9][0-9]{0,19})\Z")
 TEXT = re.compile(r'"(?:[!#-\[\]-~]|\\[0-9a-f]{2})*"\Z')
@@ -43,8 +45,7 @@ class Message:
 class Role:
     def __init__(self, text, role):
         self.role = role
-        self.keys = re.findall(r"([\w#.-]+) key", text[: text.index("->")])
-        found = re.findall(r"([\w-]+)\s*->\s*([\w-]+)\s*:\s*([\w#.-]+)\[(.*?)\]", text, re.S)
+        self.keys, found = declared(text)
         self.messages = {name: Message(s, r, carried, self.keys) for s, r, name, carried in found}
         self.known, self.seen = {}, {}
         self.clock = self.count = 0
@@ -158,7 +159,7 @@ def main():
     for line in source:
         if line.rstrip(b"\r\n") == b"%% wire":
             break
-        head.append(line.decode())
+        head.append(line.decode(errors="replace"))
     role = Role("".join(head), sys.argv[2])
     for line in source:
         sink.write(json.dumps(role.answer(line), sort_keys=True, separators=(",", ":")).encode() + b"\n")

@@ -1,6 +1,6 @@
 -- The tables of a protocol: its messages, and from which of them each role learns a parameter.
-use Rattle.std.specs.Prelude.{ℕ, ◌==◌, Bool, ◌&&◌, ◌||◌, if◌then◌else◌, List, [], ◌∷◌, ◌++◌}
-use Rattle.std.specs.Prelude.{slice_index_or}
+use Rattle.std.specs.Prelude.{ℕ, ◌==◌, Bool, false, not, ◌&&◌, ◌||◌, if◌then◌else◌}
+use Rattle.std.specs.Prelude.{List, [], ◌∷◌, ◌++◌, slice_index_or}
 use Rattle.std.specs.List.{enumerate_from, flat_map, list_any}
 use Rattle.bspl_types.specs.declared.expanded.Expanded.{Expanded}
 use Rattle.bspl_types.specs.declared.protocol.Adornment.{Adornment}
@@ -57,22 +57,27 @@ is_source p role m =
     (m.sender == role && list_any (λ c. c.param == p && is_out c.adornment) m.carried) ||
     (m.receiver == role && list_any (λ c. c.param == p && has_value c.adornment) m.carried)
 
--- the name of a message from which the role can learn the parameter
-abbrev pub source_item : ℕ → ℕ → Message → List Fragment
-source_item p role m =
-    if is_source p role m then fitted wording.SOURCE.now (Words m.name ∷ []) else []
+-- the name of a message, if it is not dead and the role can learn the parameter from it
+abbrev pub source_name : Bool → ℕ → ℕ → Message → List Fragment
+source_name dead p role m =
+    if not dead && is_source p role m then fitted wording.SOURCE.now (Words m.name ∷ []) else []
+
+-- so it is for message m, of which the list says whether it is dead
+abbrev pub source_item : List Bool → ℕ → ℕ → ℕ × Message → List Fragment
+source_item dead p role (m, message) = source_name (slice_index_or dead m false) p role message
 
 -- the messages from which the role can learn the parameter
-abbrev pub source_cell : Expanded → ℕ → ℕ → List Fragment
-source_cell x p role =
-    fitted wording.CELL.now [] ++ flat_map (source_item p role) x.messages ++
+abbrev pub source_cell : Expanded → List Bool → ℕ → ℕ → List Fragment
+source_cell x dead p role =
+    fitted wording.CELL.now [] ++
+    flat_map (source_item dead p role) (enumerate_from 0 x.messages) ++
     fitted wording.CELL_END.now []
 
 -- the row of a parameter: its name, and a cell for each role
-abbrev pub source_row : Expanded → ℕ × ParamInfo → List Fragment
-source_row x (p, info) =
+abbrev pub source_row : Expanded → List Bool → ℕ × ParamInfo → List Fragment
+source_row x dead (p, info) =
     fitted wording.SOURCES.now (Words info.name ∷ []) ++
-    flat_map (λ (role, _). source_cell x p role) (enumerate_from 0 x.roles) ++
+    flat_map (λ (role, _). source_cell x dead p role) (enumerate_from 0 x.roles) ++
     fitted wording.SOURCES_END.now []
 
 -- the head of a role's column
@@ -84,8 +89,8 @@ abbrev pub source_head : Expanded → List Fragment
 source_head x =
     fitted wording.KNOWLEDGE.now [] ++ flat_map role_head x.roles ++ fitted wording.HEADS_END.now []
 
--- the table of what each role can learn, and from which messages
-abbrev pub source_table : Expanded → List Fragment
-source_table x =
-    source_head x ++ flat_map (source_row x) (enumerate_from 0 x.params) ++
+-- the table of what each role can learn, and from which messages that are not dead
+abbrev pub source_table : Expanded → List Bool → List Fragment
+source_table x dead =
+    source_head x ++ flat_map (source_row x dead) (enumerate_from 0 x.params) ++
     fitted wording.TABLE_END.now []

@@ -11,6 +11,6 @@ mod wording;
 pub use fragment::{Fragment, fill, push_fragments};
 pub use laws::{bytes_are_shown, marks_are_those_of_tags, templates_keep_their_marks};
 pub use messages::push_messages;
-pub use names::{param_name, role_name};
+pub use names::{is_key, param_name, role_name};
 pub use sources::push_sources;
 pub use wording::{STYLE, TABLE_END};

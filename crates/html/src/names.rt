@@ -27,7 +27,7 @@ pub fn param_name(x: &Expanded, param: u32) -> &[u8]
 }
 
 /// Whether the parameter with this number is a key.
-pub(crate) fn is_key(x: &Expanded, param: u32) -> bool
+pub fn is_key(x: &Expanded, param: u32) -> bool
     ensures { result ≡ is_key x.now param }
 {
     match x.params.as_slice().get(param as usize) {

@@ -39,7 +39,8 @@ pub(crate) const NIL: &[u8] = b"nil";
 
 /// The caption of the table of what each role can learn, and the head of its first column.
 pub(crate) const KNOWLEDGE: &[u8] = b"<h2>Knowledge</h2>\n<table>\n\
-    <caption>From which messages each role can learn each parameter.</caption>\n\
+    <caption>From which messages each role can learn each parameter. Dead messages are left \
+    out.</caption>\n\
     <thead><tr><th scope=\"col\">Parameter</th>";
 /// The head of a role's column.
 pub(crate) const ROLE_HEAD: &[u8] = b"<th scope=\"col\">$</th>";
@@ -66,14 +67,14 @@ pub const STYLE: &[u8] = b"\
 body{margin:2em auto;max-width:64em;padding:0 1em;background:var(--paper);\
 color:var(--ink);font:16px/1.45 system-ui,sans-serif}\n\
 h1,h2,p{overflow-wrap:anywhere}\nh2{margin-top:1.6em}\n\
-table{border-collapse:collapse}\n\
+table{display:block;overflow-x:auto;border-collapse:collapse}\n\
 caption{text-align:left;color:var(--soft);padding-bottom:.4em}\n\
 th,td{text-align:left;vertical-align:top;padding:3px 12px 3px 0;\
-border-bottom:1px solid var(--line);overflow-wrap:anywhere}\n\
+border-bottom:1px solid var(--line);overflow-wrap:break-word}\n\
 .v{font:14px/22px ui-monospace,monospace}\n\
 .v>*{display:inline-block;margin-right:.6em}\n\
 pre{background:var(--band);padding:.6em 1em;white-space:pre-wrap;\
 overflow-wrap:anywhere;font:14px/22px ui-monospace,monospace}\n\
 @media print{body{margin:0;max-width:none;padding:0;font-size:12px}\n\
-.v,pre{font-size:11px;line-height:16px}\n\
+.v,pre{font-size:11px;line-height:16px}\ntable{display:table}\n\
 tr{break-inside:avoid}\nh2,caption{break-after:avoid}}\n";

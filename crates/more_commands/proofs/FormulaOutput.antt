@@ -5,10 +5,10 @@ use Rattle.bspl_types.specs.declared.refusals.Refusal.{Refusal}
 use Rattle.bspl_types.specs.Limits.{input_limit}
 use Rattle.formula_text.specs.FormulaText.{IsEnactText}
 use Rattle.formula_text.specs.Laws.{OneEnactText, OneText}
-use Rattle.tool_frame.specs.Interface.{RequestsInput, task_bytes}
-use Rattle.tool_frame.specs.Laws.{OneTask}
-use Rattle.tool_frame.specs.Output.{AnswersInput, Output, done, refused, usage}
-use Rattle.tool_frame.specs.Refusals.{Refuses, RefusesInput, command, no_part, text}
+use Rattle.tool_input.specs.Interface.{RequestsInput, task_bytes}
+use Rattle.tool_input.specs.TaskLaws.{OneTask}
+use Rattle.tool_input.specs.Output.{AnswersInput, Output, done, refused, usage}
+use Rattle.tool_input.specs.Refusals.{Refuses, RefusesInput, command, no_part, text}
 use Rattle.tool_input.specs.declared.rejection.Rejection.{Rejection}
 use Rattle.tool_input.specs.declared.status.Status.{Status}
 use Rattle.tool_input.specs.declared.status.Status.TheVariants.{Refused}

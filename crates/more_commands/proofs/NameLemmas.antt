@@ -7,6 +7,7 @@ use Rattle.bspl_types.specs.Expansion.{message_name}
 use Rattle.enactability.specs.declared.outcome.Enact.{Enact}
 use Rattle.enactability.specs.declared.outcome.Enact.TheVariants.{Dead, Enacted, Undecided}
 use Rattle.list_base.specs.Numeral.{numeral}
+use Rattle.more_commands.specs.declared.wording.TheConstants as wording
 use Rattle.more_commands.specs.CanAnswer.{answer_line}
 use Rattle.more_commands.specs.inner.Text.{front}
 
@@ -34,11 +35,12 @@ regroup a b c d = simp append_assoc
 -- the line of an answer, as it is written
 pub line_written : (old : List ℕ) (x : Expanded) (messages : List ℕ) (enact : Enact) → ((old ++ front enact) ++ names_of x messages) ++ codes "\n" ≡ old ++ answer_line x messages enact
 line_written old x messages (Enacted run) =
-    regroup old (codes "together") (names_of x messages) (codes "\n") ∙ ap (λ (text : List ℕ). old ++ (text ++ codes "\n")) (sym (names_joined x (codes "together") messages))
+    regroup old (wording.TOGETHER.now) (names_of x messages) (codes "\n") ∙ ap (λ (text : List ℕ). old ++ (text ++ codes "\n")) (sym (names_joined x (wording.TOGETHER.now) messages))
 line_written old x messages (Dead log) =
-    regroup old (codes "never") (names_of x messages) (codes "\n") ∙ ap (λ (text : List ℕ). old ++ (text ++ codes "\n")) (sym (names_joined x (codes "never") messages))
+    regroup old (wording.NEVER.now) (names_of x messages) (codes "\n") ∙ ap (λ (text : List ℕ). old ++ (text ++ codes "\n")) (sym (names_joined x (wording.NEVER.now) messages))
 line_written old x messages (Undecided log) =
     let count = numeral (length log.steps) in
-    let joined : (codes "undecided " ++ count) ++ names_of x messages ≡ codes "undecided" ++ 32 ∷ join_with_byte 32 (count ∷ map (message_name x) messages) =
-    append_assoc (codes "undecided ") count (names_of x messages) ∙ ap (λ (rest : List ℕ). codes "undecided " ++ rest) (sym (names_joined x count messages)) in
-    regroup old (codes "undecided " ++ count) (names_of x messages) (codes "\n") ∙ ap (λ (text : List ℕ). old ++ (text ++ codes "\n")) joined
+    let word = wording.UNDECIDED.now in
+    let joined : (word ++ 32 ∷ count) ++ names_of x messages ≡ word ++ 32 ∷ join_with_byte 32 (count ∷ map (message_name x) messages) =
+    append_assoc word (32 ∷ count) (names_of x messages) ∙ ap (λ (rest : List ℕ). word ++ 32 ∷ rest) (sym (names_joined x count messages)) in
+    regroup old (word ++ 32 ∷ count) (names_of x messages) (codes "\n") ∙ ap (λ (text : List ℕ). old ++ (text ++ codes "\n")) joined

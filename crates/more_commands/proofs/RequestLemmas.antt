@@ -2,7 +2,7 @@
 use Rattle.std.proofs.Common.{◌≡◌, ◌==◌, ℕ, List, [], cond, drop, get_or, refl, sym, ap, subst, ◌∙◌}
 use Rattle.bspl_tool.specs.declared.task.Task.{Task}
 use Rattle.bspl_tool.specs.Interface.{tool_interface}
-use Rattle.tool_frame.specs.Laws.{LongIsRefusedAlike, OneTask}
+use Rattle.tool_input.specs.TaskLaws.{LongIsRefusedAlike, OneTask}
 use Rattle.more_commands.specs.declared.word.CommandWord.{CommandWord}
 use Rattle.more_commands.specs.declared.word.CommandWord.TheVariants as word
 use Rattle.more_commands.specs.CanArguments.{AsksCan, CanTask}

@@ -1,5 +1,5 @@
 -- What is written for a command line is an output of the tool, and then words.
-use Rattle.std.proofs.Common.{◌≡◌, ℕ, ◌≤◌, List, [], ◌∷◌, ◌++◌, codes, drop, get_or, length, Option, None, Some, refl, sym, ap, subst, ◌∙◌}
+use Rattle.std.proofs.Common.{◌≡◌, ℕ, ◌≤◌, List, [], ◌∷◌, ◌++◌, drop, get_or, length, Option, None, Some, refl, sym, ap, subst, ◌∙◌}
 use Rattle.std.proofs.lemmas.List.{append-nil}
 use Rattle.answer_words.specs.declared.fault.Fault.{Fault}
 use Rattle.answer_words.specs.Fault.{fault_of}
@@ -11,16 +11,19 @@ use Rattle.bspl_tool.specs.Interface.{tool_interface}
 use Rattle.bspl_tool.specs.Task.{task_rules}
 use Rattle.bspl_types.specs.declared.expanded.Expanded.{Expanded}
 use Rattle.bspl_types.specs.Limits.{input_limit}
-use Rattle.tool_frame.specs.Interface.{HasTask, RequestsInput, task_bytes}
-use Rattle.tool_frame.specs.Output.{AnswersInput, DoesTask, IsRefusedCall, Output, done, refused, usage}
-use Rattle.tool_frame.specs.Refusals.{IsReadFor, Refuses, RefusesInput, command, no_part, text}
+use Rattle.tool_input.specs.Interface.{HasTask, RequestsInput, task_bytes}
+use Rattle.tool_input.specs.Output.{AnswersInput, DoesTask, IsRefusedCall, Output, done, refused, usage}
+use Rattle.tool_input.specs.Refusals.{IsReadFor, Refuses, RefusesInput, command, no_part, text}
 use Rattle.tool_input.specs.declared.rejection.Rejection.{Rejection}
 use Rattle.tool_input.specs.declared.status.Status.{Status}
 use Rattle.tool_input.specs.declared.status.Status.TheVariants.{Refused}
+use Rattle.tool_input.specs.Input.{Declares}
+use Rattle.tool_input.specs.Parts.{protocol_text}
 use Rattle.tool_input.specs.Rejection.{rejection_line}
 use Rattle.more_commands.specs.declared.word.CommandWord.TheVariants as word
 use Rattle.more_commands.specs.ExplainAnswer.{AnswersInWords, explain_rules}
-use Rattle.more_commands.specs.Laws.{AddsWords}
+use Rattle.more_commands.specs.Laws.{AddsWords, AreWordsAfter, AreWordsFor}
+use Rattle.more_commands.specs.StatusWords.{status_words}
 use Rattle.more_commands.specs.Task.{AsksTask, Explain, IsMoreRefusal, MoreTask, RequestsMore, more_interface, more_own_text, more_rules, task_word, word_text}
 use Rattle.more_commands.proofs.RequestLemmas.{is_explain, one_command}
 
@@ -34,10 +37,10 @@ refusal_words input r out None is = ([], is ∙ sym (append-nil (rejection_line 
 refusal_words input r out (Some fault) is = fault_words input r fault out is
 
 -- the words of an answer come after that of the tool
-answer_words : (task : Task) (x : Expanded) (given out : List ℕ) (status : Status) → AnswersInWords task x given out status → (text : List ℕ) × ((words : List ℕ) × ((out ≡ text ++ words) × (task_rules task).answers x given text status))
-answer_words (tasks.Verify brief budget) x given out status is =
-    (is.verdict_text, (is.words, (is.text, record { verdicts = is.verdicts; answer = is.answer; ends = is.ends })))
-answer_words task x given out status is = (out, ([], (sym (append-nil out), is)))
+answer_words : (task : Task) (name input : List ℕ) (x : Expanded) (given out : List ℕ) (status : Status) → Declares name (protocol_text input) x → AnswersInWords task x given out status → (text : List ℕ) × ((words : List ℕ) × ((out ≡ text ++ words) × ((task_rules task).answers x given text status × AreWordsAfter task name input text status words)))
+answer_words (tasks.Verify brief budget) name input x given out status declared is =
+    (is.verdict_text, (is.words, (is.text, (record { verdicts = is.verdicts; answer = is.answer; ends = is.ends }, record { x = x; declared = declared; verdicts = is.verdicts; is_text = is.answer; are_words = is.are_words }))))
+answer_words task name input x given out status declared is = (is.answer, (status_words task status, (is.text, (is.right, refl))))
 
 -- a refusal of the task in words is one of the task
 tool_refuses : (task : Task) (name input : List ℕ) (r : Rejection) → RefusesInput (explain_rules task) name input r → RefusesInput (task_rules task) name input r
@@ -45,11 +48,11 @@ tool_refuses task name input _ (no_part part lacks) = no_part part (record { is_
 tool_refuses task name input _ (text given refusal r has refuses is) = text given refusal r has refuses is
 tool_refuses task name input _ (command given x r has declared refuses) = command given x r has declared refuses
 
-module _ (args rest : List (List ℕ)) (bytes : List ℕ) (about : args ≡ codes "explain" ∷ rest) where
+module _ (args rest : List (List ℕ)) (bytes : List ℕ) (about : args ≡ word_text word.Explain ∷ rest) where
   -- what such arguments request is a task of the tool
   tool_task : (task : MoreTask) (name : List ℕ) → RequestsMore args task name → (found : Task) × (task ≡ Explain found) × Requests rest found name
   tool_task task name requested =
-      let both : word_text (task_word task) ∷ requested.rest ≡ codes "explain" ∷ rest = sym requested.arguments ∙ about in
+      let both : word_text (task_word task) ∷ requested.rest ≡ word_text word.Explain ∷ rest = sym requested.arguments ∙ about in
       let word : task_word task ≡ word.Explain = one_command (task_word task) word.Explain (ap (λ (list : List (List ℕ)). get_or list 0 []) both) in
       let (found, is) = is_explain task word in
       let after : requested.rest ≡ rest = ap (drop 1) both in
@@ -92,6 +95,7 @@ module _ (args rest : List (List ℕ)) (bytes : List ℕ) (about : args ≡ code
         answer = rejection_line r;
         is_answer = Output.refused (rejection_line r) r (record { task = found.0; name = is.name; requested = found.2; reason = tool_reason r is.reason; text = refl });
         words = words.0;
+        are_words = AreWordsFor.refusal found.0 is.name r found.2 refl (subst (IsRefusalText input r) words.1 said);
         is_out = words.1;
       }
 
@@ -100,16 +104,17 @@ module _ (args rest : List (List ℕ)) (bytes : List ℕ) (about : args ≡ code
   answer_added out status is =
       let found = tool_task is.task is.name is.read.requested in
       let answered : AnswersInput (explain_rules found.0) is.name (task_bytes tool_interface found.0 bytes) out status = subst (λ (t : MoreTask). AnswersInput (more_rules t) is.name (task_bytes more_interface t bytes) out status) found.1 is.answered in
-      let words = answer_words found.0 answered.protocol answered.given out status answered.answer in
+      let words = answer_words found.0 is.name (task_bytes tool_interface found.0 bytes) answered.protocol answered.given out status answered.judged answered.answer in
       record {
         answer = words.0;
         is_answer = Output.done words.0 status (record {
           task = found.0;
           name = is.name;
           read = tool_read found.0 is.name found.2 is.read.short;
-          answered = record { given = answered.given; has_given = answered.has_given; protocol = answered.protocol; judged = answered.judged; answer = words.1.1.1 };
+          answered = record { given = answered.given; has_given = answered.has_given; protocol = answered.protocol; judged = answered.judged; answer = words.1.1.1.0 };
         });
         words = words.1.0;
+        are_words = AreWordsFor.task_answer found.0 is.name status found.2 words.1.1.1.1;
         is_out = words.1.1.0;
       }
 

@@ -7,9 +7,9 @@ use Rattle.enactability.specs.declared.outcome.Enact.{Enact}
 use Rattle.enactability.specs.declared.outcome.Enact.TheVariants.{Dead, Enacted, Undecided}
 use Rattle.enactability.specs.Answer.{AreAnswered}
 use Rattle.enactability.specs.Enactable.{AreEnactable, AreMessages}
-use Rattle.tool_frame.specs.Interface.{task_bytes}
-use Rattle.tool_frame.specs.Laws.{OneTask}
-use Rattle.tool_frame.specs.Output.{AnswersInput, DoesTask, Output, done, refused, usage}
+use Rattle.tool_input.specs.Interface.{task_bytes}
+use Rattle.tool_input.specs.TaskLaws.{OneTask}
+use Rattle.tool_input.specs.Output.{AnswersInput, DoesTask, Output, done, refused, usage}
 use Rattle.tool_input.specs.declared.status.Status.{Status}
 use Rattle.tool_input.specs.declared.status.Status.TheVariants as status
 use Rattle.tool_input.specs.Laws.{OneDeclaration}

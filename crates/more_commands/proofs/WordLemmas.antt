@@ -11,6 +11,7 @@ use Rattle.tool_input.specs.declared.status.Status.{Status}
 use Rattle.verdict.specs.declared.outcome.Verdicts.{Verdicts}
 use Rattle.answer_words.specs.VerdictText.{IsVerdictWords}
 use Rattle.more_commands.specs.ExplainAnswer.{AnswersInWords, IsExplainedAnswer}
+use Rattle.more_commands.specs.StatusWords.{status_words}
 
 -- words behind a right answer with verdicts
 pub words_behind : (brief : Bool) (budget : ℕ) (x : Expanded) (v : Verdicts) (said reply : Reply Status) (words : List ℕ) → IsVerdictAnswer brief budget x v said.text → said.status ≡ verdict_status v.safety v.liveness → IsVerdictWords x v words → reply.text ≡ said.text ++ words → reply.status ≡ said.status → IsExplainedAnswer brief budget x reply.text reply.status
@@ -24,7 +25,7 @@ words_behind brief budget x v said reply words answer ends are text status = rec
   ends = status ∙ ends;
 }
 
--- an answer of another task than `verify` has no words
-pub other_answer : (task : Task) → ((brief : Bool) (budget : ℕ) → task ≡ tasks.Verify brief budget → ⊥) → (x : Expanded) (given out : List ℕ) (status : Status) → (task_rules task).answers x given out status → AnswersInWords task x given out status
-other_answer (tasks.Verify brief budget) other x given out status answers = absurd (other brief budget refl)
-other_answer task other x given out status answers = answers
+-- after an answer to another task than `verify` come the words of its status
+pub other_answer : (task : Task) → ((brief : Bool) (budget : ℕ) → task ≡ tasks.Verify brief budget → ⊥) → (x : Expanded) (given answer out : List ℕ) (status : Status) → (task_rules task).answers x given answer status → out ≡ answer ++ status_words task status → AnswersInWords task x given out status
+other_answer (tasks.Verify brief budget) other x given answer out status answers text = absurd (other brief budget refl)
+other_answer task other x given answer out status answers text = record { answer = answer; right = answers; text = text }

@@ -2,7 +2,7 @@
 use Rattle.std.specs.Prelude.{ℕ, List}
 use Rattle.bspl_io.specs.Traffic.{Traffic}
 use Rattle.program_frame.specs.declared.ending.Ending.{Ending}
-use Rattle.tool_frame.specs.Call.{IsToolCall}
+use Rattle.tool_input.specs.Call.{IsToolCall}
 use Rattle.tool_input.specs.declared.status.Status.{Status}
 use Rattle.more_commands.specs.Task.{more_interface}
 

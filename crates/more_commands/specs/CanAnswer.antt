@@ -10,20 +10,21 @@ use Rattle.list_base.specs.Lines.{line_of}
 use Rattle.list_base.specs.Numeral.{numeral}
 use Rattle.refutation_log.specs.declared.refutation.Log.{Log}
 use Rattle.run_text.specs.RunText.{run_text}
-use Rattle.tool_frame.specs.declared.need.Need.TheVariants.{Nothing}
-use Rattle.tool_frame.specs.Rules.{CommandRules}
+use Rattle.tool_input.specs.declared.need.Need.TheVariants.{Nothing}
+use Rattle.tool_input.specs.Rules.{CommandRules}
 use Rattle.tool_input.specs.declared.rejection.Rejection.{Rejection}
 use Rattle.tool_input.specs.declared.status.Status.{Status}
 use Rattle.tool_input.specs.declared.status.Status.TheVariants as status
 use Rattle.tool_input.specs.MessageName.{unknown_message}
+use Rattle.more_commands.specs.declared.wording.TheConstants as wording
 use Rattle.more_commands.specs.CanArguments.{CanTask}
 use Rattle.more_commands.specs.Named.{AreMessageNames, IsFirstUnknown}
 
 -- the word of the answer, and of a search that came to its budget how many steps its log has
 abbrev pub answer_words : Enact → List (List ℕ)
-answer_words (Enacted run) = codes "together" ∷ []
-answer_words (Dead log) = codes "never" ∷ []
-answer_words (Undecided log) = codes "undecided" ∷ numeral (length log.steps) ∷ []
+answer_words (Enacted run) = wording.TOGETHER.now ∷ []
+answer_words (Dead log) = wording.NEVER.now ∷ []
+answer_words (Undecided log) = wording.UNDECIDED.now ∷ numeral (length log.steps) ∷ []
 
 -- its line: that word, and the names of the messages
 abbrev pub answer_line : Expanded → List ℕ → Enact → List ℕ

@@ -2,8 +2,8 @@
 use Rattle.std.specs.Prelude.{◌≡◌, ℕ, List, ⊤}
 use Rattle.bspl_types.specs.declared.expanded.Expanded.{Expanded}
 use Rattle.formula_text.specs.FormulaText.{IsEnactText, IsFormulaText}
-use Rattle.tool_frame.specs.declared.need.Need.TheVariants.{Nothing}
-use Rattle.tool_frame.specs.Rules.{CommandRules}
+use Rattle.tool_input.specs.declared.need.Need.TheVariants.{Nothing}
+use Rattle.tool_input.specs.Rules.{CommandRules}
 use Rattle.tool_input.specs.declared.rejection.Rejection.{Rejection}
 use Rattle.tool_input.specs.declared.status.Status.{Status}
 use Rattle.tool_input.specs.declared.status.Status.TheVariants.{Done}

@@ -1,24 +1,35 @@
 -- What an output says is true, and which outputs are the only ones. Each statement is the contract
 -- of a function.
-use Rattle.std.specs.Prelude.{◌≡◌, ℕ, Bool, List, ◌∷◌, ◌++◌, codes}
+use Rattle.std.specs.Prelude.{◌≡◌, ℕ, Bool, List, ◌∷◌, ◌++◌}
+use Rattle.answer_words.specs.Refusal.{IsRefusalText}
+use Rattle.answer_words.specs.VerdictText.{IsVerdictWords}
+use Rattle.bspl_tool.specs.declared.task.Task.{Task}
+use Rattle.bspl_tool.specs.declared.task.Task.TheVariants.{Verify}
 use Rattle.bspl_tool.specs.Interface.{tool_interface}
+use Rattle.bspl_tool.specs.Request.{Requests}
 use Rattle.bspl_types.specs.declared.expanded.Expanded.{Expanded}
 use Rattle.enactability.specs.Enactable.{AreEnactable}
 use Rattle.enactment_model.specs.Liveness.{LiveProtocol}
 use Rattle.enactment_model.specs.Safety.{SafeProtocol}
-use Rattle.tool_frame.specs.Interface.{HasTask}
-use Rattle.tool_frame.specs.Output.{Output}
+use Rattle.tool_input.specs.Interface.{HasTask, task_bytes}
+use Rattle.tool_input.specs.Output.{Output}
+use Rattle.tool_input.specs.declared.rejection.Rejection.{Rejection}
 use Rattle.tool_input.specs.declared.status.Status.{Status}
-use Rattle.tool_input.specs.declared.status.Status.TheVariants.{Done, Refuted}
+use Rattle.tool_input.specs.declared.status.Status.TheVariants.{Done, Refused, Refuted}
 use Rattle.tool_input.specs.Input.{Declares}
 use Rattle.tool_input.specs.Parts.{protocol_text}
+use Rattle.tool_input.specs.Rejection.{rejection_line}
+use Rattle.verdict.specs.declared.outcome.Verdicts.{Verdicts}
+use Rattle.verdict_commands.specs.VerifyAnswer.{IsVerdictAnswer}
+use Rattle.more_commands.specs.declared.word.CommandWord.TheVariants as word
 use Rattle.more_commands.specs.CanArguments.{CanTask}
 use Rattle.more_commands.specs.ExplainAnswer.{IsExplainedAnswer}
 use Rattle.more_commands.specs.FormulaArguments.{FormulaSubject}
 use Rattle.more_commands.specs.Given.{Given}
 use Rattle.more_commands.specs.Named.{AreMessageNames}
 use Rattle.more_commands.specs.PageAnswer.{IsPageAnswer}
-use Rattle.more_commands.specs.Task.{Can, Formula, RequestsMore, more_interface}
+use Rattle.more_commands.specs.StatusWords.{status_words}
+use Rattle.more_commands.specs.Task.{Can, Formula, RequestsMore, more_interface, word_text}
 
 -- the arguments and the input speak of these messages of this protocol
 pub record AreAskedOf (args : List (List ℕ)) (input : List ℕ) (x : Expanded)
@@ -63,16 +74,42 @@ DoneAnswersAreTrue =
     (brief : Bool) (budget : ℕ) (x : Expanded) (out : List ℕ) →
     IsExplainedAnswer brief budget x out Done → SafeProtocol x × LiveProtocol x
 
--- a right output of the tool for these arguments, with this status, and then words
+-- words on right verdicts on the protocol that the input declares; the answer is their text
+pub record AreVerifyWords (brief : Bool) (budget : ℕ) (name input answer words : List ℕ)
+    : Type 0 where
+  pub x : Expanded
+  pub declared : Declares name (protocol_text input) x
+  pub verdicts : Verdicts
+  pub is_text : IsVerdictAnswer brief budget x verdicts answer
+  pub are_words : IsVerdictWords x verdicts words
+
+-- the words after an answer to the task: those on its verdicts, or those of its status
+abbrev pub AreWordsAfter : Task → List ℕ → List ℕ → List ℕ → Status → List ℕ → Type 0
+AreWordsAfter (Verify brief budget) name input answer status words =
+    AreVerifyWords brief budget name input answer words
+AreWordsAfter task name input answer status words = words ≡ status_words task status
+
+-- the words after the line of a refusal, which explain it; or those after an answer
+pub data AreWordsFor (args : List (List ℕ)) (bytes answer words : List ℕ) : Status → Type 0 where
+  refusal : (task : Task) (name : List ℕ) (r : Rejection) → Requests args task name
+      → answer ≡ rejection_line r
+      → IsRefusalText (task_bytes tool_interface task bytes) r (answer ++ words)
+      → AreWordsFor args bytes answer words Refused
+  task_answer : (task : Task) (name : List ℕ) (status : Status) → Requests args task name
+      → AreWordsAfter task name (task_bytes tool_interface task bytes) answer status words
+      → AreWordsFor args bytes answer words status
+
+-- a right output of the tool for these arguments, with this status, and then the words for it
 pub record AddsWords (args : List (List ℕ)) (bytes out : List ℕ) (status : Status) : Type 0 where
   pub answer : List ℕ
   pub is_answer : Output tool_interface args bytes answer status
   pub words : List ℕ
+  pub are_words : AreWordsFor args bytes answer words status
   pub is_out : out ≡ answer ++ words
 
 -- what `explain` writes for a command line of the tool adds words to an output of the tool
 abbrev pub AnswersAddWords : Type 0
 AnswersAddWords =
     (args rest : List (List ℕ)) (bytes out : List ℕ) (status : Status) →
-    args ≡ codes "explain" ∷ rest → HasTask tool_interface rest →
+    args ≡ word_text word.Explain ∷ rest → HasTask tool_interface rest →
     Output more_interface args bytes out status → AddsWords rest bytes out status

@@ -10,6 +10,7 @@ pub mod FormulaAnswer
 pub mod LratAnswer
 pub mod PageAnswer
 pub mod Given
+pub mod StatusWords
 pub mod ExplainAnswer
 pub mod Laws
 pub mod inner

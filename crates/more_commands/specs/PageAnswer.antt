@@ -11,8 +11,8 @@ use Rattle.page_sections.specs.Page.{page}
 use Rattle.page_sections.specs.VerdictSections.{played_part}
 use Rattle.report.specs.ExitStatus.{verdict_status}
 use Rattle.report.specs.ReplayText.{IsReplayText}
-use Rattle.tool_frame.specs.declared.need.Need.TheVariants.{Input}
-use Rattle.tool_frame.specs.Rules.{CommandRules}
+use Rattle.tool_input.specs.declared.need.Need.TheVariants.{Input}
+use Rattle.tool_input.specs.Rules.{CommandRules}
 use Rattle.tool_input.specs.declared.rejection.Rejection.{Rejection}
 use Rattle.tool_input.specs.declared.status.Status.{Status}
 use Rattle.verdict.specs.declared.outcome.Safety.{Safety}

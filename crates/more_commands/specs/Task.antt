@@ -1,15 +1,15 @@
 -- The commands: what each is asked, by which arguments, and by which rules it answers.
-use Rattle.std.specs.Prelude.{◌≡◌, ℕ, List, [], ◌∷◌, ◌++◌, Option, None, codes, IsTrue}
+use Rattle.std.specs.Prelude.{◌≡◌, ℕ, List, [], ◌∷◌, Option, None, IsTrue}
 use Rattle.answer_words.specs.Refusal.{IsRefusalText}
 use Rattle.bspl_tool.specs.declared.task.Task.{Task}
 use Rattle.bspl_tool.specs.Request.{Requests}
 use Rattle.bspl_tool.specs.Task.{own_text}
 use Rattle.bspl_types.specs.Name.{is_name}
-use Rattle.tool_frame.specs.Interface.{Interface}
-use Rattle.tool_frame.specs.Rules.{CommandRules}
+use Rattle.tool_input.specs.Interface.{Interface}
+use Rattle.tool_input.specs.Rules.{CommandRules}
 use Rattle.tool_input.specs.declared.rejection.Rejection.{Rejection}
-use Rattle.tool_input.specs.Lines.{line}
 use Rattle.tool_input.specs.Rejection.{rejection_line}
+use Rattle.more_commands.specs.declared.wording.TheConstants as wording
 use Rattle.more_commands.specs.declared.word.CommandWord.{CommandWord}
 use Rattle.more_commands.specs.declared.word.CommandWord.TheVariants as word
 use Rattle.more_commands.specs.CanAnswer.{can_rules}
@@ -31,11 +31,11 @@ pub data MoreTask : Type 0 where
 
 -- the text of the word of a command
 abbrev pub word_text : CommandWord → List ℕ
-word_text word.Can = codes "can"
-word_text word.Formula = codes "formula"
-word_text word.Lrat = codes "lrat"
-word_text word.Page = codes "page"
-word_text word.Explain = codes "explain"
+word_text word.Can = wording.CAN.now
+word_text word.Formula = wording.FORMULA.now
+word_text word.Lrat = wording.LRAT.now
+word_text word.Page = wording.PAGE.now
+word_text word.Explain = wording.EXPLAIN.now
 
 -- the word of a task's command
 abbrev pub task_word : MoreTask → CommandWord
@@ -82,18 +82,10 @@ abbrev pub IsMoreRefusal : MoreTask → List ℕ → Rejection → List ℕ → 
 IsMoreRefusal (Explain task) input r out = IsRefusalText input r out
 IsMoreRefusal task input r out = out ≡ rejection_line r
 
--- the line for invalid arguments
-abbrev pub more_usage : List ℕ
-more_usage =
-    line (codes "usage: bspl_more COMMAND NAME ..: " ++
-    codes "can NAME MESSAGE .. [--brief] [--conflicts N] | " ++
-    codes "formula NAME safety|liveness|dead MESSAGE | lrat NAME | page NAME | " ++
-    codes "explain COMMAND NAME ..")
-
 -- the commands together
 abbrev pub more_interface : Interface MoreTask
 more_interface = record {
-  usage = more_usage;
+  usage = wording.USAGE.now;
   requests = RequestsMore;
   rules = more_rules;
   own_text = more_own_text;

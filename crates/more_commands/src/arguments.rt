@@ -12,7 +12,7 @@ use bspl_tool::ToolQuestion;
 use bspl_types::is_name;
 use list_base::NoMemory;
 use std::alloc::Global;
-use tool_frame::Question;
+use tool_input::Question;
 
 /// What the arguments after the word of a command ask, if they are valid.
 pub(crate) fn question_of<'a>(

@@ -1,14 +1,13 @@
 ghost use Rattle.std.specs.Prelude.{map, string_bytes};
 ghost use Rattle.program_frame.specs.Call.{AreCounted};
-ghost use Rattle.tool_frame.specs.Call.{fault_counts, traffic_of};
+ghost use Rattle.tool_input.specs.Call.{fault_counts, traffic_of};
 ghost use Rattle.more_commands.specs.Call.{IsMoreCall};
 
 use super::question::MoreQuestion;
 use bspl_io::{Sink, Source};
 use program_frame::{Ending, serve};
 use std::alloc::Global;
-use tool_frame::Request;
-use tool_input::Status;
+use tool_input::{Request, Status};
 
 /// Reads what the arguments request, and writes the answer of the command.
 pub fn bspl_more<R: Source, W: Sink>(

@@ -1,7 +1,7 @@
 ghost use Rattle.std.specs.Prelude.{◌≡◌, ◌≤◌, length, IfErr, IfOk};
 ghost use Rattle.enactability.specs.Answer.{AreAnswered, HasEnactLogInRange};
 ghost use Rattle.enactability.specs.Enactable.{AreMessages};
-ghost use Rattle.tool_frame.specs.Error.{RejectsFor};
+ghost use Rattle.tool_input.specs.Error.{RejectsFor};
 ghost use Rattle.verdict_commands.specs.EnactedRun.{EnactedRunFits};
 ghost use Rattle.more_commands.specs.CanAnswer.{AnswersCan, IsCanAnswer, IsCanRefused, answer_status};
 ghost use Rattle.more_commands.specs.inner.Question.{can_task};
@@ -15,8 +15,7 @@ use enactability::{Enact, EnactSearch};
 use list_base::NoMemory;
 use program_frame::Reply;
 use std::alloc::Global;
-use tool_frame::AnswerError;
-use tool_input::{Status, unknown_message};
+use tool_input::{AnswerError, Status, unknown_message};
 
 /// Answers `can`.
 pub fn can(

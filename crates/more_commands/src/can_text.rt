@@ -8,6 +8,7 @@ ghost use Rattle.verdict_commands.specs.EnactedRun.{EnactedRunFits};
 ghost use Rattle.more_commands.specs.CanAnswer.{answer_line, can_answer_text, evidence, dead_log_part};
 ghost use Rattle.more_commands.specs.inner.Text.{front};
 
+use super::wording::{NEVER, TOGETHER, UNDECIDED};
 use bspl_types::{Admitted, Expanded};
 use enactability::{Enact, write_dead_together};
 use list_base::{Bytes, NoMemory};
@@ -57,10 +58,11 @@ fn push_front(text: &mut Bytes, enact: &Enact) -> Result<(), NoMemory>
     ensures { OnOk result (text.new ≡ text.old ++ front enact.now) }
 {
     match enact {
-        Enact::Enacted(_) => text.append(b"together"),
-        Enact::Dead(_) => text.append(b"never"),
+        Enact::Enacted(_) => text.append(TOGETHER),
+        Enact::Dead(_) => text.append(NEVER),
         Enact::Undecided(log) => {
-            text.append(b"undecided ")?;
+            text.append(UNDECIDED)?;
+            text.push(b' ')?;
             push_decimal(text, log.steps.len() as u64)
         }
     }

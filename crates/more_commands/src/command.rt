@@ -1,7 +1,7 @@
 ghost use Rattle.std.specs.Prelude.{◌≡◌, ◌↔◌, ◌≤◌, None, length, IfErr, IfOk, IfSome, IsTrue};
 ghost use Rattle.answer_words.specs.Refusal.{IsRefusalText};
 ghost use Rattle.bspl_types.specs.Limits.{input_limit};
-ghost use Rattle.tool_frame.specs.Error.{RejectsFor};
+ghost use Rattle.tool_input.specs.Error.{RejectsFor};
 ghost use Rattle.tool_input.specs.declared.status.Status.TheVariants.{Refused};
 ghost use Rattle.more_commands.specs.Task.{IsMoreRefusal, more_own_text, more_rules};
 ghost use Rattle.more_commands.specs.inner.Question.{more_task};
@@ -19,8 +19,7 @@ use bspl_types::Admitted;
 use list_base::{Bytes, NoMemory};
 use program_frame::Reply;
 use std::alloc::Global;
-use tool_frame::{AnswerError, Need};
-use tool_input::{Part, Rejection, Status};
+use tool_input::{AnswerError, Need, Part, Rejection, Status};
 
 /// A command, with what its arguments ask of a protocol.
 #[derive(Drop)]

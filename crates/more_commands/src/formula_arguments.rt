@@ -6,6 +6,7 @@ ghost use Rattle.more_commands.specs.inner.Question.{IsAskedBy, subject_of};
 
 use super::command::MoreCommand;
 use super::question::MoreQuestion;
+use super::wording::{DEAD, LIVENESS, SAFETY};
 use bspl_types::{Property, is_name};
 
 /// Which formula of a protocol.
@@ -50,9 +51,9 @@ fn property_of(word: &[u8]) -> Option<Property>
         ((property : SpecProperty) → word.now ≢ property_word property)
         (λ property. word.now ≡ property_word property) }
 {
-    if word == b"safety".as_slice() {
+    if word == SAFETY {
         Some(Property::Safety)
-    } else if word == b"liveness".as_slice() {
+    } else if word == LIVENESS {
         Some(Property::Liveness)
     } else {
         None
@@ -65,7 +66,7 @@ fn message_asked<'a>(word: &[u8], message: &'a [u8]) -> Option<FormulaArgs<'a>>
         ((subject : FormulaSubject) → ¬ NamesFormula (word.now ∷ message.now ∷ []) subject)
         (λ args. NamesFormula (word.now ∷ message.now ∷ []) (subject_of args)) }
 {
-    if word == b"dead".as_slice() && is_name(message) {
+    if word == DEAD && is_name(message) {
         Some(FormulaArgs::Message(message))
     } else {
         None

@@ -1,5 +1,5 @@
 ghost use Rattle.std.specs.Prelude.{◌≡◌, IfErr, IfOk};
-ghost use Rattle.tool_frame.specs.Error.{RejectsFor};
+ghost use Rattle.tool_input.specs.Error.{RejectsFor};
 ghost use Rattle.tool_input.specs.declared.status.Status.TheVariants.{Done};
 ghost use Rattle.more_commands.specs.FormulaAnswer.{IsFormulaRefused, PrintsFormula};
 ghost use Rattle.more_commands.specs.inner.Question.{subject_of};
@@ -10,8 +10,7 @@ use formula_text::{enact_formula_text, formula_text};
 use list_base::Bytes;
 use program_frame::Reply;
 use std::alloc::Global;
-use tool_frame::AnswerError;
-use tool_input::{Status, message_named, unknown_message};
+use tool_input::{AnswerError, Status, message_named, unknown_message};
 
 /// Answers `formula`.
 pub fn formula(

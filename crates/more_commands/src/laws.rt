@@ -3,8 +3,7 @@ ghost use Rattle.more_commands.specs.Laws.{NeverIsTrue, OneFormulaOutput, Togeth
 
 use super::question::MoreQuestion;
 use formula_text::one_text;
-use tool_frame::Question;
-use tool_input::{messages_are_named_once, texts_are_judged_once};
+use tool_input::{Question, messages_are_named_once, texts_are_judged_once};
 
 /// A law: what an output of `can` says of the messages is true of the protocol that the input
 /// declares.
@@ -44,7 +43,8 @@ pub fn done_answers_are_true()
     ensures { DoneAnswersAreTrue }
 {}
 
-/// A law: what `explain` writes for a command line is an output of the tool for it, and then words.
+/// A law: what `explain` writes is an output of the tool for the same command line, and then words:
+/// on its refusal, its verdicts or its status.
 pub fn answers_add_words()
     ensures { AnswersAddWords }
 {}

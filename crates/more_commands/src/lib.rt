@@ -20,7 +20,9 @@ mod lrat_command;
 mod page_command;
 mod pages;
 mod question;
+mod status_words;
 mod word;
+mod wording;
 
 pub use call::bspl_more;
 pub use can_args::CanArgs;

@@ -1,7 +1,7 @@
 ghost use Rattle.std.specs.Prelude.{◌≤◌, length, IfErr, IfOk};
 ghost use Rattle.bspl_types.specs.Limits.{input_limit};
 ghost use Rattle.evidence_commands.specs.CheckAnswer.{IsCheckRefused};
-ghost use Rattle.tool_frame.specs.Error.{RejectsFor};
+ghost use Rattle.tool_input.specs.Error.{RejectsFor};
 ghost use Rattle.more_commands.specs.LratAnswer.{IsProofAnswer, IsLratAnswer};
 
 use bspl_types::Admitted;
@@ -14,8 +14,7 @@ use protocol_check::property_of;
 use refutation_log::{Kind, Log, read_log, steps_are_fewer_than_bytes};
 use rejections::{log_rejection, reject_line};
 use std::alloc::Global;
-use tool_frame::{AnswerError, error_for};
-use tool_input::Status;
+use tool_input::{AnswerError, Status, error_for};
 
 /// Answers `lrat` on the text of a log.
 pub fn lrat(alloc: Global, protocol: &Admitted, part: &[u8]) -> Result<Reply<Status>, AnswerError>

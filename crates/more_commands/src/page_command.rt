@@ -1,5 +1,5 @@
 ghost use Rattle.std.specs.Prelude.{IfErr, IfOk};
-ghost use Rattle.tool_frame.specs.Error.{RejectsFor};
+ghost use Rattle.tool_input.specs.Error.{RejectsFor};
 ghost use Rattle.more_commands.specs.PageAnswer.{IsPageRefused, ShowsInput};
 
 use super::pages::{page_answer, page_with_agents, page_with_run};
@@ -10,8 +10,7 @@ use rejections::{run_rejection, script_rejection};
 use run_text::read_run;
 use script_text::read_scripts;
 use std::alloc::Global;
-use tool_frame::{AnswerError, error_for};
-use tool_input::{Part, Status, needed_part};
+use tool_input::{AnswerError, Part, Status, error_for, needed_part};
 
 /// Answers `page` on the whole input, which may give a run or agents beside the protocol.
 pub fn page(alloc: Global, protocol: Admitted, input: &[u8]) -> Result<Reply<Status>, AnswerError>

@@ -1,22 +1,18 @@
 ghost use Rattle.std.specs.Prelude.{◌≡◌, ⊤, IfOk};
-ghost use Rattle.tool_frame.specs.Answer.{IsRightAnswer, RepliesWith};
-ghost use Rattle.tool_frame.specs.Laws.{LongIsRefusedAlike, OneTask};
-ghost use Rattle.more_commands.specs.Task.{more_interface, more_usage};
+ghost use Rattle.tool_input.specs.Answer.{IsRightAnswer, RepliesWith};
+ghost use Rattle.tool_input.specs.TaskLaws.{LongIsRefusedAlike, OneTask};
+ghost use Rattle.more_commands.specs.Task.{more_interface};
 
 use super::arguments::question_of;
 use super::command::MoreCommand;
 use super::word::word_of;
+use super::wording::USAGE;
 use bspl_tool::ToolQuestion;
 use bspl_types::Admitted;
 use list_base::{Bytes, NoMemory};
 use program_frame::Reply;
 use std::alloc::Global;
-use tool_frame::{AnswerError, Need, Question};
-use tool_input::{Rejection, Status};
-
-/// The line for arguments that request nothing.
-const USAGE: &[u8] =
-    b"usage: bspl_more COMMAND NAME ..: can NAME MESSAGE .. [--brief] [--conflicts N] | formula NAME safety|liveness|dead MESSAGE | lrat NAME | page NAME | explain COMMAND NAME ..\n";
+use tool_input::{AnswerError, Need, Question, Rejection, Status};
 
 /// A command on the protocol of a name.
 #[derive(Drop)]
@@ -27,7 +23,7 @@ pub struct MoreQuestion<'a> {
 
 impl<'a> Question<'a> for MoreQuestion<'a> {
     ghost use Rattle.std.specs.Prelude.{⊤};
-    ghost use Rattle.tool_frame.specs.Answer.{RepliesWith};
+    ghost use Rattle.tool_input.specs.Answer.{RepliesWith};
     ghost use Rattle.more_commands.specs.Task.{MoreTask, more_interface};
     ghost use Rattle.more_commands.specs.inner.Question.{more_task};
 
@@ -56,7 +52,7 @@ impl<'a> Question<'a> for MoreQuestion<'a> {
     }
 
     fn usage() -> &'static [u8]
-        ensures { result.now ≡ more_usage }
+        ensures { result.now ≡ more_interface.usage }
     {
         USAGE
     }

@@ -2,6 +2,8 @@ ghost use Rattle.std.specs.Prelude.{◌≡◌, ◌≢◌, MatchOption};
 ghost use Rattle.more_commands.specs.declared.word.CommandWord.{CommandWord as SpecWord};
 ghost use Rattle.more_commands.specs.Task.{word_text};
 
+use super::wording;
+
 /// The word of a command.
 #[derive(Clone, Copy, Debug, PartialEq, Eq)]
 pub enum CommandWord {
@@ -18,15 +20,15 @@ pub(crate) fn word_of(text: &[u8]) -> Option<CommandWord>
         ((word : SpecWord) → text.now ≢ word_text word)
         (λ word. text.now ≡ word_text word) }
 {
-    if text == b"can".as_slice() {
+    if text == wording::CAN {
         Some(CommandWord::Can)
-    } else if text == b"formula".as_slice() {
+    } else if text == wording::FORMULA {
         Some(CommandWord::Formula)
-    } else if text == b"lrat".as_slice() {
+    } else if text == wording::LRAT {
         Some(CommandWord::Lrat)
-    } else if text == b"page".as_slice() {
+    } else if text == wording::PAGE {
         Some(CommandWord::Page)
-    } else if text == b"explain".as_slice() {
+    } else if text == wording::EXPLAIN {
         Some(CommandWord::Explain)
     } else {
         None

@@ -15,6 +15,12 @@ is_sent Sent = true
 is_sent Dead = false
 is_sent Undecided = false
 
+-- no legal run sends it
+abbrev pub is_never_sent : Fate → Bool
+is_never_sent Sent = false
+is_never_sent Dead = true
+is_never_sent Undecided = false
+
 -- the item of a message, unless some legal run sends it
 abbrev pub fate_item : Expanded → ℕ × Fate → List Fragment
 fate_item x (m, Sent) = []

@@ -1,5 +1,5 @@
 -- The page of a protocol, of the verdicts on it, and of a section that is given.
-use Rattle.std.specs.Prelude.{ℕ, List, [], ◌∷◌, ◌++◌}
+use Rattle.std.specs.Prelude.{ℕ, List, [], ◌∷◌, ◌++◌, map}
 use Rattle.bspl_types.specs.declared.expanded.Expanded.{Expanded}
 use Rattle.verdict.specs.declared.outcome.Liveness.{Liveness}
 use Rattle.verdict.specs.declared.outcome.Liveness.TheVariants as liveness
@@ -12,7 +12,7 @@ use Rattle.html.specs.Tables.{message_table, source_table}
 use Rattle.message_fates.specs.declared.fate.Fate.{Fate}
 use Rattle.page_sections.specs.declared.wording.TheConstants.{LIVE, NOT_LIVE, PAGE_END, PAGE_HEAD}
 use Rattle.page_sections.specs.declared.wording.TheConstants.{SAFE, UNDECIDED, UNSAFE}
-use Rattle.page_sections.specs.Fates.{fates_section}
+use Rattle.page_sections.specs.Fates.{fates_section, is_never_sent}
 use Rattle.page_sections.specs.VerdictSections.{liveness_section, safety_section}
 
 -- the verdict on safety in a word
@@ -44,7 +44,8 @@ page_verdicts x v =
 -- which messages are dead, the messages, and what roles can learn
 abbrev pub page_tables : Expanded → List Fate → List Fragment
 page_tables x fates =
-    fates_section x fates ++ message_table x ++ source_table x ++ Tag PAGE_END.now ∷ []
+    fates_section x fates ++ message_table x ++ source_table x (map is_never_sent fates) ++
+    Tag PAGE_END.now ∷ []
 
 -- the page: these, and between them what is shown of a run or a world
 abbrev pub page : Expanded → Verdicts → List Fate → List Fragment → List Fragment

@@ -1,14 +1,15 @@
-ghost use Rattle.std.specs.Prelude.{◌≡◌, ◌++◌, not, OnOk};
+ghost use Rattle.std.specs.Prelude.{◌≡◌, ◌++◌, map, not, IfOk, OnOk};
 ghost use Rattle.std.specs.List.{enumerate_from, flat_map, list_any};
 ghost use Rattle.bspl_types.specs.Expansion.{message_name};
 ghost use Rattle.html.specs.Fragment.{as_html};
-ghost use Rattle.page_sections.specs.Fates.{fate_item, fates_list, fates_section, is_sent};
+ghost use Rattle.page_sections.specs.Fates.{fate_item, fates_list, fates_section, is_never_sent, is_sent};
 
 use super::wording::{DEAD_END, DEAD_START, IS_DEAD, IS_UNDECIDED, NONE_DEAD};
 use bspl_types::Expanded;
 use html::{Fragment, fill, push_fragments};
-use list_base::{Bytes, NoMemory};
+use list_base::{Bytes, NoMemory, Seq};
 use message_fates::Fate;
+use std::alloc::Global;
 
 /// Appends which of the messages are dead, from the fates of all messages in order.
 pub(crate) fn push_fates(text: &mut Bytes, x: &Expanded, fates: &[Fate]) -> Result<(), NoMemory>
@@ -33,6 +34,24 @@ fn is_sent(fate: Fate) -> bool
     ensures { result ≡ is_sent fate }
 {
     matches!(fate, Fate::Sent)
+}
+
+/// Which of the messages are dead.
+pub(crate) fn dead_of(alloc: Global, fates: &[Fate]) -> Result<Seq<bool>, NoMemory>
+    ensures { IfOk result (λ dead. dead ≡ map is_never_sent fates.now) }
+{
+    let mut dead = Seq::new(alloc);
+    for fate in fates {
+        dead.push(is_never_sent(*fate))?;
+    }
+    Ok(dead)
+}
+
+/// Whether no legal run sends the message.
+fn is_never_sent(fate: Fate) -> bool
+    ensures { result ≡ is_never_sent fate }
+{
+    matches!(fate, Fate::Dead)
 }
 
 /// Appends the list of dead and undecided messages.

@@ -4,7 +4,7 @@ ghost use Rattle.page_sections.specs.Page.{liveness_word, page, page_head, page_
 ghost use Rattle.page_sections.specs.Page.{page_verdicts, safety_word};
 ghost use Rattle.report.specs.VerdictText.{HaveFittingRuns};
 
-use super::fates::push_fates;
+use super::fates::{dead_of, push_fates};
 use super::verdicts::{push_liveness, push_safety};
 use super::wording::{LIVE, NOT_LIVE, PAGE_END, PAGE_HEAD, SAFE, UNDECIDED, UNSAFE};
 use bspl_types::{Admitted, Expanded};
@@ -30,7 +30,7 @@ pub fn page_text(
     let mut text = Bytes::new(alloc);
     push_verdicts(alloc, &mut text, a, v)?;
     text.append(section)?;
-    push_tables(&mut text, a.expanded(), fates)?;
+    push_tables(alloc, &mut text, a.expanded(), fates)?;
     Ok(text)
 }
 
@@ -50,12 +50,18 @@ fn push_verdicts(
 }
 
 /// Appends the dead messages, the tables, and the end of the page.
-fn push_tables(text: &mut Bytes, x: &Expanded, fates: &[Fate]) -> Result<(), NoMemory>
+fn push_tables(
+    alloc: Global,
+    text: &mut Bytes,
+    x: &Expanded,
+    fates: &[Fate],
+) -> Result<(), NoMemory>
     ensures { OnOk result (text.new ≡ text.old ++ as_html (page_tables x.now fates.now)) }
 {
+    let dead = dead_of(alloc, fates)?;
     push_fates(text, x, fates)?;
     push_messages(text, x)?;
-    push_sources(text, x)?;
+    push_sources(text, x, dead.as_slice())?;
     push_fragments(text, &[Fragment::Tag(PAGE_END)])
 }
 

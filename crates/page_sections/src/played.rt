@@ -11,8 +11,8 @@ use list_base::{Bytes, NoMemory};
 use run_chart::Finding;
 use std::alloc::Global;
 
-/// How many events a chart of a world has at most.
-const CHARTED: usize = 200;
+/// How many events the chart of a given run, or of a world, has at most.
+pub(crate) const CHARTED: usize = 200;
 
 /// Appends the run of a world as a chart and as a text, unless it is too long to be looked at.
 pub fn push_played(

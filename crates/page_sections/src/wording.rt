@@ -36,8 +36,9 @@ pub(crate) const LIVE_SAID: &[u8] =
     public parameter that is to have a value is known to some role.</p>\n";
 /// The parameter that no role knows.
 pub(crate) const NOT_LIVE_SAID: &[u8] =
-    b"<h2>Liveness: not live</h2>\n<p>After this legal run nothing more can be sent \
-    or received in the enactment, and no role knows <b>$</b>.</p>\n";
+    b"<h2>Liveness: not live</h2>\n<p>After this legal run the enactment is at rest: what was \
+    sent has arrived, no message that was not sent yet can be sent, and no role knows \
+    <b>$</b>.</p>\n";
 /// The property whose search came to no answer, and after how many conflicts.
 pub(crate) const UNDECIDED_SAID: &[u8] =
     b"<h2>$: undecided</h2>\n<p>The search met as many conflicts as it may, $, \
@@ -52,8 +53,7 @@ pub(crate) const RUN_TEXT: &[u8] = b"<pre>$</pre>\n";
 // The section of a run that was given.
 /// The position of the first bad event of an illegal run. What is wrong with it follows.
 pub(crate) const ILLEGAL: &[u8] =
-    b"<h2>Run: illegal</h2>\n<p>Event $ of the run, with which the chart ends, \
-    may not follow those before it: ";
+    b"<h2>Run: illegal</h2>\n<p>Event $ of the run may not follow those before it: ";
 /// The parameter that the sender does not know.
 pub(crate) const MISSING: &[u8] = b"its sender does not know <b>$</b>";
 /// The parameter that is to be new to the sender, and the value that the sender knows.
@@ -72,6 +72,9 @@ pub(crate) const LEGAL: &[u8] =
 pub(crate) const CONFLICT: &[u8] =
     b"<h2>Run: legal</h2>\n<p>Each event of the run may follow those before it. \
     Events $ and $ both produce <b>$</b> in one enactment.</p>\n";
+/// In place of a chart of more events than that.
+pub(crate) const TOO_LONG: &[u8] =
+    b"<p>The run is not drawn, since a chart has at most $ events.</p>\n";
 /// The lines of a report.
 pub(crate) const REPORT: &[u8] = b"<p>The lines of <code>bspl replay</code>:</p>\n<pre>$</pre>\n";
 

@@ -7,14 +7,14 @@ use Rattle.bspl_types.specs.declared.event.Event.TheVariants.{Emit, Receive}
 use Rattle.bspl_types.specs.declared.expanded.Expanded.{Expanded}
 use Rattle.bspl_types.specs.declared.protocol.Carried.{Carried}
 use Rattle.bspl_types.specs.declared.value.Value.{Value}
-use Rattle.bspl_types.specs.Expansion.{message_name, message_of}
+use Rattle.bspl_types.specs.Expansion.{message_name, message_of, role_name}
 use Rattle.bspl_types.specs.History.{instance_of, role_of}
 use Rattle.html.specs.Fragment.{Fragment, Number, Tag, fitted}
 use Rattle.run_chart.specs.declared.finding.Finding.{Finding}
 use Rattle.run_chart.specs.declared.finding.Finding.TheVariants.{Bad, Clash, Open, Plain}
 use Rattle.run_chart.specs.declared.wording.TheConstants as wording
 use Rattle.run_chart.specs.Drawing.{circle}
-use Rattle.run_chart.specs.Knowledge.{field, news}
+use Rattle.run_chart.specs.Knowledge.{field, labelled}
 use Rattle.run_chart.specs.Place.{column, row}
 use Rattle.run_chart.specs.Strokes.{is_reception_of}
 use Rattle.run_chart.specs.Words.{cut}
@@ -35,10 +35,33 @@ is_ringed Plain index = false
 abbrev pub ring : ℕ → ℕ → Bool → List Fragment
 ring role index ringed = if ringed then circle wording.RING.now role index else []
 
--- the name of the event's message, and each parameter that is new to its role
+-- the lifelines of two roles have another one between them
+abbrev pub is_far : ℕ → ℕ → Bool
+is_far role other = nat_lt (role + 1) other || nat_lt (other + 1) role
+
+-- before the name of the role at the other end
+abbrev pub direction : Event → List ℕ
+direction (Emit i) = wording.TO.now
+direction (Receive i) = wording.FROM.now
+
+-- that role, if its lifeline is far, since the arrow then passes the dots of others
+abbrev pub far_role : Expanded → Event → List ℕ
+far_role x event =
+    if is_far (role_of x event) (other_role x event)
+    then direction event ++ role_name x (other_role x event) else []
+
+-- the name of the event's message, and that role
+abbrev pub label_head : Expanded → Event → List ℕ
+label_head x event = message_name x (instance_of event).message ++ far_role x event
+
+-- these, and the fields of these parameters
 abbrev pub label_words : Expanded → List (Carried × Value) → Event → List ℕ
-label_words x new event =
-    message_name x (instance_of event).message ++ flat_map (λ (c, v). 32 ∷ field x c.param v) new
+label_words x shown event =
+    label_head x event ++ flat_map (λ (c, v). 32 ∷ field x c.param v) shown
+
+-- how many bytes there is room for between the lifelines of two roles
+abbrev pub label_room : ℕ → ℕ → ℕ
+label_room role other = if is_far role other then 44 else 28
 
 -- beside the lifeline of a role, on the side of another role
 abbrev pub side : ℕ → ℕ → List ℕ
@@ -52,26 +75,35 @@ text_height (Receive i) = wording.BELOW.now
 
 -- the label: the number of the event from 1, and its words
 abbrev pub label : Expanded → List (Carried × Value) → ℕ → Event → List Fragment
-label x new index event =
+label x shown index event =
     fitted wording.LABEL.now (Number (column (role_of x event)) ∷ Number (row index) ∷
     Tag (side (role_of x event) (other_role x event)) ∷ Tag (text_height event) ∷
-    Number (index + 1) ∷ cut 28 (label_words x new event))
+    Number (index + 1) ∷
+    cut (label_room (role_of x event) (other_role x event)) (label_words x shown event))
 
--- what is said of an emission that is not received
-abbrev pub not_received : ℕ → ℕ → ℕ → List Fragment
-not_received sender receiver index =
-    fitted wording.NOT_RECEIVED.now
-    (Number (column sender) ∷ Number (row index) ∷ Tag (side sender receiver) ∷ [])
+-- what is said of an emission without reception: a run goes on after its first bad event
+abbrev pub missing_word : Finding → List ℕ
+missing_word (Clash param first second) = wording.NOT_RECEIVED.now
+missing_word (Open param) = wording.NOT_RECEIVED.now
+missing_word (Bad event) = wording.NOT_YET.now
+missing_word Plain = wording.NOT_RECEIVED.now
+
+-- its place
+abbrev pub not_received : ℕ → ℕ → ℕ → List ℕ → List Fragment
+not_received sender receiver index said =
+    fitted wording.MISSING_LABEL.now
+    (Number (column sender) ∷ Number (row index) ∷ Tag (side sender receiver) ∷ Tag said ∷ [])
 
 -- it is said of each emission that the run does not receive
-abbrev pub missing : Expanded → List Event → ℕ → Event → List Fragment
-missing x run index (Emit i) =
+abbrev pub missing : Expanded → List Event → List ℕ → ℕ → Event → List Fragment
+missing x run said index (Emit i) =
     if list_any (is_reception_of i) run then []
-    else not_received (message_of x i.message).sender (message_of x i.message).receiver index
-missing x run index (Receive i) = []
+    else not_received (message_of x i.message).sender (message_of x i.message).receiver index said
+missing x run said index (Receive i) = []
 
 -- the ring, the label and that
 abbrev pub words_at : Expanded → List Event → Finding → ℕ × Event → List Fragment
 words_at x run finding (index, event) =
     ring (role_of x event) index (is_ringed finding index) ++
-    label x (news x (take index run) event) index event ++ missing x run index event
+    label x (labelled x run (take index run) event) index event ++
+    missing x run (missing_word finding) index event

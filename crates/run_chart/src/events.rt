@@ -5,7 +5,7 @@ ghost use Rattle.run_chart.specs.EventTable.{event_row};
 ghost use Rattle.run_chart.specs.Labels.{words_at};
 
 use super::cells::{push_fields, push_known};
-use super::knowledge::news;
+use super::knowledge::{labelled, news};
 use super::labels::{push_label, push_missing, push_ring};
 use super::rows::push_row_start;
 use super::shown::{Shown, ShownEvent};
@@ -54,8 +54,9 @@ fn push_event(
         (s.now.index, s.now.event.now))) }
 {
     let list = news(alloc, s)?;
+    let shown = labelled(alloc, s)?;
     push_ring(text, s)?;
-    push_label(alloc, text, s, list.as_slice())?;
+    push_label(alloc, text, s, shown.as_slice())?;
     push_missing(text, s)?;
     push_row_start(table, s)?;
     push_fields(alloc, table, s.x, list.as_slice())?;

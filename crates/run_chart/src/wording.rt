@@ -19,7 +19,7 @@ pub(crate) const DESCRIPTION: &[u8] = b"</title>\n<desc>Time runs down the lifel
 pub(crate) const DESCRIBED_ROLE: &[u8] = b"$, ";
 /// The end of the description.
 pub(crate) const DESCRIPTION_END: &[u8] =
-    b"from left to right. The table after the chart says the same.</desc>\n";
+    b"from left to right. The table after the chart has the same events.</desc>\n";
 
 /// How a chart looks.
 pub(crate) const STYLE: &[u8] = b"<style>\n\
@@ -60,8 +60,16 @@ pub(crate) const LEFT_END: &[u8] = b"h-52a4 4 0 1 0-8 0a4 4 0 1 0 8 0";
 
 /// The label of an event: its number, and its words.
 pub(crate) const LABEL: &[u8] = b"<text x=\"$\" y=\"$\"$ dy=\"$\">$ $$</text>\n";
-/// What is said of an emission that is not received.
-pub(crate) const NOT_RECEIVED: &[u8] = b"<text x=\"$\" y=\"$\"$ dy=\"16\">not received</text>\n";
+/// Where it is said of an emission that the chart has no reception of it.
+pub(crate) const MISSING_LABEL: &[u8] = b"<text x=\"$\" y=\"$\"$ dy=\"16\">$</text>\n";
+/// In the chart of a whole run.
+pub(crate) const NOT_RECEIVED: &[u8] = b"not received";
+/// In one that ends with an event that may not follow.
+pub(crate) const NOT_YET: &[u8] = b"not received yet";
+// Where a message goes, or comes from, before the name of a role.
+pub(crate) const TO: &[u8] = b" to ";
+
+pub(crate) const FROM: &[u8] = b" from ";
 // Beside a lifeline, on its right or on its left.
 pub(crate) const RIGHT_SIDE: &[u8] = b" dx=\"10\"";
 
@@ -84,7 +92,7 @@ pub(crate) const BAD_FOOT: &[u8] =
 /// What explains the shapes.
 pub(crate) const LEGEND: &[u8] = b"</svg>\n\
     <figcaption>A dot is an event. An arrow leads from a sending to its reception; \
-    a line to an open circle has none in this run.</figcaption>\n</figure>\n";
+    a line to an open circle has none in this chart.</figcaption>\n</figure>\n";
 
 /// The heads of the table of events.
 pub(crate) const EVENTS: &[u8] = b"<table>\n<thead><tr><th scope=\"col\">#</th>\

@@ -4,13 +4,13 @@
 #[cfg(test)]
 mod args;
 #[cfg(test)]
+mod arguments_tests;
+#[cfg(test)]
 mod call_tests;
 #[cfg(test)]
 mod command_line_tests;
 #[cfg(test)]
 mod long_line_tests;
-#[cfg(test)]
-mod program_args_tests;
 #[cfg(test)]
 mod refusal_words_tests;
 #[cfg(test)]

@@ -27,7 +27,8 @@ What to do: begin a line with keys, key, seed, loss, repeat, order, decline or v
         number: 1,
         words: b"refused L1 1\nline 3, column 1\n  log 3 safety\n  ^\n\
 What is wrong: a log has no such line there, or it ends too early.\n\
-What to do: begin with `log 1 safety`, `log 1 liveness` or `log 1 dead MESSAGE`.\n",
+What to do: for `check` begin with `log 1 safety` or `log 1 liveness`, for `check-dead` with \
+`log 1 dead MESSAGE` and a message as `bspl expand` prints it, and end each line with LF alone.\n",
     },
     Row {
         input: b"P P { roles A parameters out x }",

@@ -15,10 +15,7 @@ pub(crate) const TOO_LONG: Sentences = (
     b"give a shorter input",
 );
 
-pub(crate) const BAD_BYTE: Sentences = (
-    b"no word and no sign of the language begins with this byte",
-    b"",
-);
+pub(crate) const BAD_BYTE: Sentences = (b"no word and no sign of the language begins here", b"");
 
 pub(crate) const BAD_TOKEN: Sentences = (
     b"no protocol has this there, or the text ends too early",
@@ -31,12 +28,12 @@ pub(crate) const NO_PROTOCOL: Sentences = (
 );
 
 pub(crate) const NAME_TWICE: Sentences = (
-    b"this name is declared a second time",
-    b"give one of the two another name",
+    b"this name is declared before, as it stands or with its prefix in the expansion",
+    b"give one of the two another name; a name of a part gets a prefix, as in `Q#1.t`",
 );
 
 pub(crate) const UNKNOWN_NAME: Sentences = (
-    b"this name is not declared",
+    b"this name is not declared as what it is used for here",
     b"correct the name, or declare it: a role in the line `roles`, a parameter in \
 `parameters` or `private`, a protocol in the same text",
 );
@@ -147,7 +144,8 @@ pub(crate) const TWICE: &[u8] = b" twice";
 
 // What to do about the first line of a part.
 pub(crate) const LOG_HEADING: &[u8] =
-    b"begin with `log 1 safety`, `log 1 liveness` or `log 1 dead MESSAGE`";
+    b"for `check` begin with `log 1 safety` or `log 1 liveness`, for `check-dead` with \
+`log 1 dead MESSAGE` and a message as `bspl expand` prints it, and end each line with LF alone";
 
 pub(crate) const RUN_HEADING: &[u8] = b"begin with `run 1`, and end each line with LF alone";
 
@@ -215,7 +213,8 @@ pub(crate) const OTHER_NAMES: &[u8] = b"name a message as `bspl expand` prints i
 // What may stand at a place: the words and signs of the language, and a name.
 pub(crate) const HERE_MAY_STAND: &[u8] = b"Here may stand:";
 
-pub(crate) const SIGNS: &[u8] = b"NAME -> : , [ ] { } ( ) in out nil key roles parameters private";
+pub(crate) const SIGNS: &[u8] = b"NAME -> \xe2\x86\xa6 : , [ ] { } ( ) in out nil any opt key \
+roles role parameters parameter private";
 
 // The name or the line that is nearest to the one given.
 pub(crate) const PART_MARK: &[u8] = b"%% ";

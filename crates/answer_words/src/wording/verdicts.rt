@@ -68,4 +68,5 @@ pub(crate) const IS_UNDECIDED: &[u8] =
     b" is undecided, since the search met as many conflicts as it may, ";
 
 pub(crate) const LARGER_NUMBER: &[u8] =
-    b"What to do: give a larger number by `--conflicts`, at most 20000, or judge a part alone.\n";
+    b"What to do: judge a part alone, or give a larger number by `--conflicts`, unless it was \
+20000, the largest one.\n";

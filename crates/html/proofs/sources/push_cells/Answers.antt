@@ -10,5 +10,5 @@ loop-role-preserved c =
     let x = c.args.x.now in
     let i = c.loop-role.role in
     c.in_ok-push_cell.ensures
-    ∙ ap (λ (ys : List ℕ). ys ++ as_html (source_cell x c.args.param i)) c.loop-role.invariant
-    ∙ enumerate_more (λ (role, _). source_cell x c.args.param role) c.args.text.now c.args.roles.now i c.index-roles-role.result c.loop-role-test.true
+    ∙ ap (λ (ys : List ℕ). ys ++ as_html (source_cell x c.args.dead.now c.args.param i)) c.loop-role.invariant
+    ∙ enumerate_more (λ (role, _). source_cell x c.args.dead.now c.args.param role) c.args.text.now c.args.roles.now i c.index-roles-role.result c.loop-role-test.true

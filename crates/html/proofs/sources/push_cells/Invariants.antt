@@ -7,4 +7,4 @@ use Rattle.html.proofs.sources.push_cells.Given as goal
 
 -- the cells so far are written
 abbrev pub invariant-loop-role : goal.invariant-loop-role
-invariant-loop-role l = l.text ≡ l.fn.text ++ as_html (flat_map (λ (role, _). source_cell l.x l.param role) (take l.role (enumerate_from 0 l.roles)))
+invariant-loop-role l = l.text ≡ l.fn.text ++ as_html (flat_map (λ (role, _). source_cell l.x l.dead l.param role) (take l.role (enumerate_from 0 l.roles)))

@@ -7,4 +7,4 @@ use Rattle.html.proofs.sources.push_rows.Given as goal
 
 -- the rows so far are written
 abbrev pub invariant-loop-param : goal.invariant-loop-param
-invariant-loop-param l = l.text ≡ l.fn.text ++ as_html (flat_map (source_row l.x) (take l.param (enumerate_from 0 l.params)))
+invariant-loop-param l = l.text ≡ l.fn.text ++ as_html (flat_map (source_row l.x l.dead) (take l.param (enumerate_from 0 l.params)))

@@ -1,4 +1,4 @@
-use program_args::args_given;
+use program_frame::args_given;
 use std::alloc::Global;
 use std::env::FillError;
 use std::rt::Env;
