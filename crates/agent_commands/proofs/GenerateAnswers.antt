@@ -5,7 +5,7 @@ use Rattle.bspl_types.specs.declared.expanded.Expanded.{Expanded}
 use Rattle.program_frame.specs.declared.reply.Reply.{Reply}
 use Rattle.report.specs.ExitStatus.{verdict_status}
 use Rattle.report.specs.Summary.{generated_text}
-use Rattle.tool_frame.specs.Answer.{IsRightAnswer}
+use Rattle.tool_input.specs.Answer.{IsRightAnswer}
 use Rattle.tool_input.specs.declared.status.Status.{Status}
 use Rattle.verdict.specs.declared.outcome.Verdicts.{Verdicts}
 use Rattle.verdict.specs.Verdicts.{AreRightAnswers}

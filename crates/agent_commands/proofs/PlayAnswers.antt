@@ -30,8 +30,8 @@ use Rattle.agent_commands.specs.Answer.{Completes, IsModeText}
 use Rattle.agent_commands.specs.RunAnswer.{IsRunRefused}
 use Rattle.agent_commands.specs.inner.IfSafe.{IsFoundSafe, PlaysIfSafe}
 use Rattle.agent_commands.specs.inner.Job.{IsGivenJob}
-use Rattle.tool_frame.specs.Answer.{IsRightAnswer}
-use Rattle.tool_frame.specs.Error.{RejectsFor, error_for}
+use Rattle.tool_input.specs.Answer.{IsRightAnswer}
+use Rattle.tool_input.specs.Error.{RejectsFor, error_for}
 
 -- a text that is no agents' is refused at its first bad line
 pub script_refused : (x : Expanded) (part : List ℕ) (refusal : ScriptRefusal) → (refusal ≢ NoMemory → IsRefusedScript x part refusal) → RejectsFor (IsRunRefused x part) (error_for (script_rejection refusal))

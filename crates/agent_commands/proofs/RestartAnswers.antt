@@ -17,7 +17,7 @@ use Rattle.role_journal.specs.Counts.{Counts}
 use Rattle.stamped_history.specs.declared.entry.Entry.{Entry}
 use Rattle.stamped_history.specs.Entries.{events_of}
 use Rattle.stamped_history.specs.Explained.{AreLocal, history_at}
-use Rattle.tool_frame.specs.Answer.{IsRightAnswer}
+use Rattle.tool_input.specs.Answer.{IsRightAnswer}
 use Rattle.tool_input.specs.declared.status.Status.{Status}
 use Rattle.verdict.specs.declared.outcome.Safety.{Safety}
 use Rattle.verdict.specs.declared.outcome.Safety.TheVariants.{Safe, Undecided, Unsafe}

@@ -4,7 +4,7 @@ use Rattle.agent_scripts.specs.Job.{Job}
 use Rattle.bspl_types.specs.declared.expanded.Expanded.{Expanded}
 use Rattle.program_frame.specs.declared.reply.Reply.{Reply}
 use Rattle.report.specs.ExitStatus.{verdict_status}
-use Rattle.tool_frame.specs.Answer.{IsRightAnswer}
+use Rattle.tool_input.specs.Answer.{IsRightAnswer}
 use Rattle.tool_input.specs.declared.status.Status.{Status}
 use Rattle.verdict.specs.declared.outcome.Verdicts.{Verdicts}
 use Rattle.agent_commands.specs.declared.answer.Answer.{Answer}

@@ -3,7 +3,7 @@ use Rattle.std.specs.Prelude.{◌≡◌, ℕ, List, ◌++◌, ⊤}
 use Rattle.agent_scripts.specs.Job.{Job}
 use Rattle.enactment_model.specs.Safety.{SafeProtocol}
 use Rattle.program_frame.specs.declared.reply.Reply.{Reply}
-use Rattle.tool_frame.specs.Answer.{RepliesWith}
+use Rattle.tool_input.specs.Answer.{RepliesWith}
 use Rattle.tool_input.specs.declared.status.Status.{Status}
 use Rattle.agent_commands.specs.declared.answer.Answer.{Answer}
 use Rattle.agent_commands.specs.declared.answer.Answer.TheVariants as answer

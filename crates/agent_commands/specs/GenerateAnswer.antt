@@ -9,8 +9,8 @@ use Rattle.report.specs.ExitStatus.{verdict_status}
 use Rattle.report.specs.Summary.{generated_text}
 use Rattle.verdict.specs.declared.outcome.Verdicts.{Verdicts}
 use Rattle.verdict.specs.Verdicts.{AreRightAnswers}
-use Rattle.tool_frame.specs.declared.need.Need.TheVariants.{Part}
-use Rattle.tool_frame.specs.Rules.{CommandRules}
+use Rattle.tool_input.specs.declared.need.Need.TheVariants.{Part}
+use Rattle.tool_input.specs.Rules.{CommandRules}
 use Rattle.tool_input.specs.declared.parts.Part.TheVariants as part
 use Rattle.tool_input.specs.declared.status.Status.{Status}
 use Rattle.agent_commands.specs.declared.world_report.WorldReport.TheVariants.{Summary}

@@ -1,8 +1,8 @@
 -- What `restart` answers on an admitted protocol and the text of its agents.
 use Rattle.std.specs.Prelude.{◌≡◌, ℕ, Bool, List, [], ◌++◌, length}
 use Rattle.bspl_types.specs.declared.expanded.Expanded.{Expanded}
-use Rattle.tool_frame.specs.declared.need.Need.TheVariants.{Part}
-use Rattle.tool_frame.specs.Rules.{CommandRules}
+use Rattle.tool_input.specs.declared.need.Need.TheVariants.{Part}
+use Rattle.tool_input.specs.Rules.{CommandRules}
 use Rattle.tool_input.specs.declared.parts.Part.TheVariants as part
 use Rattle.tool_input.specs.declared.status.Status.{Status}
 use Rattle.verdict.specs.declared.outcome.Safety.{Safety}

@@ -9,8 +9,8 @@ use Rattle.bspl_types.specs.declared.expanded.Expanded.{Expanded}
 use Rattle.rejections.specs.PartRejection.{script_rejection}
 use Rattle.report.specs.ExitStatus.{verdict_status}
 use Rattle.verdict.specs.declared.outcome.Verdicts.{Verdicts}
-use Rattle.tool_frame.specs.declared.need.Need.TheVariants.{Part}
-use Rattle.tool_frame.specs.Rules.{CommandRules}
+use Rattle.tool_input.specs.declared.need.Need.TheVariants.{Part}
+use Rattle.tool_input.specs.Rules.{CommandRules}
 use Rattle.tool_input.specs.declared.parts.Part.TheVariants as part
 use Rattle.tool_input.specs.declared.rejection.Rejection.{Rejection}
 use Rattle.tool_input.specs.declared.status.Status.{Status}

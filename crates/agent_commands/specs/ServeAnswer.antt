@@ -4,8 +4,8 @@ use Rattle.bspl_types.specs.declared.expanded.Expanded.{Expanded}
 use Rattle.history_audit.specs.HistoryText.{role_line}
 use Rattle.local_store.specs.State.{StoreState}
 use Rattle.role_server.specs.Served.{Served, first_store}
-use Rattle.tool_frame.specs.declared.need.Need.TheVariants.{Part}
-use Rattle.tool_frame.specs.Rules.{CommandRules}
+use Rattle.tool_input.specs.declared.need.Need.TheVariants.{Part}
+use Rattle.tool_input.specs.Rules.{CommandRules}
 use Rattle.tool_input.specs.declared.parts.Part.TheVariants as part
 use Rattle.tool_input.specs.declared.rejection.Rejection.{Rejection}
 use Rattle.tool_input.specs.declared.status.Status.{Status}

@@ -1,6 +1,6 @@
 ghost use Rattle.std.specs.Prelude.{◌↔◌, ℕ, IfErr, IfOk, IsTrue};
-ghost use Rattle.tool_frame.specs.Answer.{IsRightAnswer};
-ghost use Rattle.tool_frame.specs.Error.{RejectsFor};
+ghost use Rattle.tool_input.specs.Answer.{IsRightAnswer};
+ghost use Rattle.tool_input.specs.Error.{RejectsFor};
 ghost use Rattle.verdict.specs.Right.{IsRight};
 ghost use Rattle.agent_commands.specs.Answer.{Completes, IsPlayable};
 ghost use Rattle.agent_commands.specs.RunAnswer.{IsRunRefused};
@@ -14,7 +14,7 @@ use bspl_types::Admitted;
 use rejections::script_rejection;
 use script_text::read_scripts;
 use std::alloc::Global;
-use tool_frame::{AnswerError, error_for};
+use tool_input::{AnswerError, error_for};
 use verdict::Safety;
 use verdict_commands::VerdictReply;
 

@@ -1,8 +1,8 @@
 ghost use Rattle.std.specs.Prelude.{◌≡◌, IfErr, IfOk};
 ghost use Rattle.report.specs.ExitStatus.{verdict_status};
 ghost use Rattle.report.specs.Summary.{generated_text};
-ghost use Rattle.tool_frame.specs.Answer.{IsRightAnswer};
-ghost use Rattle.tool_frame.specs.Error.{RejectsFor};
+ghost use Rattle.tool_input.specs.Answer.{IsRightAnswer};
+ghost use Rattle.tool_input.specs.Error.{RejectsFor};
 ghost use Rattle.verdict.specs.Verdicts.{AreRightAnswers};
 ghost use Rattle.agent_commands.specs.Answer.{Completes, IsPlayable};
 ghost use Rattle.agent_commands.specs.GenerateAnswer.{IsGenerateAnswer};
@@ -18,7 +18,7 @@ use command_line::{Budget, ThreadCount};
 use program_frame::Reply;
 use report::{generated_text, verdict_status};
 use std::alloc::Global;
-use tool_frame::AnswerError;
+use tool_input::AnswerError;
 use verdict_commands::VerdictReply;
 
 /// Answers `generate` on a protocol of so many stages and the text of its agents. They are to play

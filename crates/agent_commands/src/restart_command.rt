@@ -1,6 +1,6 @@
 ghost use Rattle.std.specs.Prelude.{IfErr, IfOk};
-ghost use Rattle.tool_frame.specs.Answer.{IsRightAnswer};
-ghost use Rattle.tool_frame.specs.Error.{RejectsFor};
+ghost use Rattle.tool_input.specs.Answer.{IsRightAnswer};
+ghost use Rattle.tool_input.specs.Error.{RejectsFor};
 ghost use Rattle.agent_commands.specs.Answer.{Completes, IsPlayable};
 ghost use Rattle.agent_commands.specs.RestartAnswer.{IsRestartAnswer};
 ghost use Rattle.agent_commands.specs.RunAnswer.{IsRunRefused};
@@ -11,7 +11,7 @@ use super::play_mode::PlayMode;
 use bspl_types::Admitted;
 use command_line::Budget;
 use std::alloc::Global;
-use tool_frame::AnswerError;
+use tool_input::AnswerError;
 use verdict_commands::reply_with_verdicts;
 
 /// Answers `restart` on the text of agents. They are to play over disks if their protocol is found

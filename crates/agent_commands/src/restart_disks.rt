@@ -1,4 +1,4 @@
-ghost use Rattle.std.specs.Prelude.{◌<◌, length, IfErr, IfOk};
+ghost use Rattle.std.specs.Prelude.{IfErr, IfOk};
 ghost use Rattle.enactment_model.specs.Safety.{SafeProtocol};
 ghost use Rattle.restart_run.specs.Disks.{IsRefused};
 ghost use Rattle.restart_run.specs.Restarted.{IsRestarted};
@@ -44,8 +44,8 @@ fn without_disks(
 ) -> Result<PlayedOver, NoMemory>
     requires ok { IfOk played (λ r. IsRestarted (λ d image. Suits d.recording image) counts_of
         _job.now r.world r.restarts r.disks) }
-    requires refused { IfErr played (IsRefused counts_of (λ role. role < length
-        _job.now.protocol.roles)) }
+    requires refused { IfErr played
+        (IsRefused (λ d image. Suits d.recording image) counts_of _job.now) }
     ensures { IfOk result (λ p. IsPlayedOver _job.now p.world p.restarts) }
 {
     match played {

@@ -1,6 +1,6 @@
 ghost use Rattle.std.specs.Prelude.{IfErr, IfOk};
-ghost use Rattle.tool_frame.specs.Answer.{IsRightAnswer};
-ghost use Rattle.tool_frame.specs.Error.{RejectsFor};
+ghost use Rattle.tool_input.specs.Answer.{IsRightAnswer};
+ghost use Rattle.tool_input.specs.Error.{RejectsFor};
 ghost use Rattle.agent_commands.specs.Answer.{Completes, IsPlayable};
 ghost use Rattle.agent_commands.specs.RunAnswer.{IsRunAnswer, IsRunRefused};
 
@@ -11,7 +11,7 @@ use super::world_report::WorldReport;
 use bspl_types::Admitted;
 use command_line::{Budget, ThreadCount};
 use std::alloc::Global;
-use tool_frame::AnswerError;
+use tool_input::AnswerError;
 use verdict_commands::reply_with_verdicts;
 
 /// Answers `run` on the text of agents. They are to play if their protocol is found safe.

@@ -2,7 +2,7 @@ ghost use Rattle.std.specs.Prelude.{◌≡◌, ◌≤◌, ◌<◌, ℕ, [], List
 ghost use Rattle.std.specs.Prelude.{MatchOption, OnOk};
 ghost use Rattle.bspl_types.specs.Limits.{input_limit};
 ghost use Rattle.role_server.specs.Served.{first_store};
-ghost use Rattle.tool_frame.specs.Error.{RejectsFor};
+ghost use Rattle.tool_input.specs.Error.{RejectsFor};
 ghost use Rattle.agent_commands.specs.ServeAnswer.{AreReplies, IsServeAnswer, IsServeRefused};
 ghost use Rattle.agent_commands.specs.ServeAnswer.{OpensRole};
 ghost use Rattle.agent_commands.specs.inner.Serve.{IsRoleOf};
@@ -16,8 +16,7 @@ use role_server::{ServeRefusal, serve_from, store_with_room};
 use run_text::names_are_fields;
 use std::alloc::Global;
 use text_lines::split_once;
-use tool_frame::AnswerError;
-use tool_input::{Status, role_named, unknown_role};
+use tool_input::{AnswerError, Status, role_named, unknown_role};
 
 /// Answers `serve`: the first line of the part names a role, and each line after it gets its reply.
 pub fn serve(alloc: Global, protocol: &Admitted, part: &[u8]) -> Result<Reply<Status>, AnswerError>

@@ -10,7 +10,7 @@ use Rattle.enactment_model.specs.Liveness.{LiveProtocol}
 use Rattle.enactment_model.specs.Safety.{SafeProtocol}
 use Rattle.bspl_tool.specs.Claims.{AcceptedLiveness, AcceptedSafety, Claim, IsClaimTrue, IsTrueOfMessage, LivenessLive, MessageClaim, SafetySafe, claim_line, message_claim_line}
 use Rattle.bspl_tool.specs.Laws.{IsOutput}
-use Rattle.tool_frame.specs.Rules.{CommandRules}
+use Rattle.tool_input.specs.Rules.{CommandRules}
 use Rattle.bspl_tool.specs.Texts.{SaysLine}
 use Rattle.bspl_tool.proofs.ClaimsNothing.{Avoids, ClaimsNothing, IsField, liveness_lines, message_lines, safety_lines, says_no_message, says_none, says_nothing}
 use Rattle.bspl_tool.proofs.NameBytes.{name_is_field}

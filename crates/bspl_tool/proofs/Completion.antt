@@ -6,7 +6,7 @@ use Rattle.agent_commands.specs.declared.answer.Answer.{Answer}
 use Rattle.agent_commands.specs.Answer.{Completes}
 use Rattle.list_base.specs.declared.memory.NoMemory.{NoMemory}
 use Rattle.program_frame.specs.declared.reply.Reply.{Reply}
-use Rattle.tool_frame.specs.Answer.{IsRightAnswer}
+use Rattle.tool_input.specs.Answer.{IsRightAnswer}
 use Rattle.tool_input.specs.declared.status.Status.{Status}
 use Rattle.bspl_tool.specs.inner.Completed.{IsCompleted}
 

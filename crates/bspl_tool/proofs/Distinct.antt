@@ -10,16 +10,16 @@ use Rattle.tool_input.specs.declared.status.Status.{Status}
 use Rattle.tool_input.specs.declared.status.Status.TheVariants.{Usage, Refused}
 use Rattle.bspl_types.specs.Limits.{input_limit}
 use Rattle.bspl_tool.specs.Laws.{IsOutput, OneAnswer, OneRejection, RefusalIsAll, UsageIsAll}
-use Rattle.tool_frame.specs.Output.{AnswersInput, DoesTask, Output, usage, refused, done}
+use Rattle.tool_input.specs.Output.{AnswersInput, DoesTask, Output, usage, refused, done}
 use Rattle.tool_input.specs.Input.{Declares}
-use Rattle.tool_frame.specs.declared.need.Need.{Need}
-use Rattle.tool_frame.specs.declared.need.Need.TheVariants as need
-use Rattle.tool_frame.specs.Need.{HasGiven, LacksGiven}
-use Rattle.tool_frame.specs.Refusals.{IsReadFor, Refuses, RefusesInput}
+use Rattle.tool_input.specs.declared.need.Need.{Need}
+use Rattle.tool_input.specs.declared.need.Need.TheVariants as need
+use Rattle.tool_input.specs.Need.{HasGiven, LacksGiven}
+use Rattle.tool_input.specs.Refusals.{IsReadFor, Refuses, RefusesInput}
 use Rattle.tool_input.specs.Laws.{DeclaredIsNotRefused, OneDeclaration, OneTextRefusal}
 use Rattle.tool_input.specs.TextRefusal.{RefusesText}
 use Rattle.tool_input.specs.Rejection.{lacks_part, rejection_line, text_rejection}
-use Rattle.tool_frame.specs.Interface.{HasTask, RequestsInput, task_bytes}
+use Rattle.tool_input.specs.Interface.{HasTask, RequestsInput, task_bytes}
 use Rattle.bspl_tool.specs.Interface.{tool_interface}
 use Rattle.bspl_tool.specs.Request.{HasCommandLine, Requests}
 use Rattle.tool_input.specs.Parts.{protocol_text}

@@ -13,16 +13,16 @@ use Rattle.bspl_io.specs.Traffic.{Traffic}
 use Rattle.program_frame.specs.Call.{AreRemaining, WritesPrefix}
 use Rattle.program_frame.specs.declared.ending.Ending.{Ending}
 use Rattle.program_frame.specs.declared.ending.Ending.TheVariants.{Answered, ReadFault, WriteFault, NoMemory}
-use Rattle.tool_frame.specs.Call.{IsToolCall}
+use Rattle.tool_input.specs.Call.{IsToolCall}
 use Rattle.bspl_tool.specs.Laws.{CallsAreTrue}
 use Rattle.bspl_tool.specs.Headline.{IsJudged, IsTrueOf, TrueWhereSaid}
-use Rattle.tool_frame.specs.Output.{DoesTask, Output, usage, refused, done}
-use Rattle.tool_frame.specs.Interface.{RequestsInput, task_bytes}
+use Rattle.tool_input.specs.Output.{DoesTask, Output, usage, refused, done}
+use Rattle.tool_input.specs.Interface.{RequestsInput, task_bytes}
 use Rattle.bspl_tool.specs.Interface.{tool_interface}
 use Rattle.tool_input.specs.Parts.{protocol_text}
 use Rattle.tool_input.specs.Rejection.{rejection_line}
 use Rattle.bspl_tool.specs.Task.{task_rules}
-use Rattle.tool_frame.specs.Refusals.{Refuses, RefusesInput}
+use Rattle.tool_input.specs.Refusals.{Refuses, RefusesInput}
 use Rattle.bspl_tool.proofs.ClaimsNothing.{ClaimsNothing, line_claims_nothing, says_no_message, says_nothing}
 use Rattle.bspl_tool.proofs.NameBytes.{name_is_field}
 use Rattle.bspl_tool.proofs.RejectedNames.{HasNames, requested_is_name, text_rejection_names}

@@ -7,7 +7,7 @@ use Rattle.command_line.specs.declared.line.Subject.{Subject}
 use Rattle.command_line.specs.declared.line.Subject.TheVariants.{Protocol, Size}
 use Rattle.command_line.specs.Command.{takes_size}
 use Rattle.command_line.specs.Line.{IsCommandLine, IsSubject}
-use Rattle.tool_frame.specs.Interface.{HasTask}
+use Rattle.tool_input.specs.Interface.{HasTask}
 use Rattle.bspl_tool.specs.declared.task.Task.{Task}
 use Rattle.bspl_tool.specs.declared.task.Task.TheVariants as tasks
 use Rattle.bspl_tool.specs.Interface.{tool_interface}

@@ -6,7 +6,7 @@ use Rattle.command_line.specs.declared.line.Subject.TheVariants.{Protocol, Size}
 use Rattle.command_line.specs.Line.{IsSameLine, IsSameSubject, OneLine}
 use Rattle.bspl_tool.specs.declared.task.Task.{Task}
 use Rattle.bspl_tool.specs.declared.task.Task.TheVariants as tasks
-use Rattle.tool_frame.specs.Laws.{OneTask}
+use Rattle.tool_input.specs.TaskLaws.{OneTask}
 use Rattle.bspl_tool.specs.Interface.{tool_interface}
 use Rattle.bspl_tool.specs.Request.{IsAbout, IsThreaded, Requests, line_task, subject_task}
 use Rattle.bspl_tool.specs.Task.{own_text, task_threads}

@@ -8,7 +8,7 @@ use Rattle.command_line.specs.Command.{takes_size}
 use Rattle.command_line.specs.Line.{IsSubject}
 use Rattle.command_line.specs.declared.line.Subject.{Subject}
 use Rattle.command_line.specs.declared.line.Subject.TheVariants.{Protocol, Size}
-use Rattle.adornment_check.specs.NotAdmitted.{IsMessageRefusal, IsNameOfParam, IsNotAdmitted, RefusesBody}
+use Rattle.protocol_expand.specs.NotAdmitted.{IsMessageRefusal, IsNameOfParam, IsNotAdmitted, RefusesBody}
 use Rattle.bspl_parser.specs.declared.document.Document.{Document}
 use Rattle.bspl_parser.specs.Judgement.{IsRefusedFor}
 use Rattle.bspl_types.specs.Name.{is_name}

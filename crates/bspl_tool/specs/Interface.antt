@@ -1,7 +1,7 @@
 -- The tool as a program of commands.
 use Rattle.std.specs.Prelude.{◌≡◌, ℕ, List, Option}
-use Rattle.tool_frame.specs.Interface.{Interface, task_bytes}
-use Rattle.tool_frame.specs.Request.{IsRequest}
+use Rattle.tool_input.specs.Interface.{Interface, task_bytes}
+use Rattle.tool_input.specs.Request.{IsRequest}
 use Rattle.tool_input.specs.Parts.{protocol_text}
 use Rattle.tool_input.specs.Rejection.{rejection_line}
 use Rattle.bspl_tool.specs.declared.question.ToolQuestion.{ToolQuestion}

@@ -3,14 +3,14 @@ use Rattle.std.specs.Prelude.{◌≡◌, ℕ, List}
 use Rattle.bspl_io.specs.Traffic.{Traffic}
 use Rattle.program_frame.specs.declared.ending.Ending.{Ending}
 use Rattle.tool_input.specs.declared.rejection.Rejection.{Rejection}
-use Rattle.tool_frame.specs.Call.{IsToolCall}
-use Rattle.tool_frame.specs.Interface.{HasTask}
+use Rattle.tool_input.specs.Call.{IsToolCall}
+use Rattle.tool_input.specs.Interface.{HasTask}
 use Rattle.bspl_tool.specs.Headline.{TrueWhereSaid}
 use Rattle.bspl_tool.specs.declared.task.Task.{Task}
 use Rattle.tool_input.specs.declared.status.Status.{Status}
 use Rattle.tool_input.specs.declared.status.Status.TheVariants.{Usage, Refused}
-use Rattle.tool_frame.specs.Output.{Output}
-use Rattle.tool_frame.specs.Refusals.{Refuses}
+use Rattle.tool_input.specs.Output.{Output}
+use Rattle.tool_input.specs.Refusals.{Refuses}
 use Rattle.tool_input.specs.Rejection.{rejection_line}
 use Rattle.bspl_tool.specs.Interface.{tool_interface}
 use Rattle.bspl_tool.specs.Request.{HasCommandLine, Requests}

@@ -13,7 +13,7 @@ use Rattle.verdict_commands.specs.ExpandAnswer.{expand_rules}
 use Rattle.agent_commands.specs.GenerateAnswer.{generate_rules}
 use Rattle.evidence_commands.specs.ReplayAnswer.{replay_rules}
 use Rattle.agent_commands.specs.RestartAnswer.{restart_rules}
-use Rattle.tool_frame.specs.Rules.{CommandRules}
+use Rattle.tool_input.specs.Rules.{CommandRules}
 use Rattle.agent_commands.specs.RunAnswer.{run_rules}
 use Rattle.agent_commands.specs.ServeAnswer.{serve_rules}
 use Rattle.verdict_commands.specs.VerifyAnswer.{verify_rules}

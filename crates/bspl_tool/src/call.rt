@@ -2,7 +2,7 @@ ghost use Rattle.std.specs.Prelude.{◌↔◌, IfOk, IsTrue, List, ℕ, map, str
 ghost use Rattle.agent_commands.specs.Answer.{Completes, IsPlayable};
 ghost use Rattle.program_frame.specs.Call.{AreCounted};
 ghost use Rattle.program_frame.specs.Program.{IsRequested};
-ghost use Rattle.tool_frame.specs.Call.{IsToolCall, fault_counts, traffic_of};
+ghost use Rattle.tool_input.specs.Call.{IsToolCall, fault_counts, traffic_of};
 ghost use Rattle.bspl_tool.specs.Headline.{TrueWhereSaid};
 ghost use Rattle.bspl_tool.specs.Interface.{IsToolRequest, tool_interface};
 ghost use Rattle.bspl_tool.specs.Request.{IsThreaded};
@@ -19,8 +19,7 @@ use program_frame::{Ending, Prepared, Reply, halves_are_calls, prepare, serve, w
 use std::alloc::Global;
 use std::sync::Wait;
 use std::thread::Threads;
-use tool_frame::Request;
-use tool_input::Status;
+use tool_input::{Request, Status};
 
 /// Reads what the arguments request, and writes the answer. Agents play in the threads that the
 /// arguments ask for, and each of their turns calls the gate.

@@ -9,8 +9,7 @@ use bspl_types::{Admitted, Bytes, NoMemory};
 use command_line::{CommandLine, Subject, command_line, one_line};
 use program_frame::Reply;
 use std::alloc::Global;
-use tool_frame::{AnswerError, Need, Question};
-use tool_input::{Rejection, Status, refused};
+use tool_input::{AnswerError, Need, Question, Rejection, Status, refused};
 
 /// A task of the tool on the protocol of a name.
 #[derive(Clone, Copy, Debug, PartialEq, Eq)]
@@ -24,8 +23,8 @@ impl<'a> Question<'a> for ToolQuestion<'a> {
 
     ghost use Rattle.std.specs.Prelude.{◌≡◌, IfOk};
     ghost use Rattle.agent_commands.specs.Answer.{Completes, IsPlayable};
-    ghost use Rattle.tool_frame.specs.Answer.{IsRightAnswer, RepliesWith};
-    ghost use Rattle.tool_frame.specs.Laws.{LongIsRefusedAlike, OneTask};
+    ghost use Rattle.tool_input.specs.Answer.{IsRightAnswer, RepliesWith};
+    ghost use Rattle.tool_input.specs.TaskLaws.{LongIsRefusedAlike, OneTask};
     ghost use Rattle.bspl_tool.specs.declared.task.Task.{Task as SpecTask};
     ghost use Rattle.bspl_tool.specs.Interface.{tool_interface};
     ghost use Rattle.bspl_tool.specs.Texts.{usage_text};

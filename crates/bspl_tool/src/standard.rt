@@ -1,7 +1,7 @@
 ghost use Rattle.std.specs.Prelude.{◌≡◌, map, string_bytes, IfOk, IfErr};
 ghost use Rattle.program_frame.specs.Call.{AreCounted};
 ghost use Rattle.program_frame.specs.declared.ending.Ending.TheVariants.{NoMemory};
-ghost use Rattle.tool_frame.specs.Call.{IsToolCall, fault_counts, traffic_of};
+ghost use Rattle.tool_input.specs.Call.{IsToolCall, fault_counts, traffic_of};
 ghost use Rattle.bspl_tool.specs.Headline.{TrueWhereSaid};
 ghost use Rattle.bspl_tool.specs.Interface.{tool_interface};
 

@@ -1,8 +1,8 @@
 ghost use Rattle.std.specs.Prelude.{◌≡◌, ◌↔◌, ◌<◌, ◌≤◌, IfErr, IfOk, IfSome, IsTrue, None, length};
 ghost use Rattle.bspl_types.specs.Limits.{input_limit};
 ghost use Rattle.agent_commands.specs.Answer.{Completes, IsPlayable};
-ghost use Rattle.tool_frame.specs.Answer.{IsRightAnswer};
-ghost use Rattle.tool_frame.specs.Error.{RejectsFor};
+ghost use Rattle.tool_input.specs.Answer.{IsRightAnswer};
+ghost use Rattle.tool_input.specs.Error.{RejectsFor};
 ghost use Rattle.bspl_tool.specs.Task.{IsAnsweredWhole, own_text, task_rules, task_of, task_threads};
 
 use agent_commands::{Answer, StageCount, generate, restart, run, serve};
@@ -11,8 +11,7 @@ use command_line::{Budget, Command, ThreadCount};
 use evidence_commands::{audit, check, check_dead, replay};
 use program_frame::Reply;
 use std::alloc::Global;
-use tool_frame::{AnswerError, Need};
-use tool_input::{Part, Status};
+use tool_input::{AnswerError, Need, Part, Status};
 use verdict_commands::{dead, expand, verify};
 
 /// What is done with the protocol that the arguments name.

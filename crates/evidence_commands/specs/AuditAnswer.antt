@@ -12,8 +12,8 @@ use Rattle.history_audit.specs.HistoryText.{IsHistoriesText}
 use Rattle.history_audit.specs.Refusal.{IsRefusedText}
 use Rattle.rejections.specs.PartRejection.{histories_rejection}
 use Rattle.report.specs.AuditText.{bad_place_line, consistent_text, cycle_line}
-use Rattle.tool_frame.specs.declared.need.Need.TheVariants.{Part}
-use Rattle.tool_frame.specs.Rules.{CommandRules}
+use Rattle.tool_input.specs.declared.need.Need.TheVariants.{Part}
+use Rattle.tool_input.specs.Rules.{CommandRules}
 use Rattle.tool_input.specs.declared.parts.Part.TheVariants as part
 use Rattle.tool_input.specs.declared.rejection.Rejection.{Rejection}
 use Rattle.tool_input.specs.declared.status.Status.{Status}

@@ -12,8 +12,8 @@ use Rattle.refutation_log.specs.LogText.{IsTextOf}
 use Rattle.refutation_log.specs.Refusal.{IsRefusedLog}
 use Rattle.rejections.specs.FailureLine.{reject_line}
 use Rattle.rejections.specs.PartRejection.{log_rejection}
-use Rattle.tool_frame.specs.declared.need.Need.TheVariants.{Part}
-use Rattle.tool_frame.specs.Rules.{CommandRules}
+use Rattle.tool_input.specs.declared.need.Need.TheVariants.{Part}
+use Rattle.tool_input.specs.Rules.{CommandRules}
 use Rattle.tool_input.specs.declared.parts.Part.TheVariants as part
 use Rattle.tool_input.specs.declared.rejection.Rejection.{Rejection}
 use Rattle.tool_input.specs.declared.status.Status.{Status}

@@ -9,8 +9,8 @@ use Rattle.enactability.specs.Refusal.{IsOneMessage, IsRefusedDead}
 use Rattle.log_checker.specs.declared.refusal.Reject.{Reject}
 use Rattle.refutation_log.specs.declared.refusal.LogRefusal.{LogRefusal}
 use Rattle.refutation_log.specs.declared.refutation.Log.{Log}
-use Rattle.tool_frame.specs.declared.need.Need.TheVariants.{Part}
-use Rattle.tool_frame.specs.Rules.{CommandRules}
+use Rattle.tool_input.specs.declared.need.Need.TheVariants.{Part}
+use Rattle.tool_input.specs.Rules.{CommandRules}
 use Rattle.tool_input.specs.declared.parts.Part.TheVariants as part
 use Rattle.tool_input.specs.declared.rejection.Rejection.{Rejection}
 use Rattle.tool_input.specs.declared.status.Status.{Status}

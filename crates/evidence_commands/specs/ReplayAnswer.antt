@@ -8,8 +8,8 @@ use Rattle.report.specs.ReplayText.{IsReplayText}
 use Rattle.run_text.specs.declared.refusal.RunRefusal.{RunRefusal}
 use Rattle.run_text.specs.Refusal.{IsRefusedRun}
 use Rattle.run_text.specs.RunText.{IsRunText}
-use Rattle.tool_frame.specs.declared.need.Need.TheVariants.{Part}
-use Rattle.tool_frame.specs.Rules.{CommandRules}
+use Rattle.tool_input.specs.declared.need.Need.TheVariants.{Part}
+use Rattle.tool_input.specs.Rules.{CommandRules}
 use Rattle.tool_input.specs.declared.parts.Part.TheVariants as part
 use Rattle.tool_input.specs.declared.rejection.Rejection.{Rejection}
 use Rattle.tool_input.specs.declared.status.Status.{Status}

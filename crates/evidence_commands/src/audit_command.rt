@@ -1,7 +1,7 @@
 ghost use Rattle.std.specs.Prelude.{IfErr, IfOk};
 ghost use Rattle.history_audit.specs.Histories.{AreHistories};
 ghost use Rattle.evidence_commands.specs.AuditAnswer.{IsAudited, IsAuditAnswer, IsAuditRefused};
-ghost use Rattle.tool_frame.specs.Error.{RejectsFor};
+ghost use Rattle.tool_input.specs.Error.{RejectsFor};
 
 use bspl_types::{Admitted, NoMemory};
 use history_audit::{AuditNo, Histories, read_histories};
@@ -9,8 +9,7 @@ use program_frame::Reply;
 use rejections::histories_rejection;
 use report::{bad_place_text, consistent_text, cycle_text};
 use std::alloc::Global;
-use tool_frame::{AnswerError, error_for};
-use tool_input::Status;
+use tool_input::{AnswerError, Status, error_for};
 
 /// Answers `audit` on the text of histories.
 pub fn audit(alloc: Global, protocol: &Admitted, part: &[u8]) -> Result<Reply<Status>, AnswerError>

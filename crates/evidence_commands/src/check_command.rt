@@ -1,6 +1,6 @@
 ghost use Rattle.std.specs.Prelude.{◌≡◌, ◌≤◌, IfErr, IfOk, length};
 ghost use Rattle.bspl_types.specs.Limits.{input_limit};
-ghost use Rattle.tool_frame.specs.Error.{RejectsFor};
+ghost use Rattle.tool_input.specs.Error.{RejectsFor};
 ghost use Rattle.tool_input.specs.Lines.{line};
 ghost use Rattle.evidence_commands.specs.CheckAnswer.{IsCheckAnswer, IsCheckRefused, accepted_kind_line};
 
@@ -13,8 +13,7 @@ use protocol_check::property_of;
 use refutation_log::{Kind, read_log, steps_are_fewer_than_bytes};
 use rejections::{log_rejection, reject_line};
 use std::alloc::Global;
-use tool_frame::{AnswerError, error_for};
-use tool_input::Status;
+use tool_input::{AnswerError, Status, error_for};
 
 /// Answers `check` on the text of a log.
 pub fn check(alloc: Global, protocol: &Admitted, part: &[u8]) -> Result<Reply<Status>, AnswerError>

@@ -4,7 +4,7 @@ ghost use Rattle.bspl_types.specs.Limits.{input_limit};
 ghost use Rattle.tool_input.specs.Lines.{line};
 ghost use Rattle.evidence_commands.specs.CheckDeadAnswer.{IsCheckDeadAnswer, IsCheckDeadRefused};
 ghost use Rattle.evidence_commands.specs.CheckDeadAnswer.{accepted_dead_line};
-ghost use Rattle.tool_frame.specs.Error.{RejectsFor};
+ghost use Rattle.tool_input.specs.Error.{RejectsFor};
 
 use super::wording::ACCEPTED_DEAD;
 use bspl_types::{Admitted, Bytes, Expanded, NoMemory};
@@ -13,8 +13,7 @@ use log_checker::Reject;
 use program_frame::Reply;
 use rejections::{log_rejection, reject_line};
 use std::alloc::Global;
-use tool_frame::{AnswerError, error_for};
-use tool_input::Status;
+use tool_input::{AnswerError, Status, error_for};
 
 /// Answers `check-dead` on the text of a log on a message.
 pub fn check_dead(

@@ -1,6 +1,6 @@
 ghost use Rattle.std.specs.Prelude.{IfErr, IfOk};
 ghost use Rattle.evidence_commands.specs.ReplayAnswer.{IsReplayAnswer, IsReplayRefused};
-ghost use Rattle.tool_frame.specs.Error.{RejectsFor};
+ghost use Rattle.tool_input.specs.Error.{RejectsFor};
 
 use bspl_types::Admitted;
 use program_frame::Reply;
@@ -8,8 +8,7 @@ use rejections::run_rejection;
 use report::replay_text;
 use run_text::read_run;
 use std::alloc::Global;
-use tool_frame::{AnswerError, error_for};
-use tool_input::Status;
+use tool_input::{AnswerError, Status, error_for};
 
 /// Answers `replay` on the text of a run.
 pub fn replay(alloc: Global, protocol: &Admitted, part: &[u8]) -> Result<Reply<Status>, AnswerError>

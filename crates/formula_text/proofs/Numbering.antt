@@ -6,14 +6,14 @@ use Rattle.std.proofs.lemmas.Bool.{cond-true, lt-ltb}
 use Rattle.std.proofs.lemmas.List.{map-append}
 use Rattle.std.proofs.lemmas.Nat.{mul-le}
 use Rattle.bspl_types.specs.declared.expanded.Expanded.{Expanded}
-use Rattle.clause_core.specs.Literal.{negated}
+use Rattle.clause_core.specs.Literal.{negated, positive}
 use Rattle.clause_encoding.specs.declared.rivals.Rivals.{Rivals}
 use Rattle.clause_encoding.specs.declared.variables.Variables.{Variables}
 use Rattle.clause_encoding.specs.declared.wants.Want.{Want}
 use Rattle.clause_encoding.specs.Formula.{liveness_variables, safety_variables, variables_of}
 use Rattle.clause_encoding.specs.Rest.{public_values, unbound_variables, want_variables, wants_of}
 use Rattle.clause_encoding.specs.Rivals.{rivals_of}
-use Rattle.clause_encoding.specs.Variables.{kind_count, order_variable, positive, variable_count}
+use Rattle.clause_encoding.specs.Variables.{kind_count, order_variable, variable_count}
 use Rattle.bspl_types.specs.declared.property.Property.{Property}
 use Rattle.bspl_types.specs.declared.property.Property.TheVariants.{Liveness, Safety}
 use Rattle.formula_text.specs.Legend.{Meaning, lack, legend, occurrence, occurrences, order, orders, orders_of, own_meanings, selection, unbound}

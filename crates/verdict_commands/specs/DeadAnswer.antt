@@ -12,8 +12,8 @@ use Rattle.run_text.specs.RunText.{run_text}
 use Rattle.tool_input.specs.declared.status.Status.{Status}
 use Rattle.tool_input.specs.declared.status.Status.TheVariants as status
 use Rattle.tool_input.specs.Lines.{line}
-use Rattle.tool_frame.specs.declared.need.Need.TheVariants.{Nothing}
-use Rattle.tool_frame.specs.Rules.{CommandRules, NeverRefuses}
+use Rattle.tool_input.specs.declared.need.Need.TheVariants.{Nothing}
+use Rattle.tool_input.specs.Rules.{CommandRules, NeverRefuses}
 use Rattle.verdict_commands.specs.MessageLines.{dead_line, enacted_line, undecided_message_line}
 
 -- the line of the answer on the message of that name

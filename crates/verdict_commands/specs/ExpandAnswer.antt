@@ -4,8 +4,8 @@ use Rattle.bspl_types.specs.declared.expanded.Expanded.{Expanded}
 use Rattle.protocol_expand.specs.Printed.{IsPrinted}
 use Rattle.tool_input.specs.declared.status.Status.{Status}
 use Rattle.tool_input.specs.declared.status.Status.TheVariants.{Done}
-use Rattle.tool_frame.specs.declared.need.Need.TheVariants.{Nothing}
-use Rattle.tool_frame.specs.Rules.{CommandRules, NeverRefuses}
+use Rattle.tool_input.specs.declared.need.Need.TheVariants.{Nothing}
+use Rattle.tool_input.specs.Rules.{CommandRules, NeverRefuses}
 
 -- the text of its expansion
 pub record IsExpandAnswer (x : Expanded) (out : List ℕ) (status : Status) : Type 0 where

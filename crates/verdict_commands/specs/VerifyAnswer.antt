@@ -8,8 +8,8 @@ use Rattle.verdict.specs.declared.outcome.Verdicts.{Verdicts}
 use Rattle.verdict.specs.Right.{IsSafeByEmptyLog}
 use Rattle.verdict.specs.Verdicts.{AreRightAnswers}
 use Rattle.tool_input.specs.declared.status.Status.{Status}
-use Rattle.tool_frame.specs.declared.need.Need.TheVariants.{Nothing}
-use Rattle.tool_frame.specs.Rules.{CommandRules, NeverRefuses}
+use Rattle.tool_input.specs.declared.need.Need.TheVariants.{Nothing}
+use Rattle.tool_input.specs.Rules.{CommandRules, NeverRefuses}
 
 -- the verdicts are right, and this is their text; without rival producers the protocol is safe by
 -- an empty log
