@@ -22,7 +22,7 @@ from pathlib import Path
 from measure import RUNS, TOP
 from rattle_build import built
 
-USES = """adornment_check bspl_parser bspl_types durable_store list_base local_store program_args protocol_expand
+USES = """bspl_parser bspl_types durable_store list_base local_store program_frame protocol_expand
 role_journal stamped_history""".split()
 WHAT = ["store", "durable", "start", "SQLite", "no file"]
 

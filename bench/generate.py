@@ -18,7 +18,7 @@ THREADS = [0, 1, 4, 8]
 
 
 def text_of(stages):
-    """The protocol of so many stages, as docs/LANGUAGE.md gives it."""
+    """The protocol of so many stages, as docs/COMMANDS.md gives it."""
     numbers = range(1, stages + 1)
     params = ", ".join(["out ID key", *(f"out x{i}" for i in numbers)])
     lines = []

@@ -3,7 +3,7 @@
 //!     role NAME ROLE
 //!
 //! Standard input begins with a protocol without references and the line `%% wire`. Each line after it is a request,
-//! and is answered before the next is waited for, as docs/LANGUAGE.md says of a live role. The protocol is neither
+//! and is answered before the next is waited for, as docs/COMMANDS.md says of a live role. The protocol is neither
 //! admitted nor judged here.
 use std::collections::{HashMap, HashSet};
 use std::io::{self, BufRead, BufReader, BufWriter, Write};

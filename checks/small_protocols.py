@@ -6,11 +6,11 @@
 COUNT (200) protocols are made by a rule from a seed, and the protocols of examples/ that stand for themselves
 are added. For each one the formulas that `bspl_more formula` prints for NAME, of `safety`, of `liveness` and of `dead M`
 for each message M, are compared, clause by clause, with those that are made here from the tables of families in
-docs/LANGUAGE.md; `minisat`, if it is installed, decides them; and the runs are searched here, without any formula. A
+docs/FORMATS.md; `minisat`, if it is installed, decides them; and the runs are searched here, without any formula. A
 protocol is unsafe exactly if its safety formula has a solution, not live exactly if its liveness formula has one, and
 a message can be sent exactly if its formula has one. The verdicts of `bspl verify` are compared too, and the answers
 of `bspl_more can` on each message and on each two, if they are built. BSPL and BSPL_MORE name the programs
-(crates/bspl_formula/out/bspl_formula and so on). The status is 1 if anything differs.
+(crates/bspl/out/bspl and so on). The status is 1 if anything differs.
 """
 import itertools
 import random
@@ -110,7 +110,7 @@ def search(protocol):
 
 
 def formula(protocol, wanted):
-    """The clauses of docs/LANGUAGE.md, each as a set of literals: for a property, or for a message by its index."""
+    """The clauses of docs/FORMATS.md, each as a set of literals: for a property, or for a message by its index."""
     _, params, values, _, messages = protocol
     count = len(messages)
     kinds = 2 * count

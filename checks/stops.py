@@ -23,7 +23,7 @@ sys.path.insert(0, str(HERE.parent / "bench"))
 from rattle_build import add_crate, copy_crates, run  # noqa: E402
 
 SECONDS = os.environ.get("SECONDS_EACH", "600")
-USES = """adornment_check bspl_parser bspl_types durable_store list_base local_store program_args protocol_expand
+USES = """bspl_parser bspl_types durable_store list_base local_store program_frame protocol_expand
 role_journal stamped_history""".split()
 
 
