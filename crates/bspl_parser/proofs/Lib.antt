@@ -43,3 +43,4 @@ pub mod Texts
 pub mod LoopReading
 pub mod Unique
 pub mod WordLemmas
+pub mod SeparatedWords

@@ -3,6 +3,8 @@ pub use Rattle.bspl_types.specs.Name
 pub mod Symbol
 pub mod Token
 pub mod Tokens
+pub mod Refused
+pub mod Separated
 pub mod Sign
 pub mod Grammar
 pub mod Spelling

@@ -18,14 +18,18 @@ mod symbol;
 mod text;
 mod token;
 mod token_stream;
+mod tokens;
 mod word;
 
 pub use document::{
     Adorn, Declaration, DeclarationList, Document, Formal, FormalList, Item, ItemList, Reference,
     Schema,
 };
-pub use laws::{answers_once, equal_words, reads_back};
+pub use laws::{answers_once, equal_words, reads_back, spaced_tokens, tokens_once};
 pub use parser::parse;
 pub use printer::print;
+pub use symbol::Symbol;
 pub use text::Text;
+pub use token::Token;
+pub use tokens::{TokensError, tokens_of};
 pub use word::{Word, WordList};

@@ -51,7 +51,7 @@ impl<'t> TokenStream<'t> {
     }
 
     /// Takes the next token.
-    fn next(&mut self) -> Option<Token<'t>>
+    pub fn next(&mut self) -> Option<Token<'t>>
         ensures some { IfSome result (λ token. self.old ≡ with_token token self.new) }
         ensures none { IfNone result (self.old.tokens ≡ []) }
         ensures kept { IfNone result (self.new ≡ self.old) }

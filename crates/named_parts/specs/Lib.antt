@@ -1,0 +1,3 @@
+-- What has a name, and that no two have one.
+pub mod NamedParts
+pub mod Laws
