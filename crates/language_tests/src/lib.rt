@@ -28,7 +28,11 @@ mod protocol_limits_tests;
 #[cfg(test)]
 mod protocol_names_tests;
 #[cfg(test)]
+mod protocol_rules_tests;
+#[cfg(test)]
 mod protocols;
+#[cfg(test)]
+mod question_text_tests;
 #[cfg(test)]
 mod reference_graph_tests;
 #[cfg(test)]

@@ -1,2 +1,4 @@
 pub mod MomentLemmas
 pub mod RestLemmas
+pub mod QuietLemmas
+pub mod SameLemmas

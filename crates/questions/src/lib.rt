@@ -3,7 +3,9 @@
 
 mod answer;
 mod happening;
+mod laws;
 mod question;
 
 pub use answer::is_yes;
+pub use laws::{at_rest_is_quiet, dead_is_a_question, quiet_is_at_rest, same_has_same_answer};
 pub use question::{Happening, Question};

@@ -1,0 +1,5 @@
+pub mod BracesLemmas
+pub mod OffsetLemmas
+pub mod OnceLemmas
+pub mod PartLemmas
+pub mod ReadingLemmas

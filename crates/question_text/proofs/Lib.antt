@@ -1,0 +1,13 @@
+pub mod Completeness
+pub mod Completions
+pub mod Forms
+pub mod Keywords
+pub mod ReadWords
+pub mod Steps
+pub mod WordLemmas
+pub mod QuestionWords
+pub mod Readings
+pub mod SpellingLemmas
+pub mod Faults
+pub mod UnknownLemmas
+pub mod MeaningLemmas
