@@ -8,8 +8,10 @@ use Rattle.bspl_types.specs.declared.expanded.Expanded.{Expanded}
 use Rattle.bspl_types.specs.Expansion.{message_of}
 use Rattle.clause_encoding.specs.declared.rivals.Rivals.{Rivals}
 use Rattle.clause_encoding.specs.Carriers.{binds, carriers, kinds_at, sender_carriers}
+use Rattle.clause_encoding.specs.Formula.{plain_variables}
+use Rattle.clause_encoding.specs.Laws.{CarriersAreKinds}
 use Rattle.clause_encoding.specs.Rivals.{producers_of, produces, rivals_among, rivals_of}
-use Rattle.clause_encoding.specs.Variables.{kind_count, message_numbers, received, sent}
+use Rattle.clause_encoding.specs.Variables.{IsKind, kind_count, message_numbers, received, sent}
 use Rattle.clause_encoding.specs.inner.Kinds.{AreWithin, IsOtherKind}
 use Rattle.clause_encoding.proofs.FilterLemmas.{all_flat_map, all_one}
 use Rattle.clause_encoding.proofs.RangeLemmas.{range_members}
@@ -44,6 +46,11 @@ carriers_exist x role p =
     let known = All-filter test (λ m. m < length x.messages) (message_numbers x) (numbers_known x) in
     all_flat_map (Exists x) (kinds_at x role) (filter test (message_numbers x))
     (All-weaker (λ m. m < length x.messages) (λ m. All (Exists x) (kinds_at x role m)) (λ m. kinds_exist x role m) (filter test (message_numbers x)) known)
+
+-- so they are kinds of each formula
+pub carriers_are_kinds : CarriersAreKinds
+carriers_are_kinds x role p =
+    All-weaker (Exists x) (IsKind (plain_variables x)) (λ kind exists. record { from_one = exists.0; up_to = exists.1 }) (carriers x role p) (carriers_exist x role p)
 
 -- those at the sender that are not the emission exist, and differ from it
 pub other_kinds : (x : Expanded) (m p : ℕ) → All (IsOtherKind x m) (sender_carriers x m p)

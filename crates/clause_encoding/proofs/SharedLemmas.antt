@@ -1,24 +1,23 @@
 -- The clauses of an order and the families after them are those that every formula has.
-use Rattle.std.proofs.Common.{◌≡◌, List, [], ◌++◌, ap, refl, sym, ◌∙◌, subst, append_assoc}
+use Rattle.std.proofs.Common.{◌≡◌, ◌≤◌, List, [], ◌++◌, length, ap, refl, sym, ◌∙◌, subst, arith, append_assoc}
 use Rattle.std.specs.List.{All}
 use Rattle.bspl_types.specs.declared.expanded.Expanded.{Expanded}
-use Rattle.bspl_types.specs.declared.property.Property.TheVariants.{Safety}
 use Rattle.clause_core.specs.declared.literal.Lit.{Lit}
 use Rattle.clause_core.specs.Clause.{VariablesExist}
 use Rattle.order_axioms.specs.declared.order.Order.{Order}
 use Rattle.order_axioms.specs.Order.{CycleClausesAscend, order_list}
 use Rattle.clause_encoding.specs.declared.variables.Variables.{Variables}
 use Rattle.clause_encoding.specs.Families.{delivery_clauses, freshness_clauses, occurrence_clauses, order_clauses, premise_clauses, shared_clauses}
-use Rattle.clause_encoding.specs.Formula.{safety_variables}
 use Rattle.clause_encoding.specs.Ordered.{IsOrderOf}
-use Rattle.clause_encoding.specs.Variables.{variable_count}
+use Rattle.clause_encoding.specs.Variables.{IsSmall, variable_count}
 use Rattle.clause_core.specs.Written.{AppendsClauses, Written, AreClausesOf}
+use Rattle.clause_encoding.specs.inner.Kinds.{AreOver}
 use Rattle.clause_encoding.specs.inner.Order.{families_after_order}
 use Rattle.clause_encoding.proofs.AppendsLemmas.{joined}
+use Rattle.clause_encoding.proofs.ClauseLengths.{few_shared}
 use Rattle.clause_encoding.proofs.FamilyLemmas.{shared_exist}
-use Rattle.clause_encoding.proofs.FormulaLemmas.{appended_exist}
+use Rattle.clause_encoding.proofs.FormulaLemmas.{appended_count, appended_exist}
 use Rattle.clause_encoding.proofs.OrderLemmas.{order_are}
-use Rattle.clause_encoding.proofs.PropertyLemmas.{variables_over}
 
 -- the families of every formula are the order clauses and those after them
 shared_parts : (x : Expanded) (vars : Variables) → shared_clauses x vars ≡ order_clauses vars ++ families_after_order x vars
@@ -39,14 +38,17 @@ families_are ascend x vars o rest is appends =
     subst (λ (written : List Written). AreClausesOf written (order_list o ++ rest)) (sym (shared_parts x vars))
     (joined (order_clauses vars) (families_after_order x vars) (order_list o) rest (order_are ascend o vars is) are)
 
--- the same by other names of the protocol and the variables
-pub whole_families : CycleClausesAscend → (x y : Expanded) (vars : Variables) (o : Order) (rest : List (List Lit)) → y ≡ x → vars ≡ safety_variables x → IsOrderOf vars o → AppendsClauses [] rest (families_after_order y vars) → AreClausesOf (shared_clauses x (safety_variables x)) (order_list o ++ rest)
-whole_families ascend x y vars o rest same is is_order appends =
-    subst (λ (v : Variables). AreClausesOf (shared_clauses x v) (order_list o ++ rest)) is
-    (families_are ascend x vars o rest is_order (subst (λ (z : Expanded). AppendsClauses [] rest (families_after_order z vars)) same appends))
+-- the same by another name of the protocol
+pub whole_families : CycleClausesAscend → (x y : Expanded) (vars : Variables) (o : Order) (rest : List (List Lit)) → y ≡ x → IsOrderOf vars o → AppendsClauses [] rest (families_after_order y vars) → AreClausesOf (shared_clauses x vars) (order_list o ++ rest)
+whole_families ascend x y vars o rest same is_order appends =
+    families_are ascend x vars o rest is_order (subst (λ (z : Expanded). AppendsClauses [] rest (families_after_order z vars)) same appends)
 
 -- their variables exist
-pub families_exist : (x : Expanded) (clauses : List (List Lit)) → AreClausesOf (shared_clauses x (safety_variables x)) clauses → All (VariablesExist (variable_count (safety_variables x))) clauses
-families_exist x clauses are =
-    let vars = safety_variables x in
-    appended_exist vars (shared_clauses x vars) clauses (record { added = clauses; follows = refl; are = are }) (shared_exist x vars (variables_over Safety x))
+pub families_exist : (x : Expanded) (vars : Variables) (clauses : List (List Lit)) → AreOver x vars → AreClausesOf (shared_clauses x vars) clauses → All (VariablesExist (variable_count vars)) clauses
+families_exist x vars clauses over are =
+    appended_exist vars (shared_clauses x vars) clauses (record { added = clauses; follows = refl; are = are }) (shared_exist x vars over)
+
+-- and they are few
+pub families_few : (x : Expanded) (vars : Variables) (clauses : List (List Lit)) → IsSmall vars → AreClausesOf (shared_clauses x vars) clauses → length clauses ≤ 8000000
+families_few x vars clauses small are =
+    omega (arith, appended_count (shared_clauses x vars) clauses (record { added = clauses; follows = refl; are = are }), few_shared x vars small.few_kinds)

@@ -26,6 +26,10 @@ abbrev pub variables_of : Property → Expanded → Variables
 variables_of property x =
     record { kinds = kind_count x; order_base = order_base_of property x }
 
+-- the variables with none between those of the kinds and those of order
+abbrev pub plain_variables : Expanded → Variables
+plain_variables x = record { kinds = kind_count x; order_base = kind_count x }
+
 -- the clauses that only the formula of the property has
 abbrev pub own_clauses : Property → Expanded → List Written
 own_clauses Safety x = rival_clauses x

@@ -1,13 +1,16 @@
 -- What holds of the clauses and the variables of a formula. Each statement is the contract of a
 -- function.
-use Rattle.std.specs.Prelude.{◌≡◌, ◌↔◌, ◌≤◌, ℕ, Bool, List, length}
+use Rattle.std.specs.Prelude.{◌≡◌, ◌≢◌, ◌↔◌, ◌<◌, ◌≤◌, ℕ, Bool, List, length}
+use Rattle.std.specs.List.{All}
 use Rattle.bspl_types.specs.declared.expanded.Expanded.{Expanded}
 use Rattle.bspl_types.specs.declared.property.Property.{Property}
 use Rattle.clause_core.specs.declared.literal.Lit.{Lit}
 use Rattle.clause_core.specs.Clause.{SatisfiesAll}
 use Rattle.clause_core.specs.Written.{Written, AreClausesOf}
-use Rattle.clause_encoding.specs.Formula.{clauses_of, liveness_clauses, safety_clauses, variables_of}
-use Rattle.clause_encoding.specs.Variables.{IsSmall, variable_count}
+use Rattle.clause_encoding.specs.declared.variables.Variables.{Variables}
+use Rattle.clause_encoding.specs.Carriers.{carriers}
+use Rattle.clause_encoding.specs.Formula.{clauses_of, liveness_clauses, plain_variables, safety_clauses, variables_of}
+use Rattle.clause_encoding.specs.Variables.{IsKind, IsSmall, stands_before, variable_count}
 
 -- an assignment satisfies the clauses exactly if it satisfies what is written
 abbrev pub WrittenIsSatisfied : Type 0
@@ -48,3 +51,14 @@ VariablesAreSmall = (property : Property) (x : Expanded) → IsSmall (variables_
 abbrev pub VariablesAreFew : Type 0
 VariablesAreFew =
     (property : Property) (x : Expanded) → variable_count (variables_of property x) ≤ 2000000
+
+-- the kinds at a role that make a parameter known are kinds of the protocol
+abbrev pub CarriersAreKinds : Type 0
+CarriersAreKinds =
+    (x : Expanded) (role p : ℕ) → All (IsKind (plain_variables x)) (carriers x role p)
+
+-- the literal that one kind stands before another is of a variable that there is
+abbrev pub OrderVariablesExist : Type 0
+OrderVariablesExist =
+    (vars : Variables) (i j : ℕ) → IsKind vars i → IsKind vars j → i ≢ j →
+    (0 < (stands_before vars i j).var) × ((stands_before vars i j).var ≤ variable_count vars)

@@ -6,7 +6,7 @@ use Rattle.clause_encoding.specs.declared.variables.Variables.{Variables}
 use Rattle.clause_core.specs.declared.formula.Formula.{Formula}
 use Rattle.clause_core.specs.Written.{AreClausesOf}
 use Rattle.clause_encoding.specs.Families.{shared_clauses}
-use Rattle.clause_encoding.specs.Formula.{IsFormula, safety_variables, variables_of}
+use Rattle.clause_encoding.specs.Formula.{IsFormula, variables_of}
 use Rattle.clause_encoding.specs.Variables.{variable_count}
 use Rattle.order_axioms.specs.declared.order.Order.{Order}
 use Rattle.order_axioms.specs.declared.ordered_formula.OrderedFormula.{OrderedFormula}
@@ -23,7 +23,7 @@ pub record IsOrderedFormula (property : Property) (x : Expanded) (f : OrderedFor
   pub is_whole : IsFormula property x (whole f)
   pub order : IsOrderOf (variables_of property x) f.order
 
--- the formula has the families of every formula and no more, over the variables of safety
-pub record IsSharedFormula (x : Expanded) (f : Formula) : Type 0 where
-  pub vars : f.vars ≡ variable_count (safety_variables x)
-  pub clauses : AreClausesOf (shared_clauses x (safety_variables x)) f.clauses
+-- the formula has the families of every formula and no more, over the variables
+pub record IsSharedFormula (x : Expanded) (variables : Variables) (f : Formula) : Type 0 where
+  pub vars : f.vars ≡ variable_count variables
+  pub clauses : AreClausesOf (shared_clauses x variables) f.clauses

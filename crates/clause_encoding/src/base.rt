@@ -1,5 +1,6 @@
 ghost use Rattle.std.specs.Prelude.{◌≡◌, IfOk};
-ghost use Rattle.clause_encoding.specs.Formula.{liveness_variables, safety_variables, variables_of};
+ghost use Rattle.clause_encoding.specs.Formula.{liveness_variables, plain_variables};
+ghost use Rattle.clause_encoding.specs.Formula.{safety_variables, variables_of};
 ghost use Rattle.clause_encoding.specs.Variables.{IsSmall, kind_count};
 
 use super::parameters::public_values;
@@ -42,6 +43,19 @@ pub fn liveness_variables(alloc: Global, a: &Admitted) -> Result<Variables, NoMe
     ensures small { IfOk result IsSmall }
 {
     variables_of(alloc, Property::Liveness, a)
+}
+
+/// The variables of a formula that has none of its own between those of the kinds and those of
+/// order.
+pub fn plain_variables(x: &Expanded) -> Variables
+    ensures exact { result ≡ plain_variables x.now }
+    ensures small { IsSmall result }
+{
+    let kinds = kind_count(x);
+    Variables {
+        kinds,
+        order_base: kinds,
+    }
 }
 
 /// How many event kinds there are: the first variable that only one property's formula has comes

@@ -5,7 +5,7 @@ ghost use Rattle.clause_encoding.specs.Variables.{occurs};
 ghost use Rattle.clause_core.specs.Written.{AppendsClauses};
 ghost use Rattle.clause_encoding.specs.inner.Lacking.{AreWants, wanted_lits};
 
-use super::carriers::sender_carriers;
+use super::carrier_kinds::sender_carriers;
 use super::kinds::sent;
 use super::parameters::fresh_parameters;
 use super::wants::Want;

@@ -2,7 +2,7 @@ ghost use Rattle.std.specs.Prelude.{◌≡◌, ◌≤◌, [], length, IfOk, OnOk
 ghost use Rattle.clause_encoding.specs.Formula.{IsFormula, IsLivenessFormula, IsSafetyFormula};
 ghost use Rattle.clause_encoding.specs.Formula.{clauses_of, own_clauses, variables_of};
 ghost use Rattle.clause_encoding.specs.Ordered.{IsOrderedFormula, IsSharedFormula};
-ghost use Rattle.clause_encoding.specs.Variables.{IsSmall};
+ghost use Rattle.clause_encoding.specs.Variables.{IsSmall, kind_count};
 ghost use Rattle.clause_core.specs.Written.{AppendsClauses};
 ghost use Rattle.clause_encoding.specs.inner.Order.{clauses_after_order};
 ghost use Rattle.order_axioms.specs.Formula.{whole};
@@ -54,14 +54,20 @@ pub fn ordered_formula_of(
     Ok(OrderedFormula { order, stored })
 }
 
-/// The families of every formula, over the variables of the safety formula. The order clauses are
-/// known by number and not stored.
-pub fn ordered_families(alloc: Global, a: &Admitted) -> Result<OrderedFormula, NoMemory>
-    ensures { IfOk result (λ f. IsSharedFormula a.now (whole f)) }
+/// The families of every formula, over the variables. The order clauses are known by number and not
+/// stored.
+pub fn ordered_families(
+    alloc: Global,
+    a: &Admitted,
+    vars: Variables,
+) -> Result<OrderedFormula, NoMemory>
+    requires kinds { vars.kinds ≡ kind_count a.now }
+    requires small { IsSmall vars }
+    ensures exact { IfOk result (λ f. IsSharedFormula a.now vars (whole f)) }
+    ensures few { IfOk result (λ f. length (whole f).clauses ≤ 8000000) }
 {
     // law: the literals of a clause that forbids a cycle ascend
     cycle_clauses_ascend();
-    let vars = variables_of(alloc, Property::Safety, a)?;
     let mut clauses = Seq::new(alloc);
     push_families(&mut clauses, alloc, a.expanded(), vars)?;
     let order = order_of(vars);

@@ -6,7 +6,7 @@ ghost use Rattle.clause_encoding.specs.Families.{fresh_clauses_of, freshness_cla
 ghost use Rattle.clause_core.specs.Written.{AppendsClauses};
 ghost use Rattle.clause_encoding.specs.inner.Kinds.{AreOver};
 
-use super::carriers::sender_carriers;
+use super::carrier_kinds::sender_carriers;
 use super::kinds::sent;
 use super::parameters::fresh_parameters;
 use super::variables::Variables;

@@ -2,7 +2,7 @@ ghost use Rattle.std.specs.Prelude.{◌≡◌, ◌<◌};
 ghost use Rattle.clause_encoding.specs.Variables.{received, sent};
 
 /// The kind of the message's emission.
-pub(crate) fn sent(m: u32) -> u32
+pub fn sent(m: u32) -> u32
     requires { m < 64 }
     ensures { result ≡ sent m }
 {
@@ -10,7 +10,7 @@ pub(crate) fn sent(m: u32) -> u32
 }
 
 /// The kind of the message's reception.
-pub(crate) fn received(m: u32) -> u32
+pub fn received(m: u32) -> u32
     requires { m < 64 }
     ensures { result ≡ received m }
 {

@@ -1,5 +1,7 @@
-ghost use Rattle.clause_encoding.specs.Laws.{ClausesAreAsMany, ClausesAreDetermined, ClausesAreFew};
-ghost use Rattle.clause_encoding.specs.Laws.{LivenessClausesAreFew, SafetyClausesAreFew};
+ghost use Rattle.clause_encoding.specs.Laws.{CarriersAreKinds, ClausesAreAsMany};
+ghost use Rattle.clause_encoding.specs.Laws.{ClausesAreDetermined, ClausesAreFew};
+ghost use Rattle.clause_encoding.specs.Laws.{LivenessClausesAreFew, OrderVariablesExist};
+ghost use Rattle.clause_encoding.specs.Laws.{SafetyClausesAreFew};
 ghost use Rattle.clause_encoding.specs.Laws.{VariablesAreFew, VariablesAreSmall};
 ghost use Rattle.clause_encoding.specs.Laws.{WrittenIsSatisfied};
 
@@ -42,4 +44,16 @@ pub fn liveness_clauses_are_few()
 pub fn variables_are_small()
     ensures small { VariablesAreSmall }
     ensures few { VariablesAreFew }
+{}
+
+/// A law: what makes a parameter known at a role are kinds of the protocol.
+#[tactic(auto, using(crate::proofs::KindLemmas::carriers_are_kinds))]
+pub fn carriers_are_kinds()
+    ensures { CarriersAreKinds }
+{}
+
+/// A law: the variables of two kinds are among those of the formula.
+#[tactic(auto, using(crate::proofs::VariableLemmas::before_exists))]
+pub fn order_variables_exist()
+    ensures { OrderVariablesExist }
 {}

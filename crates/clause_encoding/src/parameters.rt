@@ -51,7 +51,7 @@ pub(crate) fn fresh_parameters(alloc: Global, message: &Message) -> Result<Numbe
 }
 
 /// Whether the message adorns the parameter `in` or `out`.
-pub(crate) fn binds(message: &Message, param: u32) -> bool
+pub fn binds(message: &Message, param: u32) -> bool
     ensures { result ≡ binds message.now param }
 {
     has_value_for(message.carried.as_slice(), param)

@@ -5,7 +5,7 @@ ghost use Rattle.clause_encoding.specs.Families.{premise_clause, premise_clauses
 ghost use Rattle.clause_core.specs.Written.{AppendsClauses};
 ghost use Rattle.clause_encoding.specs.inner.Kinds.{AreOver};
 
-use super::carriers::sender_carriers;
+use super::carrier_kinds::sender_carriers;
 use super::kinds::sent;
 use super::parameters::in_parameters;
 use super::variables::Variables;

@@ -3,7 +3,7 @@ ghost use Rattle.clause_encoding.specs.Rest.{want_clauses, want_clauses_of};
 ghost use Rattle.clause_core.specs.Written.{AppendsClauses};
 ghost use Rattle.clause_encoding.specs.inner.Lacking.{AreWants};
 
-use super::carriers::sender_carriers;
+use super::carrier_kinds::sender_carriers;
 use super::clauses::push_absence;
 use super::wants::Want;
 use bspl_types::Expanded;

@@ -8,9 +8,11 @@ use Rattle.clause_core.specs.declared.formula.Formula.{Formula}
 use Rattle.clause_core.specs.declared.literal.Lit.{Lit}
 use Rattle.clause_core.specs.Clause.{VariablesExist}
 use Rattle.clause_core.specs.Written.{Written, AreClausesOf}
+use Rattle.clause_encoding.specs.declared.variables.Variables.{Variables}
 use Rattle.clause_encoding.specs.Families.{shared_clauses}
 use Rattle.clause_encoding.specs.Formula.{safety_variables}
 use Rattle.clause_encoding.specs.Ordered.{IsSharedFormula}
+use Rattle.clause_encoding.specs.Variables.{variable_count}
 use Rattle.order_axioms.specs.declared.order.Order.{Order}
 use Rattle.order_axioms.specs.declared.ordered_formula.OrderedFormula.{OrderedFormula}
 use Rattle.order_axioms.specs.Formula.{whole}
@@ -19,10 +21,10 @@ use Rattle.enactability.specs.EnactFormula.{IsEnactFormula}
 use Rattle.enactability.specs.inner.Sent.{HasFirstStored, HasSentAdded, HasSentStored, HasSomeAdded, HasSomeStored, IsLonger, IsSame}
 
 -- the shared clauses ask for no message
-pub asks_for_none : (x : Expanded) (f : Formula) → IsSharedFormula x f → IsEnactFormula x [] f
-asks_for_none x f is = record {
-  vars = is.vars;
-  clauses = subst (λ (written : List Written). AreClausesOf written f.clauses) (sym (append-nil (shared_clauses x (safety_variables x)))) is.clauses;
+pub asks_for_none : (x : Expanded) (vars : Variables) (f : Formula) → vars ≡ safety_variables x → IsSharedFormula x vars f → IsEnactFormula x [] f
+asks_for_none x vars f same is = record {
+  vars = is.vars ∙ ap variable_count same;
+  clauses = subst (λ (written : List Written). AreClausesOf written f.clauses) (ap (shared_clauses x) same ∙ sym (append-nil (shared_clauses x (safety_variables x)))) is.clauses;
 }
 
 -- the variables exist if those of the order did and those of what is stored do

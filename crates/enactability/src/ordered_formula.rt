@@ -8,7 +8,7 @@ ghost use Rattle.enactability.specs.inner.Sent.{HasSentStored, HasSomeStored};
 use super::clause_cut::keep_first;
 use super::formula::push_sent;
 use bspl_types::Admitted;
-use clause_encoding::ordered_families;
+use clause_encoding::{ordered_families, safety_variables};
 use list_base::NoMemory;
 use order_axioms::OrderedFormula;
 use std::alloc::Global;
@@ -31,7 +31,8 @@ pub(crate) fn ordered_enact_formula(
 pub(crate) fn ordered_shared(alloc: Global, a: &Admitted) -> Result<OrderedFormula, NoMemory>
     ensures { IfOk result (λ f. IsEnactFormula a.now [] (whole f)) }
 {
-    ordered_families(alloc, a)
+    let vars = safety_variables(alloc, a)?;
+    ordered_families(alloc, a, vars)
 }
 
 /// Stores the clauses that the messages are sent, after the others. An error may leave some of

@@ -37,7 +37,7 @@ use Rattle.first_occurrences.proofs.PremiseLemmas.{sender_run}
 use Rattle.first_occurrences.proofs.SatisfiedLemmas.{satisfied_first, satisfied_if}
 
 -- two kinds that first occur at one position within the run are one
-one_position : (run : List Event) (key : List Value) (i j : ℕ) → is_occurring run key i ≡ true → is_occurring run key j ≡ true → first_position run key i ≡ first_position run key j → i ≡ j
+pub one_position : (run : List Event) (key : List Value) (i j : ℕ) → is_occurring run key i ≡ true → is_occurring run key j ≡ true → first_position run key i ≡ first_position run key j → i ≡ j
 one_position run key i j occurs_i occurs_j same =
     let one = first_event run key i occurs_i in
     let other = first_event run key j occurs_j in

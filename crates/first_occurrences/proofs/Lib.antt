@@ -9,10 +9,12 @@ pub mod DeliveryLemmas
 pub mod CarrierLemmas
 pub mod ParameterLemmas
 pub mod KnowledgeLemmas
+pub mod PrefixLemmas
 pub mod EmissionLemmas
 pub mod PremiseLemmas
 pub mod FreshnessLemmas
 pub mod SharedLemmas
+pub mod ShownLemmas
 pub mod NumberingLemmas
 pub mod ValuationLemmas
 pub mod RivalLemmas

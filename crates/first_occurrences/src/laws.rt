@@ -2,6 +2,8 @@ ghost use Rattle.first_occurrences.specs.Laws.{AssignmentExists, BoundExactlyIfS
 ghost use Rattle.first_occurrences.specs.Laws.{FreshnessHolds, OccurrenceHolds, OrderHolds};
 ghost use Rattle.first_occurrences.specs.Laws.{PremisesHold, RestHolds, RivalsHold};
 ghost use Rattle.first_occurrences.specs.Laws.{SharedClausesHold, ViolationHasModel};
+ghost use Rattle.first_occurrences.specs.Shown.{KnownExactlyIfCarried, OccursExactlyIfSomeEvent};
+ghost use Rattle.first_occurrences.specs.Shown.{OccursExactlyIfWithin, ReportsShow};
 ghost use Rattle.first_occurrences.specs.Headline.{UnsatisfiableHolds};
 
 use bspl_types::equal_values_are_one;
@@ -95,6 +97,31 @@ pub fn bound_exactly_if_sent()
     // law: what is known was bound by an event before
     known_exactly_if_some_event_binds();
 }
+
+/// In a legal run a role knows a parameter exactly if some kind occurs that makes it known there.
+pub fn known_exactly_if_carried()
+    ensures { KnownExactlyIfCarried }
+{
+    // law: lists of values that the test finds equal are one list
+    equal_values_are_one();
+    // law: what is known was bound by an event before
+    known_exactly_if_some_event_binds();
+}
+
+/// A kind occurs exactly if an event of the run is of the kind, and it does so among the first
+/// events exactly if its first position is one of theirs.
+pub fn occurs_exactly_if_some_event()
+    ensures event { OccursExactlyIfSomeEvent }
+    ensures within { OccursExactlyIfWithin }
+{
+    // law: lists of values that the test finds equal are one list
+    equal_values_are_one();
+}
+
+/// An assignment that reports the first occurrences of a run shows the run.
+pub fn reports_show()
+    ensures { ReportsShow }
+{}
 
 /// A legal run that is quiet at a key and leaves a public parameter unbound there satisfies the
 /// clauses that liveness adds.

@@ -8,6 +8,7 @@ use Rattle.bspl_types.specs.declared.expanded.Expanded.{Expanded}
 use Rattle.bspl_types.specs.declared.protocol.Message.{Message}
 use Rattle.bspl_types.specs.declared.protocol.ParamInfo.{ParamInfo}
 use Rattle.bspl_types.specs.Expansion.{no_message, message_name, no_param, param_name}
+use Rattle.clause_encoding.specs.declared.variables.Variables.{Variables}
 use Rattle.clause_encoding.specs.Rest.{unbound_variables, want_variables}
 use Rattle.clause_encoding.specs.Rivals.{selectors}
 use Rattle.clause_encoding.specs.Variables.{kinds_following, sent}
@@ -29,12 +30,12 @@ abbrev pub IsOneLine : Meaning → Type 0
 IsOneLine meaning = AllByRecursion LacksLf (meaning_words meaning)
 
 -- what holds of each image
-all_mapped : {X A : Type 0} (P : A → Type 0) (f : X → A) → ((x : X) → P (f x)) → (xs : List X) → AllByRecursion P (map f xs)
+pub all_mapped : {X A : Type 0} (P : A → Type 0) (f : X → A) → ((x : X) → P (f x)) → (xs : List X) → AllByRecursion P (map f xs)
 all_mapped P f each [] = tt
 all_mapped P f each (x ∷ xs) = (each x, all_mapped P f each xs)
 
 -- of two lists
-all_both : {A : Type 0} (P : A → Type 0) (xs ys : List A) → AllByRecursion P xs → AllByRecursion P ys → AllByRecursion P (xs ++ ys)
+pub all_both : {A : Type 0} (P : A → Type 0) (xs ys : List A) → AllByRecursion P xs → AllByRecursion P ys → AllByRecursion P (xs ++ ys)
 all_both P [] ys all also = also
 all_both P (x ∷ xs) ys all also = (all.0, all_both P xs ys all.1 also)
 
@@ -89,11 +90,11 @@ lacks_lacks = All-from_recursion (λ byte. eqb byte 10 ≡ false) (codes "lacks"
 for_lacks : LacksLf (codes "for")
 for_lacks = All-from_recursion (λ byte. eqb byte 10 ≡ false) (codes "for") (refl, (refl, (refl, tt)))
 
-c_lacks : LacksLf (codes "c")
+pub c_lacks : LacksLf (codes "c")
 c_lacks = All-from_recursion (λ byte. eqb byte 10 ≡ false) (codes "c") (refl, tt)
 
 -- a meaning whose words have no LF
-one_line : (v : ℕ) (words : List (List ℕ)) → AllByRecursion LacksLf words → IsOneLine (v, words)
+pub one_line : (v : ℕ) (words : List (List ℕ)) → AllByRecursion LacksLf words → IsOneLine (v, words)
 one_line v words all = (c_lacks, (printed_lacks (numeral v) (numeral_printed v), all))
 
 kind_lacks : (x : Expanded) (kind : ℕ) → AllByRecursion LacksLf (kind_words x kind)
@@ -109,10 +110,17 @@ own_lack Liveness x =
     let wants = all_mapped IsOneLine (lack x) (λ chosen. let want = chosen.1 in one_line chosen.0 (lack x chosen).1 (lacks_lacks, (param_lacks x want.param, (for_lacks, (message_lacks x want.message, tt))))) (want_variables x) in
     all_both IsOneLine (map (unbound x) (unbound_variables x)) (map (lack x) (want_variables x)) params wants
 
+-- with the kinds
+pub kinds_lack : (x : Expanded) (vars : Variables) → AllByRecursion IsOneLine (occurrences x vars)
+kinds_lack x vars = all_mapped IsOneLine (occurrence x) (λ kind. one_line kind (kind_words x kind) (kind_lacks x kind)) (kinds_following vars 0)
+
+-- with two kinds in order
+pub pairs_lack : (x : Expanded) (vars : Variables) → AllByRecursion IsOneLine (orders x vars)
+pairs_lack x vars =
+    all_joined IsOneLine (orders_of x vars) (λ i. all_mapped IsOneLine (order x vars i) (λ j. one_line (order x vars i j).0 (order x vars i j).1 (all_both LacksLf (kind_words x i) (codes "before" ∷ kind_words x j) (kind_lacks x i) (before_lacks, kind_lacks x j))) (kinds_following vars i)) (kinds_following vars 0)
+
 -- and with all meanings of a legend
 pub legend_lacks : (property : Property) (x : Expanded) → AllByRecursion IsOneLine (legend property x)
 legend_lacks property x =
     let vars = variables_of property x in
-    let kinds = all_mapped IsOneLine (occurrence x) (λ kind. one_line kind (kind_words x kind) (kind_lacks x kind)) (kinds_following vars 0) in
-    let pairs = all_joined IsOneLine (orders_of x vars) (λ i. all_mapped IsOneLine (order x vars i) (λ j. one_line (order x vars i j).0 (order x vars i j).1 (all_both LacksLf (kind_words x i) (codes "before" ∷ kind_words x j) (kind_lacks x i) (before_lacks, kind_lacks x j))) (kinds_following vars i)) (kinds_following vars 0) in
-    all_both IsOneLine (occurrences x vars ++ own_meanings property x) (orders x vars) (all_both IsOneLine (occurrences x vars) (own_meanings property x) kinds (own_lack property x)) pairs
+    all_both IsOneLine (occurrences x vars ++ own_meanings property x) (orders x vars) (all_both IsOneLine (occurrences x vars) (own_meanings property x) (kinds_lack x vars) (own_lack property x)) (pairs_lack x vars)

@@ -1,5 +1,5 @@
 -- Words of lines and lines of texts; numbers and names as words; the legend; the text as it is
--- read; and how variables are numbered.
+-- read; how variables are numbered; and the same of a question's formula.
 pub mod Words
 pub mod Numbers
 pub mod Names
@@ -7,3 +7,4 @@ pub mod LegendWords
 pub mod Reading
 pub mod Numbering
 pub mod Written
+pub mod AskedLemmas

@@ -19,14 +19,14 @@ use Rattle.bspl_types.specs.declared.property.Property.TheVariants.{Liveness, Sa
 use Rattle.formula_text.specs.Legend.{Meaning, lack, legend, occurrence, occurrences, order, orders, orders_of, own_meanings, selection, unbound}
 
 -- the variables of meanings
-abbrev number : Meaning → ℕ
+abbrev pub number : Meaning → ℕ
 number (variable, words) = variable
 
 abbrev pub numbers : List Meaning → List ℕ
 numbers meanings = map number meanings
 
 -- a range and the next one are one range
-range_both : (a n b m : ℕ) → a + n ≡ b → range_with_len a n ++ range_with_len b m ≡ range_with_len a (n + m)
+pub range_both : (a n b m : ℕ) → a + n ≡ b → range_with_len a n ++ range_with_len b m ≡ range_with_len a (n + m)
 range_both a zero b m next = (λ i. range_with_len ((let same : b ≡ a = omega arith in same) i) ((let same : m ≡ 0 + m = omega arith in same) i))
 range_both a (suc n) b m next =
     ap (λ (rest : List ℕ). a ∷ rest) (range_both (a + 1) n b m (omega arith)) ∙ ap (range_with_len a) (let same : suc (n + m) ≡ suc n + m = omega arith in same)
@@ -114,7 +114,7 @@ own_numbered x =
     parts ∙ (λ k. params k ++ wants k) ∙ range_both first values (kind_count x + values + 1) (length (wants_of x)) (omega arith)
 
 -- all variables, if `n` are between the kinds and the order
-all_numbered : (x : Expanded) (vars : Variables) (between : List Meaning) (n : ℕ) → vars.order_base ≡ vars.kinds + n → numbers between ≡ range_with_len (vars.kinds + 1) n → numbers (occurrences x vars ++ between ++ orders x vars) ≡ range_with_len 1 (variable_count vars)
+pub all_numbered : (x : Expanded) (vars : Variables) (between : List Meaning) (n : ℕ) → vars.order_base ≡ vars.kinds + n → numbers between ≡ range_with_len (vars.kinds + 1) n → numbers (occurrences x vars ++ between ++ orders x vars) ≡ range_with_len 1 (variable_count vars)
 all_numbered x vars between n base own =
     let many = vars.kinds in
     let whole : many - 0 ≡ many = omega arith in

@@ -10,9 +10,9 @@ use Rattle.clause_core.specs.declared.literal.Lit.{Lit}
 use Rattle.dimacs.specs.Dimacs.{IsDimacs, clause_limit, clause_words, from_first_words, has_words, header_words, line_words, text_lines, variable_limit}
 use Rattle.list_base.specs.Numeral.{numeral}
 use Rattle.bspl_types.specs.declared.property.Property.{Property}
-use Rattle.formula_text.specs.FormulaText.{clause_line, formula_lines, text_of}
+use Rattle.formula_text.specs.FormulaText.{clause_line, formula_lines, meaning_line, text_of}
 use Rattle.formula_text.specs.Legend.{Meaning, legend}
-use Rattle.formula_text.proofs.LegendWords.{legend_lacks, meaning_words}
+use Rattle.formula_text.proofs.LegendWords.{IsOneLine, legend_lacks, meaning_words}
 use Rattle.formula_text.proofs.Numbers.{clause_printed, clause_read, numeral_printed}
 use Rattle.formula_text.proofs.Words.{IsPrinted, LacksLf, line_then, lines_then, printed_lacks, words_joined}
 
@@ -51,13 +51,12 @@ abbrev after_header : Formula → List (List ℕ)
 after_header f = map clause_body f.clauses ++ [] ∷ []
 
 -- the lines of a text
-lines_are : (property : Property) (x : Expanded) (f : Formula) → text_lines (text_of property x f) ≡ map meaning_body (legend property x) ++ header_body f ∷ after_header f
-lines_are property x f =
-    let meanings = legend property x in
+lines_are : (meanings : List Meaning) (f : Formula) → AllByRecursion IsOneLine meanings → text_lines (flat_map meaning_line meanings ++ formula_lines f) ≡ map meaning_body meanings ++ header_body f ∷ after_header f
+lines_are meanings f lack =
     let ends : flat_map clause_line f.clauses ≡ flat_map clause_line f.clauses ++ [] = sym (append-nil (flat_map clause_line f.clauses)) in
     let clauses : text_lines (flat_map clause_line f.clauses) ≡ after_header f = ap text_lines ends ∙ lines_then clause_words f.clauses [] (clauses_lack f.clauses) in
     let header = line_then (header_words f.vars (length f.clauses)) (flat_map clause_line f.clauses) (words_lack (header_words f.vars (length f.clauses)) (header_printed f.vars (length f.clauses))) in
-    lines_then meaning_words meanings (formula_lines f) (legend_lacks property x) ∙ ap (λ (lines : List (List ℕ)). map meaning_body meanings ++ lines) (header ∙ ap (λ (lines : List (List ℕ)). header_body f ∷ lines) clauses)
+    lines_then meaning_words meanings (formula_lines f) lack ∙ ap (λ (lines : List (List ℕ)). map meaning_body meanings ++ lines) (header ∙ ap (λ (lines : List (List ℕ)). header_body f ∷ lines) clauses)
 
 -- the legend is skipped
 legend_skipped : (meanings : List Meaning) (lines : List (List ℕ)) → from_first_words (map meaning_body meanings ++ lines) ≡ from_first_words lines
@@ -78,15 +77,19 @@ clauses_read [] = refl
 clauses_read (c ∷ clauses) =
     ap (λ (words : List (List ℕ)). words ++ flat_map line_words (map clause_body clauses ++ [] ∷ [])) (clause_read c) ∙ ap (λ (words : List (List ℕ)). clause_words c ++ words) (clauses_read clauses)
 
--- so the text is in DIMACS form
-pub text_read : (property : Property) (x : Expanded) (f : Formula) → f.vars ≤ variable_limit → length f.clauses ≤ clause_limit → IsDimacs (text_of property x f) f.vars f.clauses
-text_read property x f few few_clauses = record {
+-- so the text is in DIMACS form, whatever the variables mean
+pub meanings_read : (meanings : List Meaning) (f : Formula) → AllByRecursion IsOneLine meanings → f.vars ≤ variable_limit → length f.clauses ≤ clause_limit → IsDimacs (flat_map meaning_line meanings ++ formula_lines f) f.vars f.clauses
+meanings_read meanings f lack few few_clauses = record {
   after = after_header f;
   header = record {
     line = header_body f;
-    found = ap from_first_words (lines_are property x f) ∙ legend_skipped (legend property x) (header_body f ∷ after_header f) ∙ header_found f (after_header f);
+    found = ap from_first_words (lines_are meanings f lack) ∙ legend_skipped meanings (header_body f ∷ after_header f) ∙ header_found f (after_header f);
     header = record { words_are = header_read f; few_variables = few; few_clauses = few_clauses };
   };
   clauses = clauses_read f.clauses;
   variables = f.variables_exist;
 }
+
+-- the text of a property is
+pub text_read : (property : Property) (x : Expanded) (f : Formula) → f.vars ≤ variable_limit → length f.clauses ≤ clause_limit → IsDimacs (text_of property x f) f.vars f.clauses
+text_read property x f few few_clauses = meanings_read (legend property x) f (legend_lacks property x) few few_clauses

@@ -30,7 +30,11 @@ pub(crate) fn push_legend(
 }
 
 /// Appends the lines of the event kinds.
-fn push_occurrences(text: &mut Bytes, x: &Expanded, vars: Variables) -> Result<(), NoMemory>
+pub(crate) fn push_occurrences(
+    text: &mut Bytes,
+    x: &Expanded,
+    vars: Variables,
+) -> Result<(), NoMemory>
     requires { IsSmall vars }
     ensures { OnOk result
         (text.new ≡ text.old ++ flat_map meaning_line (occurrences x.now vars)) }
@@ -96,7 +100,7 @@ fn push_selection(
 }
 
 /// Appends the lines of the event kinds with each later one.
-fn push_orders(text: &mut Bytes, x: &Expanded, vars: Variables) -> Result<(), NoMemory>
+pub(crate) fn push_orders(text: &mut Bytes, x: &Expanded, vars: Variables) -> Result<(), NoMemory>
     requires { IsSmall vars }
     ensures { OnOk result (text.new ≡ text.old ++ flat_map meaning_line (orders x.now vars)) }
 {

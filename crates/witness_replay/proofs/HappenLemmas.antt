@@ -39,7 +39,7 @@ other_kind kind m other = elim (cases_Bool (kind == sent m)) [ inl same ↦ absu
 
 module _ (x : Expanded) (vars : Variables) (v : ℕ → Bool) (kinds : List ℕ) (are : AreVariablesOf x vars) (satisfied : SatisfiesFamilies x vars v) (ordered : AreOrdered vars v kinds) where
   -- a kind of the list is before each later one
-  before_at : (j k i kind : ℕ) → j < k → slice_get kinds j ≡ Some i → slice_get kinds k ≡ Some kind → (i ≢ kind) × (is_before vars v i kind ≡ true)
+  pub before_at : (j k i kind : ℕ) → j < k → slice_get kinds j ≡ Some i → slice_get kinds k ≡ Some kind → (i ≢ kind) × (is_before vars v i kind ≡ true)
   before_at j k i kind less at_j at_k =
       let pair = ordered.ordered j k kind less (slice_get_within kinds k kind at_k) in
       let first : get_or kinds j kind ≡ i = get_or_from_slice_get kinds j i kind at_j in
@@ -57,7 +57,7 @@ module _ (x : Expanded) (vars : Variables) (v : ℕ → Bool) (kinds : List ℕ)
     earlier_before i early = let (j, less, at_j) = early_index kinds index i early in before_at j index i kind less at_j at
 
     -- and a kind that stands before it is before it in the list
-    before_earlier : (i : ℕ) → IsKind vars i → i ≢ kind → is_before vars v i kind ≡ true → Contains (take index kinds) i
+    pub before_earlier : (i : ℕ) → IsKind vars i → i ≢ kind → is_before vars v i kind ≡ true → Contains (take index kinds) i
     before_earlier i kind_i apart before =
         let not_before : is_before vars v kind i ≡ not true = opposite_before vars v i kind apart ∙ ap not before in
         let occurs_i = occurs_too x vars v satisfied kind i here.0 kind_i (λ same. apart (sym same)) here.1 not_before in

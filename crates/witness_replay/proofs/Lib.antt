@@ -9,6 +9,8 @@ pub mod FamilyLemmas
 pub mod CarrierLemmas
 pub mod RunLemmas
 pub mod HappenLemmas
+pub mod ShownLemmas
+pub mod OnceLemmas
 pub mod LegalLemmas
 pub mod RivalLemmas
 pub mod ConflictLemmas

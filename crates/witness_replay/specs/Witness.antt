@@ -10,8 +10,7 @@ use Rattle.bspl_types.specs.declared.protocol.Adornment.TheVariants.{In, Out}
 use Rattle.bspl_types.specs.declared.protocol.Carried.{Carried}
 use Rattle.bspl_types.specs.declared.value.Value.{Value}
 use Rattle.bspl_types.specs.declared.value.Value.TheVariants.{Number}
-use Rattle.bspl_types.specs.Expansion.{message_of}
-use Rattle.bspl_types.specs.History.{history_of, sender_history}
+use Rattle.bspl_types.specs.History.{sender_history}
 use Rattle.bspl_types.specs.Instance.{Fits, pairs}
 use Rattle.clause_core.specs.Literal.{MakesTrue}
 use Rattle.clause_encoding.specs.declared.variables.Variables.{Variables}

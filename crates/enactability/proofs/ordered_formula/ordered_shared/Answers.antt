@@ -11,5 +11,6 @@ use Rattle.enactability.proofs.ordered_formula.ordered_shared.Goals as goal
 pub returns : goal.returns
 returns c =
     let x = c.args.a.now in
-    IfOk-weaker c.ordered_families.result (λ (f : OrderedFormula). IsSharedFormula x (whole f)) (λ (f : OrderedFormula). IsEnactFormula x [] (whole f))
-    (λ f is. asks_for_none x (whole f) is) c.ordered_families.ensures
+    let vars = c.in_ok-vars.vars in
+    IfOk-weaker c.ordered_families.result (λ (f : OrderedFormula). IsSharedFormula x vars (whole f)) (λ (f : OrderedFormula). IsEnactFormula x [] (whole f))
+    (λ f is. asks_for_none x vars (whole f) c.in_ok-vars.ensures.exact is) c.ordered_families.ensures.exact

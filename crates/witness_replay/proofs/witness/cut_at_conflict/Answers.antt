@@ -1,7 +1,6 @@
 -- A run with a conflict has a least one, which is within it.
-use Rattle.std.proofs.Common.{◌≡◌, take, List, arith}
+use Rattle.std.proofs.Common.{◌≡◌, take}
 use Rattle.std.proofs.lemmas.Result.{IfOk-weaker}
-use Rattle.bspl_types.specs.declared.event.Event.{Event}
 use Rattle.witness_replay.specs.Refuting.{IsCutAtConflict}
 use Rattle.witness_replay.proofs.ConflictLemmas.{cut_at, found_least, least_within, some_conflict}
 use Rattle.witness_replay.proofs.witness.cut_at_conflict.Goals as goal

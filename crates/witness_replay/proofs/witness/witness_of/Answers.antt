@@ -1,7 +1,6 @@
 -- The run of a model does what the property excludes, and is cut where it refutes it.
-use Rattle.std.proofs.Common.{List, subst, sym, ap}
+use Rattle.std.proofs.Common.{subst, sym, ap}
 use Rattle.std.proofs.lemmas.Result.{IfOk-weaker}
-use Rattle.bspl_types.specs.declared.event.Event.{Event}
 use Rattle.bspl_types.specs.declared.expanded.Expanded.{Expanded}
 use Rattle.bspl_types.specs.History.{IsRun}
 use Rattle.clause_core.specs.Assignment.{valuation}

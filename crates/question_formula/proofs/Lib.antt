@@ -1,0 +1,14 @@
+pub mod ConditionLemmas
+pub mod CircuitLemmas
+pub mod VariableLemmas
+pub mod OverLemmas
+pub mod FormulaLemmas
+pub mod ListedLemmas
+pub mod KindLemmas
+pub mod HappeningLemmas
+pub mod ShownLemmas
+pub mod BeforeLemmas
+pub mod RestLemmas
+pub mod AnswerLemmas
+pub mod ModelLemmas
+pub mod LivenessLemmas

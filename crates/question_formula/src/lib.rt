@@ -1,0 +1,22 @@
+//! The formula of a question on one enactment, which is exact both ways.
+#![tactic(auto)]
+
+mod asserted;
+mod circuits;
+mod emission;
+mod formula;
+mod joined;
+mod kinds;
+mod laws;
+mod plain;
+mod precedence;
+mod rest;
+
+pub use circuits::question_circuit;
+pub use formula::{QuestionFormulas, question_formula};
+pub use kinds::kinds_of;
+pub use laws::{
+    impossible_without_model, liveness_is_a_question, model_run_answers_yes,
+    possible_exactly_if_model, yes_exactly_if_met,
+};
+pub use plain::plain_question_formula;
