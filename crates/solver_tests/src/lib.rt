@@ -20,6 +20,8 @@ mod order_trail_tests;
 #[cfg(test)]
 mod protocols;
 #[cfg(test)]
+mod question_tests;
+#[cfg(test)]
 mod solve_tests;
 #[cfg(test)]
 mod trail_rows;

@@ -1,0 +1,104 @@
+-- What the search finds is answered by its evidence.
+use Rattle.std.proofs.Common.{◌≡◌, ℕ, ◌≤◌, Option, Some, Bool, List, length, take, sym, ap, ◌∙◌, subst, arith, All}
+use Rattle.std.proofs.lemmas.List.Elements.{All-take}
+use Rattle.list_base.proofs.Membership.{all_prefix}
+use Rattle.bspl_types.specs.declared.event.Event.{Event}
+use Rattle.bspl_types.specs.declared.expanded.Expanded.{Expanded}
+use Rattle.bspl_types.specs.declared.value.Value.{Value}
+use Rattle.bspl_types.specs.History.{instance_of}
+use Rattle.clause_core.specs.declared.formula.Formula.{Formula}
+use Rattle.clause_core.specs.Assignment.{valuation}
+use Rattle.clause_core.specs.Clause.{Satisfies, SatisfiesAll}
+use Rattle.clause_encoding.specs.declared.variables.Variables.{Variables}
+use Rattle.clause_encoding.specs.Families.{shared_clauses}
+use Rattle.clause_encoding.specs.Formula.{plain_variables}
+use Rattle.clause_encoding.specs.Laws.{WrittenIsSatisfied}
+use Rattle.clause_encoding.specs.Variables.{variable_count}
+use Rattle.enactment_model.specs.Laws.{PrefixIsLegalRun}
+use Rattle.enactment_model.specs.Legal.{IsLegalRun}
+use Rattle.question_formula.specs.Formula.{IsQuestionFormula, question_clauses}
+use Rattle.question_formula.specs.Laws.{ImpossibleWithoutModel}
+use Rattle.question_formula.specs.Size.{FitsLog}
+use Rattle.questions.specs.declared.question.Question.{Question}
+use Rattle.questions.specs.Answer.{IsAnsweredYes}
+use Rattle.questions.specs.Subject.{IsAbout}
+use Rattle.refutation_log.specs.declared.refutation.Log.{Log}
+use Rattle.refutation_log.specs.LogText.{LogInRange}
+use Rattle.sat_solver.specs.declared.outcome.Outcome.TheVariants.{Budget, Sat, Unsat}
+use Rattle.sat_solver.specs.Outcome.{IsModel}
+use Rattle.verdict.specs.Decision.{IsUndecidedVerdict}
+use Rattle.verdict.specs.Numbers.{NumbersInRange}
+use Rattle.verdict.specs.Search.{IsFound}
+use Rattle.witness_replay.specs.Laws.{RunIsUnderOnes}
+use Rattle.witness_replay.specs.Witness.{IsRunOfAssignment, key_of_ones}
+use Rattle.question_answer.specs.Answer.{IsShownImpossible, IsShownPossible}
+use Rattle.question_answer.specs.inner.Moment.{IsFirstMoment}
+use Rattle.question_answer.proofs.MomentLemmas.{IsFoundIn, the_moment}
+
+-- the event is under the key of ones
+abbrev pub HasOnes : Expanded → Event → Type 0
+HasOnes x e = (instance_of e).key ≡ key_of_ones x
+
+-- the run of a model, cut at the first moment at which the answer is yes
+pub shown_possible : PrefixIsLegalRun → RunIsUnderOnes → (x : Expanded) (q : Question) (v : ℕ → Bool) (whole run : List Event) (moment : ℕ) → SatisfiesAll v (question_clauses x q) → IsRunOfAssignment x (plain_variables x) v whole → IsLegalRun x whole → IsFirstMoment x whole (key_of_ones x) q moment → run ≡ take moment whole → IsShownPossible x q run
+shown_possible prefix under x q v whole run moment satisfied run_of legal first cut =
+    let answered = subst (λ (es : List Event). IsAnsweredYes x es (key_of_ones x) q) (sym cut) first.yes in
+    let legal_cut = subst (λ (es : List Event). IsLegalRun x es) (sym cut) (prefix x whole moment legal) in
+    let ones = subst (λ (es : List Event). All (HasOnes x) es) (sym cut) (All-take (HasOnes x) moment whole (under x run_of.kinds whole run_of.run_of)) in
+    record {
+      assignment = v;
+      satisfied = satisfied;
+      answering = record { whole = whole; run_of = run_of; cut = record { moment = moment; cut = cut; yes = answered; not_before = first.not_before }; ones = ones };
+      legal = legal_cut;
+      possible = record { run = run; legal = legal_cut; key = key_of_ones x; yes = answered };
+    }
+
+-- the same of what the cut gives, where the answer was found yes at the end of the whole run
+pub cut_shown : PrefixIsLegalRun → RunIsUnderOnes → (x y : Expanded) (vars : Variables) (q : Question) (v : ℕ → Bool) (whole : List Event) (key : List Value) (found : Option ℕ) (moment : ℕ) → y ≡ x → vars ≡ plain_variables y → key ≡ key_of_ones y → SatisfiesAll v (question_clauses x q) → IsRunOfAssignment x vars v whole → IsLegalRun x whole → found ≡ Some moment → IsFoundIn y whole key q found → (run : List Event) → run ≡ take moment whole → IsShownPossible x q run
+cut_shown prefix under x y vars q v whole key found moment same are ones satisfied run_of legal is is_found run cut =
+    let plain : vars ≡ plain_variables x = are ∙ ap plain_variables same in
+    let run_of_plain = subst (λ (us : Variables). IsRunOfAssignment x us v whole) plain run_of in
+    let first = the_moment y whole key q found moment is is_found in
+    let first_at = subst (λ (k : List Value). IsFirstMoment y whole k q moment) ones first in
+    let first_of = subst (λ (z : Expanded). IsFirstMoment z whole (key_of_ones z) q moment) same first_at in
+    shown_possible prefix under x q v whole run moment satisfied run_of_plain legal first_of cut
+
+-- what satisfies the clauses of a question satisfies those that all questions share
+pub shared_part : (x : Expanded) (q : Question) (v : ℕ → Bool) → SatisfiesAll v (question_clauses x q) → SatisfiesAll v (shared_clauses x (plain_variables x))
+shared_part x q v satisfied = all_prefix (Satisfies v) (shared_clauses x (plain_variables x)) _ satisfied
+
+module _ (x : Expanded) (q : Question) (f : Formula) (budget : ℕ) (is : IsQuestionFormula x q f) where
+  -- a refutation
+  pub shown_impossible : ImpossibleWithoutModel → IsAbout x q → (log : Log) → IsFound f budget (Unsat log) → IsShownImpossible x q budget log
+  shown_impossible law about log found =
+      let right = found.right in
+      record { formula = f; is_formula = is; accepts = right.accepted; new = right.new; within = right.within; impossible = law x q f about is found.sound }
+
+  -- the budget's end
+  pub left_undecided : (log : Log) → IsFound f budget (Budget log) → IsUndecidedVerdict (IsQuestionFormula x q) budget log
+  left_undecided log found =
+      let right = found.right in
+      record { formula = f; is_formula = is; new = right.new; exact = right.spent; derived = right.derived; resolves = right.resolves; none = right.no_empty }
+
+  -- a model
+  pub model_satisfies : WrittenIsSatisfied → (assignment : List Bool) → IsFound f budget (Sat assignment) → SatisfiesAll (valuation assignment) (question_clauses x q)
+  model_satisfies written assignment found =
+      let model : IsModel f assignment = found.right in
+      (written (valuation assignment) (question_clauses x q) f.clauses is.clauses).0 model.satisfies
+
+  pub model_has_all : (assignment : List Bool) → IsFound f budget (Sat assignment) → variable_count (plain_variables x) ≤ length assignment
+  model_has_all assignment found =
+      let model : IsModel f assignment = found.right in
+      omega (arith, model.whole, is.vars)
+
+  -- the numbers of a log are in range
+  module _ (numbers : NumbersInRange) (fits : FitsLog f) (small : budget ≤ 1000000) where
+    pub refutation_in_range : (log : Log) → IsFound f budget (Unsat log) → LogInRange log
+    refutation_in_range log found =
+        let right = found.right in
+        numbers f log right.accepted.derived right.accepted.resolves (omega (arith, small, right.within, fits.few_clauses)) (omega (arith, fits.few_variables))
+
+    pub undecided_in_range : (log : Log) → IsFound f budget (Budget log) → LogInRange log
+    undecided_in_range log found =
+        let right = found.right in
+        numbers f log right.derived right.resolves (omega (arith, small, right.spent, fits.few_clauses)) (omega (arith, fits.few_variables))
