@@ -2,7 +2,7 @@
 use Rattle.std.specs.Prelude.{List, [], ◌∷◌, Option, None, Some, ◌-◌, ◌==◌, slice_get}
 use Rattle.std.specs.Prelude.{if◌then◌else◌}
 use Rattle.tool_input.specs.declared.rejection.Code.{Code}
-use Rattle.tool_input.specs.declared.rejection.Code.TheVariants.{E, F, H, L, P, S, W}
+use Rattle.tool_input.specs.declared.rejection.Code.TheVariants.{E, F, H, L, P, Q, S, W}
 use Rattle.answer_words.specs.declared.fault.Fault.{Fault}
 use Rattle.answer_words.specs.declared.fault.Fault.TheVariants as fault
 
@@ -23,7 +23,7 @@ log_faults = fault.LogForm ∷ fault.LogNumber ∷ []
 abbrev pub script_faults : List Fault
 script_faults = fault.ScriptForm ∷ fault.ScriptName ∷ []
 
--- the fault of a code
+-- the fault of a code; the codes of a question have none, since no task of the tool asks one
 abbrev pub fault_of : Code → Option Fault
 fault_of (P n) = slice_get input_faults (n - 1)
 fault_of (E n) = slice_get text_faults (n - 1)
@@ -32,3 +32,4 @@ fault_of (W n) = slice_get (fault.RunForm ∷ []) (n - 1)
 fault_of (S n) = slice_get script_faults (n - 1)
 fault_of (H n) = slice_get (fault.HistoryForm ∷ []) (n - 1)
 fault_of (F n) = if n == 5 then Some fault.NoRole else None
+fault_of (Q n) = None

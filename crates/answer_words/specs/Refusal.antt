@@ -6,7 +6,7 @@ use Rattle.bspl_parser.specs.Judgement.{IsText}
 use Rattle.text_lines.specs.Fields.{fields_of}
 use Rattle.tool_input.specs.declared.parts.Part.{Part}
 use Rattle.tool_input.specs.declared.rejection.Code.{Code}
-use Rattle.tool_input.specs.declared.rejection.Code.TheVariants.{E, F, H, L, P, S, W}
+use Rattle.tool_input.specs.declared.rejection.Code.TheVariants.{E, F, H, L, P, Q, S, W}
 use Rattle.tool_input.specs.declared.rejection.Field.{Field}
 use Rattle.tool_input.specs.declared.rejection.Field.TheVariants as field
 use Rattle.tool_input.specs.declared.rejection.Rejection.{Rejection}
@@ -38,6 +38,7 @@ part_place input n (Some (part, bytes)) =
 abbrev pub number_place : List ℕ → Code → ℕ → Option Spot
 number_place input (P k) n = None
 number_place input (F k) n = None
+number_place input (Q k) n = None
 number_place input (E k) n = Some (place_of input n)
 number_place input (L k) n = part_place input n (first_part input)
 number_place input (W k) n = part_place input n (first_part input)

@@ -69,6 +69,8 @@ pub(crate) fn fault_of(code: Code) -> Option<Fault>
         Code::S(n) => nth(&[Fault::ScriptForm, Fault::ScriptName], n),
         Code::H(n) => nth(&[Fault::HistoryForm], n),
         Code::F(n) => { if n == 5 { Some(Fault::NoRole) } else { None } }
+        // no task of the tool asks a question
+        Code::Q(_) => None,
     }
 }
 

@@ -21,7 +21,7 @@ pub(crate) fn field_place<'a>(
         return None;
     };
     match code {
-        Code::P(_) | Code::F(_) => None,
+        Code::P(_) | Code::F(_) | Code::Q(_) => None,
         Code::E(_) => Some(place_of(input, *n)),
         Code::L(_) | Code::W(_) | Code::S(_) | Code::H(_) => part_place(input, *n),
     }

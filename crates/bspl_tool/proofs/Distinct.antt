@@ -1,5 +1,6 @@
 -- Usage, a refusal and an answer exclude each other, and there is one refusal at most.
 use Rattle.std.proofs.Common.{◌≡◌, ℕ, ◌<◌, List, [], length, Option, None, Some, refl, sym, ◌∙◌, ap, subst, arith}
+use Rattle.std.proofs.lemmas.Option.{none-some}
 use Rattle.bspl_types.specs.declared.expanded.Expanded.{Expanded}
 use Rattle.bspl_types.specs.declared.refusals.Refusal.{Refusal}
 use Rattle.command_line.specs.Line.{OneLine}
@@ -103,8 +104,17 @@ as_requested line P args task other name again requests requests_too holds =
 long_or_read : (args : List (List ℕ)) (bytes : List ℕ) (task : Task) (name : List ℕ) → RequestsInput tool_interface args → input_limit < length bytes → IsReadFor tool_interface args bytes task name → ⊥
 long_or_read args bytes task name asks long read = let short = read.short asks in omega arith
 
+-- no task is refused at once
+pub never_at_once : (task : Task) (r : Rejection) → tool_interface.refused_at_once task ≡ Some r → ⊥
+never_at_once task r is = let no : None ≡ Some r = is in none-some r no
+
 -- arguments and bytes have one rejection
 one_rejection : OneEach → (args : List (List ℕ)) (bytes : List ℕ) {r s : Rejection} → Refuses tool_interface args bytes r → Refuses tool_interface args bytes s → r ≡ s
+one_rejection law args bytes (Refuses.at_once task name r requested is) (Refuses.at_once other again s requested_too is_too) = absurd (never_at_once task r is)
+one_rejection law args bytes (Refuses.at_once task name r requested is) (Refuses.too_long asks long) = absurd (never_at_once task r is)
+one_rejection law args bytes (Refuses.at_once task name r requested is) (Refuses.read other again s read reason) = absurd (never_at_once task r is)
+one_rejection law args bytes (Refuses.too_long asks long) (Refuses.at_once task name r requested is) = absurd (never_at_once task r is)
+one_rejection law args bytes (Refuses.read other again s read reason) (Refuses.at_once task name r requested is) = absurd (never_at_once task r is)
 one_rejection law args bytes (Refuses.too_long asks long) (Refuses.too_long asks_too long_too) = refl
 one_rejection law args bytes (Refuses.too_long asks long) (Refuses.read other again s read reason) = absurd (long_or_read args bytes other again asks long read)
 one_rejection law args bytes (Refuses.read task name r read reason) (Refuses.too_long asks long) = absurd (long_or_read args bytes task name asks long read)
@@ -122,17 +132,20 @@ answered_or_refused law task name input out status answered (RefusesInput.comman
 
 -- nor are the arguments
 done_or_refused : OneEach → (args : List (List ℕ)) (bytes out : List ℕ) (status : Status) {r : Rejection} → DoesTask tool_interface args bytes out status → Refuses tool_interface args bytes r → ⊥
+done_or_refused law args bytes out status made (Refuses.at_once task name r requested is) = never_at_once task r is
 done_or_refused law args bytes out status made (Refuses.too_long asks long) = long_or_read args bytes made.task made.name asks long made.read
 done_or_refused law args bytes out status made (Refuses.read task name r read reason) =
     answered_or_refused law made.task made.name (task_bytes tool_interface made.task bytes) out status made.answered (as_requested law.line (λ t n. RefusesInput (task_rules t) n (task_bytes tool_interface t bytes) r) args made.task task made.name name made.read.requested read.requested reason)
 
 -- what is refused is a command line
 refused_line : (args : List (List ℕ)) (bytes : List ℕ) {r : Rejection} → Refuses tool_interface args bytes r → HasCommandLine args
+refused_line args bytes (Refuses.at_once task name r requested is) = (requested.line, requested.is_line)
 refused_line args bytes (Refuses.too_long asks long) = (asks.requested.line, asks.requested.is_line)
 refused_line args bytes (Refuses.read task name r read reason) = (read.requested.line, read.requested.is_line)
 
 -- and requests a task
 refused_task : (args : List (List ℕ)) (bytes : List ℕ) {r : Rejection} → Refuses tool_interface args bytes r → HasTask tool_interface args
+refused_task args bytes (Refuses.at_once task name r requested is) = (task, name, requested)
 refused_task args bytes (Refuses.too_long asks long) = (asks.task, asks.name, asks.requested)
 refused_task args bytes (Refuses.read task name r read reason) = (task, name, read.requested)
 

@@ -24,6 +24,7 @@ use Rattle.tool_input.specs.Rejection.{rejection_line}
 use Rattle.bspl_tool.specs.Task.{task_rules}
 use Rattle.tool_input.specs.Refusals.{Refuses, RefusesInput}
 use Rattle.bspl_tool.proofs.ClaimsNothing.{ClaimsNothing, line_claims_nothing, says_no_message, says_nothing}
+use Rattle.bspl_tool.proofs.Distinct.{never_at_once}
 use Rattle.bspl_tool.proofs.NameBytes.{name_is_field}
 use Rattle.bspl_tool.proofs.RejectedNames.{HasNames, requested_is_name, text_rejection_names}
 use Rattle.bspl_tool.proofs.RejectionLines.{rejection_claims_nothing}
@@ -37,6 +38,7 @@ input_names task name input named (RefusesInput.command part x r has judged reas
 
 -- so are those in each refusal
 refused_names : (args : List (List ℕ)) (bytes : List ℕ) {r : Rejection} → Refuses tool_interface args bytes r → HasNames r
+refused_names args bytes (Refuses.at_once task name r requested is) = absurd (never_at_once task r is)
 refused_names args bytes (Refuses.too_long asks long) = record { first = tt; second = tt }
 refused_names args bytes (Refuses.read task name r read refuses) = input_names task name (task_bytes tool_interface task bytes) (requested_is_name args task name read.requested) refuses
 

@@ -11,7 +11,7 @@ use Rattle.tool_input.specs.Interface.{HasTask}
 use Rattle.bspl_tool.specs.declared.task.Task.{Task}
 use Rattle.bspl_tool.specs.declared.task.Task.TheVariants as tasks
 use Rattle.bspl_tool.specs.Interface.{tool_interface}
-use Rattle.bspl_tool.specs.Request.{IsAbout, subject_task}
+use Rattle.bspl_tool.specs.Request.{NamesSubject, subject_task}
 use Rattle.bspl_tool.specs.Task.{task_of}
 
 -- a command that takes no size has a task
@@ -30,7 +30,7 @@ command_task command.Audit brief conflicts threads named = (tasks.Audit, refl)
 
 -- a task, and the name that it is about
 abbrev HasSubjectTask : Subject → CommandLine → Type 0
-HasSubjectTask subject line = (task : Task) × (name : List ℕ) × (subject_task subject line ≡ Some task) × IsAbout subject name
+HasSubjectTask subject line = (task : Task) × (name : List ℕ) × (subject_task subject line ≡ Some task) × NamesSubject subject name
 
 -- a command that is done on the protocol of a name takes no size
 takes_none : (size : Bool) (word : List ℕ) (text : _) → IsSubject size word (Protocol text) → size ≡ false

@@ -8,7 +8,7 @@ use Rattle.bspl_tool.specs.declared.task.Task.{Task}
 use Rattle.bspl_tool.specs.declared.task.Task.TheVariants as tasks
 use Rattle.tool_input.specs.TaskLaws.{OneTask}
 use Rattle.bspl_tool.specs.Interface.{tool_interface}
-use Rattle.bspl_tool.specs.Request.{IsAbout, IsThreaded, Requests, line_task, subject_task}
+use Rattle.bspl_tool.specs.Request.{NamesSubject, IsThreaded, Requests, line_task, subject_task}
 use Rattle.bspl_tool.specs.Task.{own_text, task_threads}
 
 -- what is about the same has the same task
@@ -23,7 +23,7 @@ same_task : (one again : CommandLine) → IsSameLine one again → line_task one
 same_task one again same = same_subject_task one.subject again.subject one again same.subject same
 
 -- and about one protocol
-same_name : (one other : Subject) (name again : List ℕ) → IsSameSubject one other → IsAbout one name → IsAbout other again → name ≡ again
+same_name : (one other : Subject) (name again : List ℕ) → IsSameSubject one other → NamesSubject one name → NamesSubject other again → name ≡ again
 same_name (Protocol one) (Protocol other) name again same about_one about_other = sym about_one ∙ same ∙ about_other
 same_name (Protocol one) (Size other) name again same about_one about_other = absurd same
 same_name (Size one) (Protocol other) name again same about_one about_other = absurd same

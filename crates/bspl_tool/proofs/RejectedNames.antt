@@ -22,7 +22,7 @@ use Rattle.tool_input.specs.declared.rejection.Field.{Field}
 use Rattle.tool_input.specs.declared.rejection.Field.TheVariants.{Name}
 use Rattle.tool_input.specs.declared.rejection.Rejection.{Rejection}
 use Rattle.tool_input.specs.Rejection.{text_rejection}
-use Rattle.bspl_tool.specs.Request.{IsAbout, Requests}
+use Rattle.bspl_tool.specs.Request.{NamesSubject, Requests}
 use Rattle.tool_input.specs.TextRefusal.{RefusesText, too_long, misspelled, not_expanded, not_admitted}
 
 -- the name of what is generated is a name
@@ -31,7 +31,7 @@ unfolding is_name
 stage_is_name = refl
 
 -- the name that the arguments have is a name
-subject_is_name : (size : Bool) (word : List ℕ) (subject : Subject) (name : List ℕ) → IsSubject size word subject → IsAbout subject name → IsTrue (is_name name)
+subject_is_name : (size : Bool) (word : List ℕ) (subject : Subject) (name : List ℕ) → IsSubject size word subject → NamesSubject subject name → IsTrue (is_name name)
 subject_is_name true word (Protocol said) name is about = absurd is
 subject_is_name true word (Size n) name is about = subst (λ text. IsTrue (is_name text)) about stage_is_name
 subject_is_name false word (Protocol said) name is about = subst (λ text. IsTrue (is_name text)) (sym is.0 ∙ about) is.1

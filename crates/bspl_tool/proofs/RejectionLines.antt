@@ -5,7 +5,7 @@ use Rattle.bspl_types.specs.declared.refusals.What.TheVariants as what
 use Rattle.tool_input.specs.declared.parts.Part.{Part}
 use Rattle.tool_input.specs.declared.parts.Part.TheVariants.{Agents, Histories, Log, Run, Wire}
 use Rattle.tool_input.specs.declared.rejection.Code.{Code}
-use Rattle.tool_input.specs.declared.rejection.Code.TheVariants.{E, F, H, L, P, S, W}
+use Rattle.tool_input.specs.declared.rejection.Code.TheVariants.{E, F, H, L, P, Q, S, W}
 use Rattle.tool_input.specs.declared.rejection.Field.{Field}
 use Rattle.tool_input.specs.declared.rejection.Field.TheVariants as field
 use Rattle.tool_input.specs.declared.rejection.Rejection.{Rejection}
@@ -25,6 +25,7 @@ code_has_no_lf (W n) = decimal_has_no_lf n
 code_has_no_lf (S n) = decimal_has_no_lf n
 code_has_no_lf (H n) = decimal_has_no_lf n
 code_has_no_lf (F n) = decimal_has_no_lf n
+code_has_no_lf (Q n) = decimal_has_no_lf n
 
 -- nor the word for what is counted
 what_has_no_lf : (counted : What) → has_lf (what_word counted) ≡ false

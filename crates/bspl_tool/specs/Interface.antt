@@ -1,5 +1,5 @@
 -- The tool as a program of commands.
-use Rattle.std.specs.Prelude.{◌≡◌, ℕ, List, Option}
+use Rattle.std.specs.Prelude.{◌≡◌, ℕ, List, Option, None}
 use Rattle.tool_input.specs.Interface.{Interface, task_bytes}
 use Rattle.tool_input.specs.Request.{IsRequest}
 use Rattle.tool_input.specs.Parts.{protocol_text}
@@ -10,13 +10,15 @@ use Rattle.bspl_tool.specs.Request.{Requests}
 use Rattle.bspl_tool.specs.Task.{own_text, task_rules}
 use Rattle.bspl_tool.specs.Texts.{usage_text}
 
--- its tasks, and how arguments request them; a refusal is written as its line
+-- its tasks, and how arguments request them; none is refused at once, and a refusal is written as its
+-- line
 abbrev pub tool_interface : Interface Task
 tool_interface = record {
   usage = usage_text;
   requests = Requests;
   rules = task_rules;
   own_text = own_text;
+  refused_at_once = λ task. None;
   refusal_text = λ task input rejection out. out ≡ rejection_line rejection;
 }
 

@@ -23,16 +23,16 @@ abbrev pub line_task : CommandLine → Option Task
 line_task line = subject_task line.subject line
 
 -- the subject is the protocol of that name; what is generated has one name whatever its size
-abbrev pub IsAbout : Subject → List ℕ → Type 0
-IsAbout (Protocol text) name = text.now ≡ name
-IsAbout (Size size) name = STAGE.now ≡ name
+abbrev pub NamesSubject : Subject → List ℕ → Type 0
+NamesSubject (Protocol text) name = text.now ≡ name
+NamesSubject (Size size) name = STAGE.now ≡ name
 
 -- the arguments request the task on the protocol of that name
 pub record Requests (args : List (List ℕ)) (task : Task) (name : List ℕ) : Type 0 where
   pub line : CommandLine
   pub is_line : IsCommandLine args line
   pub is_task : line_task line ≡ Some task
-  pub about : IsAbout line.subject name
+  pub about : NamesSubject line.subject name
 
 -- the arguments request a task whose agents play in threads of their own
 pub record IsThreaded (args : List (List ℕ)) : Type 0 where

@@ -24,7 +24,7 @@ impl<'a> Question<'a> for ToolQuestion<'a> {
     ghost use Rattle.std.specs.Prelude.{◌≡◌, IfOk};
     ghost use Rattle.agent_commands.specs.Answer.{Completes, IsPlayable};
     ghost use Rattle.tool_input.specs.Answer.{IsRightAnswer, RepliesWith};
-    ghost use Rattle.tool_input.specs.TaskLaws.{LongIsRefusedAlike, OneTask};
+    ghost use Rattle.tool_input.specs.TaskLaws.{AtOnceIsRefusedAlike, LongIsRefusedAlike, OneTask};
     ghost use Rattle.bspl_tool.specs.declared.task.Task.{Task as SpecTask};
     ghost use Rattle.bspl_tool.specs.Interface.{tool_interface};
     ghost use Rattle.bspl_tool.specs.Texts.{usage_text};
@@ -61,6 +61,10 @@ impl<'a> Question<'a> for ToolQuestion<'a> {
 
     fn needs(&self) -> Need {
         self.task.needs()
+    }
+
+    fn refused_at_once(&self) -> Option<Rejection> {
+        None
     }
 
     fn reads_input(&self) -> bool {
@@ -107,6 +111,7 @@ impl<'a> Question<'a> for ToolQuestion<'a> {
     fn asks_once()
         ensures once { OneTask tool_interface }
         ensures alike { LongIsRefusedAlike tool_interface }
+        ensures at_once { AtOnceIsRefusedAlike tool_interface }
     {
         // law: arguments are one command line at most
         one_line();

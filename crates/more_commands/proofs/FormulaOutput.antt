@@ -1,5 +1,6 @@
 -- Arguments that ask for a formula, and an input, have one output.
-use Rattle.std.proofs.Common.{◌≡◌, ℕ, ◌<◌, ◌≤◌, List, [], Some, length, refl, sym, ap, subst, inl, inr, ◌⊎◌, ◌∙◌, arith}
+use Rattle.std.proofs.Common.{◌≡◌, ℕ, ◌<◌, ◌≤◌, List, [], None, Some, length, refl, sym, ap, subst, inl, inr, ◌⊎◌, ◌∙◌, arith}
+use Rattle.std.proofs.lemmas.Option.{none-some}
 use Rattle.bspl_types.specs.declared.expanded.Expanded.{Expanded}
 use Rattle.bspl_types.specs.declared.refusals.Refusal.{Refusal}
 use Rattle.bspl_types.specs.Limits.{input_limit}
@@ -18,7 +19,7 @@ use Rattle.tool_input.specs.Parts.{protocol_text}
 use Rattle.tool_input.specs.Rejection.{over_limit, rejection_line, text_rejection}
 use Rattle.more_commands.specs.FormulaAnswer.{IsFormulaRefused, IsTextOfSubject, formula_rules}
 use Rattle.more_commands.specs.FormulaArguments.{Dead, FormulaSubject, Whole}
-use Rattle.more_commands.specs.Task.{Formula, IsMoreRefusal, MoreTask, RequestsMore, more_interface, more_rules}
+use Rattle.more_commands.specs.Task.{Formula, IsMoreRefusal, MoreTask, RequestsMore, more_interface, more_refused_at_once, more_rules}
 
 -- what the crates below have once
 pub record OneEach : Type 0 where
@@ -121,7 +122,7 @@ not_both each name subject input a b s t is prints =
 module _ (each : OneEach) (args : List (List ℕ)) (input : List ℕ) (subject : FormulaSubject) (name : List ℕ) (requested : RequestsMore args (Formula subject) name) where
   -- such arguments ask for the input
   asks : RequestsInput more_interface args
-  asks = record { task = Formula subject; name = name; requested = requested; reads = refl }
+  asks = record { task = Formula subject; name = name; requested = requested; accepted = refl; reads = refl }
 
   -- and request no other task
   same : (task : MoreTask) (again : List ℕ) → RequestsMore args task again → (task ≡ Formula subject) × (again ≡ name)
@@ -129,6 +130,9 @@ module _ (each : OneEach) (args : List (List ℕ)) (input : List ℕ) (subject :
 
   -- the reason of a refusal
   reason_of : (r : Rejection) → Refuses more_interface args input r → Reason name subject input r
+  reason_of r (Refuses.at_once task again _ other is) =
+      let no : None ≡ Some r = subst (λ (t : MoreTask). more_refused_at_once t ≡ Some r) (same task again other).0 is in
+      absurd (none-some r no)
   reason_of _ (Refuses.too_long asks' long) = inl (long, refl)
   reason_of r (Refuses.read task again _ read refuses) =
       let is = same task again read.requested in

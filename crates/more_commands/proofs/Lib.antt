@@ -1,9 +1,6 @@
--- Arguments and what they request; the lines of names; what outputs of `can`, `formula`, `page` and
--- `explain` come to.
-pub mod ArgumentLemmas
+-- Arguments and what they request; what outputs of `ask`, `formula`, `page` and `explain` come to.
 pub mod FormulaLemmas
 pub mod RequestLemmas
-pub mod NameLemmas
 pub mod TruthLemmas
 pub mod FormulaOutput
 pub mod PageLemmas

@@ -1,19 +1,20 @@
 -- The commands by their words, and that arguments request one task on one name.
-use Rattle.std.proofs.Common.{◌≡◌, ◌==◌, ℕ, List, [], cond, drop, get_or, refl, sym, ap, subst, ◌∙◌}
+use Rattle.std.proofs.Common.{◌≡◌, ◌==◌, ℕ, List, [], cond, drop, get_or, None, Some, refl, sym, ap, subst, ◌∙◌}
+use Rattle.std.proofs.lemmas.Option.{none-some}
+use Rattle.ask_commands.specs.AskTask.{AskTask, RequestsAsk}
+use Rattle.ask_commands.specs.Laws.{OneAsk}
 use Rattle.bspl_tool.specs.declared.task.Task.{Task}
 use Rattle.bspl_tool.specs.Interface.{tool_interface}
-use Rattle.tool_input.specs.TaskLaws.{LongIsRefusedAlike, OneTask}
+use Rattle.tool_input.specs.TaskLaws.{AtOnceIsRefusedAlike, LongIsRefusedAlike, OneTask}
 use Rattle.more_commands.specs.declared.word.CommandWord.{CommandWord}
 use Rattle.more_commands.specs.declared.word.CommandWord.TheVariants as word
-use Rattle.more_commands.specs.CanArguments.{AsksCan, CanTask}
 use Rattle.more_commands.specs.FormulaArguments.{FormulaSubject}
-use Rattle.more_commands.specs.Task.{AsksTask, Can, Explain, Formula, IsNameAlone, Lrat, MoreTask, Page, more_interface, task_word, word_text}
-use Rattle.more_commands.proofs.ArgumentLemmas.{one_can}
+use Rattle.more_commands.specs.Task.{Ask, AsksTask, Explain, Formula, IsNameAlone, Lrat, MoreTask, Page, more_interface, task_word, word_text}
 use Rattle.more_commands.proofs.FormulaLemmas.{one_formula}
 
 -- the command whose word begins with the letter
 of_letter : ℕ → CommandWord
-of_letter n = cond (n == 99) word.Can (cond (n == 102) word.Formula (cond (n == 108) word.Lrat (cond (n == 112) word.Page word.Explain)))
+of_letter n = cond (n == 97) word.Ask (cond (n == 102) word.Formula (cond (n == 108) word.Lrat (cond (n == 112) word.Page word.Explain)))
 
 -- the command of a word
 of_text : List ℕ → CommandWord
@@ -21,7 +22,7 @@ of_text text = of_letter (get_or text 0 0)
 
 of_its_text : (w : CommandWord) → of_text (word_text w) ≡ w
 unfolding of_text of_letter
-of_its_text word.Can = refl
+of_its_text word.Ask = refl
 of_its_text word.Formula = refl
 of_its_text word.Lrat = refl
 of_its_text word.Page = refl
@@ -31,17 +32,17 @@ of_its_text word.Explain = refl
 pub one_command : (w v : CommandWord) → word_text w ≡ word_text v → w ≡ v
 one_command w v same = sym (of_its_text w) ∙ ap of_text same ∙ of_its_text v
 
--- a task with the word of `can`
-pub is_can : (task : MoreTask) → task_word task ≡ word.Can → (asked : CanTask) × (task ≡ Can asked)
-is_can (Can task) is = (task, refl)
-is_can (Formula subject) is = absurd (cc)
-is_can Lrat is = absurd (cc)
-is_can Page is = absurd (cc)
-is_can (Explain task) is = absurd (cc)
+-- a task with the word of `ask`
+pub is_ask : (task : MoreTask) → task_word task ≡ word.Ask → (asked : AskTask) × (task ≡ Ask asked)
+is_ask (Ask task) is = (task, refl)
+is_ask (Formula subject) is = absurd (cc)
+is_ask Lrat is = absurd (cc)
+is_ask Page is = absurd (cc)
+is_ask (Explain task) is = absurd (cc)
 
 -- a task with the word of `formula`
 pub is_formula : (task : MoreTask) → task_word task ≡ word.Formula → (subject : FormulaSubject) × (task ≡ Formula subject)
-is_formula (Can task) is = absurd (cc)
+is_formula (Ask task) is = absurd (cc)
 is_formula (Formula subject) is = (subject, refl)
 is_formula Lrat is = absurd (cc)
 is_formula Page is = absurd (cc)
@@ -49,7 +50,7 @@ is_formula (Explain task) is = absurd (cc)
 
 -- a task with the word of `lrat`
 pub is_lrat : (task : MoreTask) → task_word task ≡ word.Lrat → task ≡ Lrat
-is_lrat (Can task) is = absurd (cc)
+is_lrat (Ask task) is = absurd (cc)
 is_lrat (Formula subject) is = absurd (cc)
 is_lrat Lrat is = refl
 is_lrat Page is = absurd (cc)
@@ -57,7 +58,7 @@ is_lrat (Explain task) is = absurd (cc)
 
 -- a task with the word of `page`
 pub is_page : (task : MoreTask) → task_word task ≡ word.Page → task ≡ Page
-is_page (Can task) is = absurd (cc)
+is_page (Ask task) is = absurd (cc)
 is_page (Formula subject) is = absurd (cc)
 is_page Lrat is = absurd (cc)
 is_page Page is = refl
@@ -65,16 +66,16 @@ is_page (Explain task) is = absurd (cc)
 
 -- a task with the word of `explain`
 pub is_explain : (task : MoreTask) → task_word task ≡ word.Explain → (asked : Task) × (task ≡ Explain asked)
-is_explain (Can task) is = absurd (cc)
+is_explain (Ask task) is = absurd (cc)
 is_explain (Formula subject) is = absurd (cc)
 is_explain Lrat is = absurd (cc)
 is_explain Page is = absurd (cc)
 is_explain (Explain task) is = (task, refl)
 
--- arguments that ask nothing after a word request no task by it
-pub no_can : (args : List (List ℕ)) → ((name : List ℕ) (task : CanTask) → ¬ AsksCan args name task) → (task : MoreTask) (name : List ℕ) → task_word task ≡ word.Can → ¬ AsksTask args task name
-no_can args none task name same asks =
-    let (found, is) = is_can task same in none name found (subst (λ (t : MoreTask). AsksTask args t name) is asks)
+-- arguments that ask nothing after the word of `ask` request no task by it
+pub no_ask : (args : List (List ℕ)) → ((task : AskTask) (name : List ℕ) → ¬ RequestsAsk args task name) → (task : MoreTask) (name : List ℕ) → task_word task ≡ word.Ask → ¬ AsksTask args task name
+no_ask args none task name same asks =
+    let (found, is) = is_ask task same in none found name (subst (λ (t : MoreTask). AsksTask args t name) is asks)
 
 -- the task and the name are the same
 abbrev AreSame : MoreTask → MoreTask → List ℕ → List ℕ → Type 0
@@ -85,38 +86,46 @@ one_name : (args : List (List ℕ)) (name again : List ℕ) → IsNameAlone args
 one_name args name again one other = ap (λ (list : List (List ℕ)). get_or list 0 []) (sym one.arguments ∙ other.arguments)
 
 -- arguments after one word ask for one task
-same_task : OneTask tool_interface → (args : List (List ℕ)) (task other : MoreTask) (name again : List ℕ) → task_word task ≡ task_word other → AsksTask args task name → AsksTask args other again → AreSame task other name again
-same_task tool args (Can task) other name again same asks also =
-    let (found, is) = is_can other (sym same) in
-    let one = one_can args name again task found asks (subst (λ (t : MoreTask). AsksTask args t again) is also) in
-    (ap Can one.0 ∙ sym is, one.1)
-same_task tool args (Formula subject) other name again same asks also =
+same_task : OneTask tool_interface → OneAsk → (args : List (List ℕ)) (task other : MoreTask) (name again : List ℕ) → task_word task ≡ task_word other → AsksTask args task name → AsksTask args other again → AreSame task other name again
+same_task tool ask args (Ask task) other name again same asks also =
+    let (found, is) = is_ask other (sym same) in
+    let one = ask args task found name again asks (subst (λ (t : MoreTask). AsksTask args t again) is also) in
+    (ap Ask one.0 ∙ sym is, one.1)
+same_task tool ask args (Formula subject) other name again same asks also =
     let (found, is) = is_formula other (sym same) in
     let one = one_formula args name again subject found asks (subst (λ (t : MoreTask). AsksTask args t again) is also) in
     (ap Formula one.0 ∙ sym is, one.1)
-same_task tool args Lrat other name again same asks also =
+same_task tool ask args Lrat other name again same asks also =
     let is = is_lrat other (sym same) in
     (sym is, one_name args name again asks (subst (λ (t : MoreTask). AsksTask args t again) is also))
-same_task tool args Page other name again same asks also =
+same_task tool ask args Page other name again same asks also =
     let is = is_page other (sym same) in
     (sym is, one_name args name again asks (subst (λ (t : MoreTask). AsksTask args t again) is also))
-same_task tool args (Explain task) other name again same asks also =
+same_task tool ask args (Explain task) other name again same asks also =
     let (found, is) = is_explain other (sym same) in
     let one = tool args task found name again asks (subst (λ (t : MoreTask). AsksTask args t again) is also) in
     (ap Explain one.0 ∙ sym is, one.1)
 
 -- arguments request one task on one name
-pub one_task : OneTask tool_interface → OneTask more_interface
-one_task tool args task other name again one also =
+pub one_task : OneTask tool_interface → OneAsk → OneTask more_interface
+one_task tool ask args task other name again one also =
     let both = sym one.arguments ∙ also.arguments in
     let word : task_word task ≡ task_word other = one_command (task_word task) (task_word other) (ap (λ (list : List (List ℕ)). get_or list 0 []) both) in
     let rest : one.rest ≡ also.rest = ap (drop 1) both in
-    same_task tool also.rest task other name again word (subst (λ (list : List (List ℕ)). AsksTask list task name) rest one.asks) also.asks
+    same_task tool ask also.rest task other name again word (subst (λ (list : List (List ℕ)). AsksTask list task name) rest one.asks) also.asks
 
 -- the words for an input that is too long say nothing of its bytes
 pub long_is_refused_alike : LongIsRefusedAlike more_interface
-long_is_refused_alike (Can task) input other out is = is
+long_is_refused_alike (Ask task) input other out is = is
 long_is_refused_alike (Formula subject) input other out is = is
 long_is_refused_alike Lrat input other out is = is
 long_is_refused_alike Page input other out is = is
 long_is_refused_alike (Explain task) input other out is = record { detail = is.detail; is_detail = is.is_detail; text = is.text }
+
+-- so do those for a text that is no question
+pub at_once_is_refused_alike : AtOnceIsRefusedAlike more_interface
+at_once_is_refused_alike (Ask task) r input other out at_once is = is
+at_once_is_refused_alike (Formula subject) r input other out at_once is = is
+at_once_is_refused_alike Lrat r input other out at_once is = is
+at_once_is_refused_alike Page r input other out at_once is = is
+at_once_is_refused_alike (Explain task) r input other out at_once is = absurd (let no : None ≡ Some r = at_once in none-some r no)

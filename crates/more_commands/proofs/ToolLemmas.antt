@@ -1,6 +1,7 @@
 -- What is written for a command line is an output of the tool, and then words.
 use Rattle.std.proofs.Common.{◌≡◌, ℕ, ◌≤◌, List, [], ◌∷◌, ◌++◌, drop, get_or, length, Option, None, Some, refl, sym, ap, subst, ◌∙◌}
 use Rattle.std.proofs.lemmas.List.{append-nil}
+use Rattle.std.proofs.lemmas.Option.{none-some}
 use Rattle.answer_words.specs.declared.fault.Fault.{Fault}
 use Rattle.answer_words.specs.Fault.{fault_of}
 use Rattle.answer_words.specs.Refusal.{IsFaultText, IsRefusalText, IsTextFor, fault_text}
@@ -24,7 +25,7 @@ use Rattle.more_commands.specs.declared.word.CommandWord.TheVariants as word
 use Rattle.more_commands.specs.ExplainAnswer.{AnswersInWords, explain_rules}
 use Rattle.more_commands.specs.Laws.{AddsWords, AreWordsAfter, AreWordsFor}
 use Rattle.more_commands.specs.StatusWords.{status_words}
-use Rattle.more_commands.specs.Task.{AsksTask, Explain, IsMoreRefusal, MoreTask, RequestsMore, more_interface, more_own_text, more_rules, task_word, word_text}
+use Rattle.more_commands.specs.Task.{AsksTask, Explain, IsMoreRefusal, MoreTask, RequestsMore, more_interface, more_own_text, more_refused_at_once, more_rules, task_word, word_text}
 use Rattle.more_commands.proofs.RequestLemmas.{is_explain, one_command}
 
 -- the words of a fault come after the line of the refusal
@@ -67,17 +68,21 @@ module _ (args rest : List (List ℕ)) (bytes : List ℕ) (about : args ≡ word
   tool_asks : RequestsInput more_interface args → RequestsInput tool_interface rest
   tool_asks asks =
       let found = tool_task asks.task asks.name asks.requested in
-      record { task = found.0; name = asks.name; requested = found.2; reads = subst (λ (t : MoreTask). more_own_text t ≡ None) found.1 asks.reads }
+      record { task = found.0; name = asks.name; requested = found.2; accepted = refl; reads = subst (λ (t : MoreTask). more_own_text t ≡ None) found.1 asks.reads }
 
   more_asks : RequestsInput tool_interface rest → RequestsInput more_interface args
-  more_asks asks = record { task = Explain asks.task; name = asks.name; requested = more_requested asks.task asks.name asks.requested; reads = asks.reads }
+  more_asks asks = record { task = Explain asks.task; name = asks.name; requested = more_requested asks.task asks.name asks.requested; accepted = refl; reads = asks.reads }
 
   -- what is read is read by the tool
   tool_read : (task : Task) (name : List ℕ) → Requests rest task name → (RequestsInput more_interface args → length bytes ≤ input_limit) → IsReadFor tool_interface rest bytes task name
-  tool_read task name requested short = record { requested = requested; short = λ asks. short (more_asks asks) }
+  tool_read task name requested short = record { requested = requested; accepted = refl; short = λ asks. short (more_asks asks) }
 
   -- the reason of a refusal is that of the tool
   tool_reason : (r : Rejection) → Refuses more_interface args bytes r → Refuses tool_interface rest bytes r
+  tool_reason r (Refuses.at_once task name _ requested is) =
+      let found = tool_task task name requested in
+      let no : None ≡ Some r = subst (λ (t : MoreTask). more_refused_at_once t ≡ Some r) found.1 is in
+      absurd (none-some r no)
   tool_reason _ (Refuses.too_long asks long) = Refuses.too_long (tool_asks asks) long
   tool_reason r (Refuses.read task name _ is_read refuses) =
       let found = tool_task task name is_read.requested in

@@ -1,88 +1,104 @@
--- What an output says is true of the protocol that the input declares.
-use Rattle.std.proofs.Common.{◌≡◌, ℕ, ◌<◌, List, [], ◌∷◌, length, map, get_or, drop, refl, sym, ap, subst, ◌∙◌}
-use Rattle.std.proofs.lemmas.List.Elements.{All-head, All-tail}
+-- What an output of `ask` says is true of the protocol that the input declares.
+use Rattle.std.proofs.Common.{◌≡◌, ◌≢◌, ℕ, List, [], ◌∷◌, ◌++◌, get_or, refl, sym, ap, subst, ◌∙◌, arith}
+use Rattle.ask_commands.specs.declared.options.AskOptions.{AskOptions}
+use Rattle.ask_commands.specs.AskRules.{ask_rules}
+use Rattle.ask_commands.specs.AskTask.{AskTask, Check, Judge, Put}
+use Rattle.ask_commands.specs.Claims.{KeepsRule, IsRuleIn, SaysAcceptedQuestion, SaysImpossible, SaysPossible}
+use Rattle.ask_commands.specs.Laws.{AcceptedIsImpossible, DoneRulesAreKept, HasBrokenRule, RefutedRulesAreBroken, SaidImpossibleIs, SaidPossibleIs}
+use Rattle.ask_commands.specs.RulesAnswer.{IsRulesAnswer}
 use Rattle.bspl_types.specs.declared.expanded.Expanded.{Expanded}
-use Rattle.bspl_types.specs.Expansion.{message_name}
-use Rattle.enactability.specs.declared.outcome.Enact.{Enact}
-use Rattle.enactability.specs.declared.outcome.Enact.TheVariants.{Dead, Enacted, Undecided}
-use Rattle.enactability.specs.Answer.{AreAnswered}
-use Rattle.enactability.specs.Enactable.{AreEnactable, AreMessages}
-use Rattle.tool_input.specs.Interface.{task_bytes}
-use Rattle.tool_input.specs.TaskLaws.{OneTask}
-use Rattle.tool_input.specs.Output.{AnswersInput, DoesTask, Output, done, refused, usage}
+use Rattle.protocol_rules.specs.declared.rule.Sense.{Sense}
+use Rattle.question_text.specs.declared.tree.Tree.{Tree}
+use Rattle.question_text.specs.Meaning.{AsksQuestion}
+use Rattle.question_text.specs.QuestionText.{IsQuestionText}
+use Rattle.question_text.specs.Tree.{phrase_of}
+use Rattle.questions.specs.declared.question.Question.{Question}
+use Rattle.questions.specs.Answer.{IsPossible}
+use Rattle.tool_input.specs.declared.rejection.Rejection.{Rejection}
 use Rattle.tool_input.specs.declared.status.Status.{Status}
 use Rattle.tool_input.specs.declared.status.Status.TheVariants as status
+use Rattle.tool_input.specs.Interface.{task_bytes}
 use Rattle.tool_input.specs.Laws.{OneDeclaration}
-use Rattle.tool_input.specs.MessageName.{OneMessageOfAName}
+use Rattle.tool_input.specs.Need.{HasGiven}
+use Rattle.tool_input.specs.Output.{AnswersInput, DoesTask, Output, done, refused, usage}
 use Rattle.tool_input.specs.Parts.{protocol_text}
-use Rattle.more_commands.specs.CanAnswer.{IsCanAnswer, answer_status, can_rules}
+use Rattle.tool_input.specs.Rejection.{rejection_line}
+use Rattle.tool_input.specs.TaskLaws.{OneTask}
 use Rattle.more_commands.specs.Laws.{AreAskedOf}
-use Rattle.more_commands.specs.Named.{AreMessageNames}
-use Rattle.more_commands.specs.Task.{Can, MoreTask, more_interface, more_rules}
+use Rattle.more_commands.specs.Task.{Ask, IsMoreRefusal, MoreTask, more_interface, more_rules}
 
--- the message exists
-abbrev IsMessage : Expanded → ℕ → Type 0
-IsMessage x m = m < length x.messages
+-- the first byte of a text
+first : List ℕ → ℕ
+first text = get_or text 0 0
 
--- messages of the same names are the same
-messages_once : OneMessageOfAName → (x : Expanded) (messages others : List ℕ) → AreMessages x messages → AreMessages x others → map (message_name x) messages ≡ map (message_name x) others → messages ≡ others
-messages_once once x [] [] known also same = refl
-messages_once once x [] (n ∷ others) known also same = absurd (cc)
-messages_once once x (m ∷ messages) [] known also same = absurd (cc)
-messages_once once x (m ∷ messages) (n ∷ others) known also same =
-    let first : message_name x m ≡ message_name x n = ap (λ (names : List (List ℕ)). get_or names 0 []) same in
-    let one : m ≡ n = once x (message_name x n) m n (record { known = All-head (IsMessage x) m messages known; named = first }) (record { known = All-head (IsMessage x) n others also; named = refl }) in
-    let rest : messages ≡ others = messages_once once x messages others (All-tail (IsMessage x) m messages known) (All-tail (IsMessage x) n others also) (ap (drop 1) same) in
-    cc
+-- the line of a rejection does not begin as that of a protocol, or of an accepted log
+not_protocol : (x : Expanded) (tree : Tree) (out : List ℕ) → SaysPossible x tree out → (r : Rejection) → out ≢ rejection_line r
+unfolding first
+not_protocol x tree out says r is = let no : 112 ≡ 114 = ap first (sym says.text ∙ is) in omega (arith, no)
 
-named_once : OneMessageOfAName → (x : Expanded) (names : List (List ℕ)) (messages others : List ℕ) → AreMessageNames x names messages → AreMessageNames x names others → messages ≡ others
-named_once once x names messages others one other = messages_once once x messages others one.known other.known (one.named ∙ sym other.named)
+not_protocol_either : (x : Expanded) (tree : Tree) (out : List ℕ) → SaysImpossible x tree out → (r : Rejection) → out ≢ rejection_line r
+unfolding first
+not_protocol_either x tree out says r is = let no : 112 ≡ 114 = ap first (sym says.text ∙ is) in omega (arith, no)
 
--- a right answer with the status of `never`, and with that of a run
-never_right : (x : Expanded) (messages : List ℕ) (budget : ℕ) (enact : Enact) → AreAnswered x messages budget enact → status.Refuted ≡ answer_status enact → ¬ AreEnactable x messages
-never_right x messages budget (Enacted run) right is = absurd (cc)
-never_right x messages budget (Dead log) right is = right.dead
-never_right x messages budget (Undecided log) right is = absurd (cc)
+not_accepted : (text out : List ℕ) → SaysAcceptedQuestion text out → (r : Rejection) → out ≢ rejection_line r
+unfolding first
+not_accepted text out says r is = let no : 97 ≡ 114 = ap first (sym says ∙ is) in omega (arith, no)
 
-run_right : (x : Expanded) (messages : List ℕ) (budget : ℕ) (enact : Enact) → AreAnswered x messages budget enact → status.Done ≡ answer_status enact → AreEnactable x messages
-run_right x messages budget (Enacted run) right is = right.enactable
-run_right x messages budget (Dead log) right is = absurd (cc)
-run_right x messages budget (Undecided log) right is = absurd (cc)
+-- an answer to a task of `ask`
+pub record IsAnswered (x : Expanded) (input : List ℕ) (task : AskTask) (out : List ℕ) (ends : Status) : Type 0 where
+  pub given : List ℕ
+  pub has_given : HasGiven (ask_rules task).needs input given
+  pub answer : (ask_rules task).answers x given out ends
 
--- what is answered is answered of the messages that are asked
-module _ (one : OneTask more_interface) (declared_once : OneDeclaration) (once : OneMessageOfAName) (args : List (List ℕ)) (input : List ℕ) (x : Expanded) (messages : List ℕ) (asked : AreAskedOf args input x messages) where
-  -- so is a right answer of the task that is asked
-  answers_of : (out : List ℕ) (ends : Status) → AnswersInput (can_rules asked.task) asked.name input out ends → IsCanAnswer x messages asked.task.brief asked.task.conflicts out ends
+-- what is answered is answered to the task that is asked
+module _ (one : OneTask more_interface) (declared_once : OneDeclaration) (args : List (List ℕ)) (input : List ℕ) (x : Expanded) (task : AskTask) (asked : AreAskedOf args input x task) where
+  -- so is a right answer on the input
+  answers_of : (out : List ℕ) (ends : Status) → AnswersInput (ask_rules task) asked.name input out ends → IsAnswered x input task out ends
   answers_of out ends answers =
-      let answer = answers.answer in
       let protocol : answers.protocol ≡ x = declared_once asked.name (protocol_text input) answers.protocol x answers.judged asked.declared in
-      let named : AreMessageNames x asked.task.messages answer.messages = subst (λ (y : Expanded). AreMessageNames y asked.task.messages answer.messages) protocol answer.named in
-      let equal : answer.messages ≡ messages = named_once once x asked.task.messages answer.messages messages named asked.named in
-      subst (λ (ms : List ℕ). IsCanAnswer x ms asked.task.brief asked.task.conflicts out ends) equal (subst (λ (y : Expanded). IsCanAnswer y answer.messages asked.task.brief asked.task.conflicts out ends) protocol answer.answer)
+      record { given = answers.given; has_given = answers.has_given; answer = subst (λ (y : Expanded). (ask_rules task).answers y answers.given out ends) protocol answers.answer }
 
-  -- and so is an output that is done
-  about : (out : List ℕ) (ends : Status) → DoesTask more_interface args input out ends → IsCanAnswer x messages asked.task.brief asked.task.conflicts out ends
+  -- what is done
+  about : (out : List ℕ) (ends : Status) → DoesTask more_interface args input out ends → IsAnswered x input task out ends
   about out ends is =
-      let same = one args is.task (Can asked.task) is.name asked.name is.read.requested asked.requested in
+      let same = one args is.task (Ask task) is.name asked.name is.read.requested asked.requested in
       let named : AnswersInput (more_rules is.task) asked.name (task_bytes more_interface is.task input) out ends = subst (λ (n : List ℕ). AnswersInput (more_rules is.task) n (task_bytes more_interface is.task input) out ends) same.1 is.answered in
       answers_of out ends (subst (λ (t : MoreTask). AnswersInput (more_rules t) asked.name (task_bytes more_interface t input) out ends) same.0 named)
 
-  never_by : (out : List ℕ) (ends : Status) → Output more_interface args input out ends → ends ≡ status.Refuted → ¬ AreEnactable x messages
-  never_by _ _ (usage none) is = absurd (cc)
-  never_by _ _ (refused out r refuses) is = absurd (cc)
-  never_by _ _ (done out ends made) is =
-      let answer = about out ends made in
-      never_right x messages asked.task.conflicts answer.enact answer.right (sym is ∙ answer.ends_is)
+  -- and an output that is no rejection
+  answered : (out : List ℕ) (ends : Status) → ((r : Rejection) → out ≡ rejection_line r → ends ≡ status.Refused → ⊥) → Output more_interface args input out ends → IsAnswered x input task out ends
+  answered _ _ whole (usage none) = absurd (none (Ask task, asked.name, asked.requested))
+  answered out _ whole (refused _ r is) =
+      let line : out ≡ rejection_line r = subst (λ (t : MoreTask). IsMoreRefusal t (task_bytes more_interface t input) r out) (one args is.task (Ask task) is.name asked.name is.requested asked.requested).0 is.text in
+      absurd (whole r line refl)
+  answered out ends whole (done _ _ is) = about out ends is
 
-  run_by : (out : List ℕ) (ends : Status) → Output more_interface args input out ends → ends ≡ status.Done → AreEnactable x messages
-  run_by _ _ (usage none) is = absurd (cc)
-  run_by _ _ (refused out r refuses) is = absurd (cc)
-  run_by _ _ (done out ends made) is =
-      let answer = about out ends made in
-      run_right x messages asked.task.conflicts answer.enact answer.right (sym is ∙ answer.ends_is)
+module _ (one : OneTask more_interface) (declared_once : OneDeclaration) (args : List (List ℕ)) (input : List ℕ) (x : Expanded) where
+  pub possible_true : SaidPossibleIs → (out : List ℕ) (ends : Status) (tree : Tree) (options : AskOptions) (q : Question) → AreAskedOf args input x (Put (phrase_of tree) options) → AsksQuestion x tree q → Output more_interface args input out ends → SaysPossible x tree out → IsPossible x q
+  possible_true law out ends tree options q asked asks output says =
+      let is = answered one declared_once args input x (Put (phrase_of tree) options) asked out ends (λ r line ended. not_protocol x tree out says r line) output in
+      law x tree options out ends q is.answer asks says
 
-  pub never_true : (out : List ℕ) → Output more_interface args input out status.Refuted → ¬ AreEnactable x messages
-  never_true out output = never_by out status.Refuted output refl
+  pub impossible_true : SaidImpossibleIs → (out : List ℕ) (ends : Status) (tree : Tree) (options : AskOptions) (q : Question) → AreAskedOf args input x (Put (phrase_of tree) options) → AsksQuestion x tree q → Output more_interface args input out ends → SaysImpossible x tree out → ¬ IsPossible x q
+  impossible_true law out ends tree options q asked asks output says =
+      let is = answered one declared_once args input x (Put (phrase_of tree) options) asked out ends (λ r line ended. not_protocol_either x tree out says r line) output in
+      law x tree options out ends q is.answer asks says
 
-  pub run_true : (out : List ℕ) → Output more_interface args input out status.Done → AreEnactable x messages
-  run_true out output = run_by out status.Done output refl
+  pub accepted_true : AcceptedIsImpossible → (text out : List ℕ) (ends : Status) (tree : Tree) (q : Question) → AreAskedOf args input x Check → IsQuestionText text tree → AsksQuestion x tree q → Output more_interface args input out ends → SaysAcceptedQuestion text out → ¬ IsPossible x q
+  accepted_true law text out ends tree q asked read asks output says =
+      let is = answered one declared_once args input x Check asked out ends (λ r line ended. not_accepted text out says r line) output in
+      law x is.given text out ends tree q is.answer read asks says
+
+  -- rules are judged on the whole input
+  judged : (options : AskOptions) (out : List ℕ) (ends : Status) → IsAnswered x input (Judge options) out ends → IsRulesAnswer x input options out ends
+  judged options out ends is = subst (λ (bytes : List ℕ). IsRulesAnswer x bytes options out ends) is.has_given is.answer
+
+  pub kept_true : DoneRulesAreKept → (out : List ℕ) (options : AskOptions) (sense : Sense) (q : Question) → AreAskedOf args input x (Judge options) → Output more_interface args input out status.Done → IsRuleIn x input sense q → KeepsRule x sense q
+  kept_true law out options sense q asked output rule_in =
+      let is = answered one declared_once args input x (Judge options) asked out status.Done (λ r line ended. absurd (cc)) output in
+      law x input out options sense q (judged options out status.Done is) rule_in
+
+  pub broken_true : RefutedRulesAreBroken → (out : List ℕ) (options : AskOptions) → AreAskedOf args input x (Judge options) → Output more_interface args input out status.Refuted → HasBrokenRule x input
+  broken_true law out options asked output =
+      let is = answered one declared_once args input x (Judge options) asked out status.Refuted (λ r line ended. absurd (cc)) output in
+      law x input out options (judged options out status.Refuted is)

@@ -3,14 +3,24 @@
 use Rattle.std.specs.Prelude.{◌≡◌, ℕ, Bool, List, ◌∷◌, ◌++◌}
 use Rattle.answer_words.specs.Refusal.{IsRefusalText}
 use Rattle.answer_words.specs.VerdictText.{IsVerdictWords}
+use Rattle.ask_commands.specs.declared.options.AskOptions.{AskOptions}
+use Rattle.ask_commands.specs.AskTask.{AskTask, Check, Judge, Put}
+use Rattle.ask_commands.specs.Claims.{KeepsRule, IsRuleIn, SaysAcceptedQuestion, SaysImpossible, SaysPossible}
+use Rattle.ask_commands.specs.Laws.{HasBrokenRule}
 use Rattle.bspl_tool.specs.declared.task.Task.{Task}
 use Rattle.bspl_tool.specs.declared.task.Task.TheVariants.{Verify}
 use Rattle.bspl_tool.specs.Interface.{tool_interface}
 use Rattle.bspl_tool.specs.Request.{Requests}
 use Rattle.bspl_types.specs.declared.expanded.Expanded.{Expanded}
-use Rattle.enactability.specs.Enactable.{AreEnactable}
 use Rattle.enactment_model.specs.Liveness.{LiveProtocol}
 use Rattle.enactment_model.specs.Safety.{SafeProtocol}
+use Rattle.protocol_rules.specs.declared.rule.Sense.{Sense}
+use Rattle.question_text.specs.declared.tree.Tree.{Tree}
+use Rattle.question_text.specs.Meaning.{AsksQuestion}
+use Rattle.question_text.specs.QuestionText.{IsQuestionText}
+use Rattle.question_text.specs.Tree.{phrase_of}
+use Rattle.questions.specs.declared.question.Question.{Question}
+use Rattle.questions.specs.Answer.{IsPossible}
 use Rattle.tool_input.specs.Interface.{HasTask, task_bytes}
 use Rattle.tool_input.specs.Output.{Output}
 use Rattle.tool_input.specs.declared.rejection.Rejection.{Rejection}
@@ -22,37 +32,57 @@ use Rattle.tool_input.specs.Rejection.{rejection_line}
 use Rattle.verdict.specs.declared.outcome.Verdicts.{Verdicts}
 use Rattle.verdict_commands.specs.VerifyAnswer.{IsVerdictAnswer}
 use Rattle.more_commands.specs.declared.word.CommandWord.TheVariants as word
-use Rattle.more_commands.specs.CanArguments.{CanTask}
 use Rattle.more_commands.specs.ExplainAnswer.{IsExplainedAnswer}
 use Rattle.more_commands.specs.FormulaArguments.{FormulaSubject}
 use Rattle.more_commands.specs.Given.{Given}
-use Rattle.more_commands.specs.Named.{AreMessageNames}
 use Rattle.more_commands.specs.PageAnswer.{IsPageAnswer}
 use Rattle.more_commands.specs.StatusWords.{status_words}
-use Rattle.more_commands.specs.Task.{Can, Formula, RequestsMore, more_interface, word_text}
+use Rattle.more_commands.specs.Task.{Ask, Formula, RequestsMore, more_interface, word_text}
 
--- the arguments and the input speak of these messages of this protocol
-pub record AreAskedOf (args : List (List ℕ)) (input : List ℕ) (x : Expanded)
-    (messages : List ℕ) : Type 0 where
+-- the arguments ask for the task on the protocol that the input declares
+pub record AreAskedOf (args : List (List ℕ)) (input : List ℕ) (x : Expanded) (task : AskTask)
+    : Type 0 where
   pub name : List ℕ
-  pub task : CanTask
-  pub requested : RequestsMore args (Can task) name
+  pub requested : RequestsMore args (Ask task) name
   pub declared : Declares name (protocol_text input) x
-  pub named : AreMessageNames x task.messages messages
 
--- the status of `never` is given only if no legal run emits all of them under one key
-abbrev pub NeverIsTrue : Type 0
-NeverIsTrue =
-    (args : List (List ℕ)) (input out : List ℕ) (x : Expanded) (messages : List ℕ) →
-    AreAskedOf args input x messages → Output more_interface args input out Refuted →
-    ¬ AreEnactable x messages
+-- the line `possible` is given only if some legal run gives the answer yes at some key
+abbrev pub PossibleIsTrue : Type 0
+PossibleIsTrue =
+    (args : List (List ℕ)) (input out : List ℕ) (status : Status) (x : Expanded) (tree : Tree)
+    (options : AskOptions) (q : Question) →
+    AreAskedOf args input x (Put (phrase_of tree) options) → AsksQuestion x tree q →
+    Output more_interface args input out status → SaysPossible x tree out → IsPossible x q
 
--- and that of a run only if one does
-abbrev pub TogetherIsTrue : Type 0
-TogetherIsTrue =
-    (args : List (List ℕ)) (input out : List ℕ) (x : Expanded) (messages : List ℕ) →
-    AreAskedOf args input x messages → Output more_interface args input out Done →
-    AreEnactable x messages
+-- the line `impossible` only if none does
+abbrev pub ImpossibleIsTrue : Type 0
+ImpossibleIsTrue =
+    (args : List (List ℕ)) (input out : List ℕ) (status : Status) (x : Expanded) (tree : Tree)
+    (options : AskOptions) (q : Question) →
+    AreAskedOf args input x (Put (phrase_of tree) options) → AsksQuestion x tree q →
+    Output more_interface args input out status → SaysImpossible x tree out → ¬ IsPossible x q
+
+-- nor is the line `accepted impossible` given otherwise
+abbrev pub AcceptedIsTrue : Type 0
+AcceptedIsTrue =
+    (args : List (List ℕ)) (input text out : List ℕ) (status : Status) (x : Expanded)
+    (tree : Tree) (q : Question) → AreAskedOf args input x Check → IsQuestionText text tree →
+    AsksQuestion x tree q → Output more_interface args input out status →
+    SaysAcceptedQuestion text out → ¬ IsPossible x q
+
+-- the status 0 for rules is given only if the protocol keeps each of those in its text
+abbrev pub KeptIsTrue : Type 0
+KeptIsTrue =
+    (args : List (List ℕ)) (input out : List ℕ) (x : Expanded) (options : AskOptions)
+    (sense : Sense) (q : Question) → AreAskedOf args input x (Judge options) →
+    Output more_interface args input out Done → IsRuleIn x input sense q → KeepsRule x sense q
+
+-- and the status 1 only if it does not keep one
+abbrev pub BrokenIsTrue : Type 0
+BrokenIsTrue =
+    (args : List (List ℕ)) (input out : List ℕ) (x : Expanded) (options : AskOptions) →
+    AreAskedOf args input x (Judge options) → Output more_interface args input out Refuted →
+    HasBrokenRule x input
 
 -- arguments that ask for a formula, and an input, have one output and one status
 abbrev pub OneFormulaOutput : Type 0

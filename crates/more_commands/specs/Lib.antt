@@ -2,10 +2,7 @@
 -- What private functions cite is last.
 pub mod Call
 pub mod Task
-pub mod CanArguments
 pub mod FormulaArguments
-pub mod CanAnswer
-pub mod Named
 pub mod FormulaAnswer
 pub mod LratAnswer
 pub mod PageAnswer

@@ -1,6 +1,8 @@
 -- The commands: what each is asked, by which arguments, and by which rules it answers.
 use Rattle.std.specs.Prelude.{◌≡◌, ℕ, List, [], ◌∷◌, Option, None, IsTrue}
 use Rattle.answer_words.specs.Refusal.{IsRefusalText}
+use Rattle.ask_commands.specs.AskRules.{ask_rules}
+use Rattle.ask_commands.specs.AskTask.{AskTask, RequestsAsk, ask_refused_at_once}
 use Rattle.bspl_tool.specs.declared.task.Task.{Task}
 use Rattle.bspl_tool.specs.Request.{Requests}
 use Rattle.bspl_tool.specs.Task.{own_text}
@@ -12,18 +14,16 @@ use Rattle.tool_input.specs.Rejection.{rejection_line}
 use Rattle.more_commands.specs.declared.wording.TheConstants as wording
 use Rattle.more_commands.specs.declared.word.CommandWord.{CommandWord}
 use Rattle.more_commands.specs.declared.word.CommandWord.TheVariants as word
-use Rattle.more_commands.specs.CanAnswer.{can_rules}
-use Rattle.more_commands.specs.CanArguments.{AsksCan, CanTask}
 use Rattle.more_commands.specs.ExplainAnswer.{explain_rules}
 use Rattle.more_commands.specs.FormulaAnswer.{formula_rules}
 use Rattle.more_commands.specs.FormulaArguments.{AsksFormula, FormulaSubject}
 use Rattle.more_commands.specs.LratAnswer.{lrat_rules}
 use Rattle.more_commands.specs.PageAnswer.{page_rules}
 
--- messages are enacted together, a formula is printed, a log becomes a proof in LRAT form, a page is
--- made, or a task of the tool is done in words
+-- a question is asked, a formula is printed, a log becomes a proof in LRAT form, a page is made, or a
+-- task of the tool is done in words
 pub data MoreTask : Type 0 where
-  Can : (task : CanTask) → MoreTask
+  Ask : (task : AskTask) → MoreTask
   Formula : (subject : FormulaSubject) → MoreTask
   Lrat : MoreTask
   Page : MoreTask
@@ -31,7 +31,7 @@ pub data MoreTask : Type 0 where
 
 -- the text of the word of a command
 abbrev pub word_text : CommandWord → List ℕ
-word_text word.Can = wording.CAN.now
+word_text word.Ask = wording.ASK.now
 word_text word.Formula = wording.FORMULA.now
 word_text word.Lrat = wording.LRAT.now
 word_text word.Page = wording.PAGE.now
@@ -39,7 +39,7 @@ word_text word.Explain = wording.EXPLAIN.now
 
 -- the word of a task's command
 abbrev pub task_word : MoreTask → CommandWord
-task_word (Can task) = word.Can
+task_word (Ask task) = word.Ask
 task_word (Formula subject) = word.Formula
 task_word Lrat = word.Lrat
 task_word Page = word.Page
@@ -52,7 +52,7 @@ pub record IsNameAlone (args : List (List ℕ)) (name : List ℕ) : Type 0 where
 
 -- the arguments after that word ask for the task on the protocol of the name
 abbrev pub AsksTask : List (List ℕ) → MoreTask → List ℕ → Type 0
-AsksTask args (Can task) name = AsksCan args name task
+AsksTask args (Ask task) name = RequestsAsk args task name
 AsksTask args (Formula subject) name = AsksFormula args name subject
 AsksTask args Lrat name = IsNameAlone args name
 AsksTask args Page name = IsNameAlone args name
@@ -66,7 +66,7 @@ pub record RequestsMore (args : List (List ℕ)) (task : MoreTask) (name : List 
 
 -- the rules of each task
 abbrev pub more_rules : MoreTask → CommandRules
-more_rules (Can task) = can_rules task
+more_rules (Ask task) = ask_rules task
 more_rules (Formula subject) = formula_rules subject
 more_rules Lrat = lrat_rules
 more_rules Page = page_rules
@@ -76,6 +76,11 @@ more_rules (Explain task) = explain_rules task
 abbrev pub more_own_text : MoreTask → Option (List ℕ)
 more_own_text (Explain task) = own_text task
 more_own_text task = None
+
+-- a text that is no question is refused at once
+abbrev pub more_refused_at_once : MoreTask → Option Rejection
+more_refused_at_once (Ask task) = ask_refused_at_once task
+more_refused_at_once task = None
 
 -- how a refusal is written: in words, or in its line
 abbrev pub IsMoreRefusal : MoreTask → List ℕ → Rejection → List ℕ → Type 0
@@ -89,5 +94,6 @@ more_interface = record {
   requests = RequestsMore;
   rules = more_rules;
   own_text = more_own_text;
+  refused_at_once = more_refused_at_once;
   refusal_text = IsMoreRefusal;
 }

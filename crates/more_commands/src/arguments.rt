@@ -3,11 +3,11 @@ ghost use Rattle.more_commands.specs.declared.word.CommandWord.TheVariants as wo
 ghost use Rattle.more_commands.specs.Task.{IsNameAlone};
 ghost use Rattle.more_commands.specs.inner.Question.{IsAskedBy};
 
-use super::can_arguments::can_question;
 use super::command::MoreCommand;
 use super::formula_arguments::formula_question;
 use super::question::MoreQuestion;
 use super::word::CommandWord;
+use ask_commands::{AskRequest, ask_request};
 use bspl_tool::ToolQuestion;
 use bspl_types::is_name;
 use list_base::NoMemory;
@@ -23,11 +23,24 @@ pub(crate) fn question_of<'a>(
     ensures { IfOk result (IsAskedBy word (map string_bytes args.now)) }
 {
     match word {
-        CommandWord::Can => can_question(alloc, args),
+        CommandWord::Ask => ask_question(alloc, args),
         CommandWord::Formula => Ok(formula_question(args)),
         CommandWord::Lrat => Ok(lrat_question(args)),
         CommandWord::Page => Ok(page_question(args)),
         CommandWord::Explain => explain_question(alloc, args),
+    }
+}
+
+/// What the arguments of `ask` ask.
+fn ask_question<'a>(alloc: Global, args: &'a [String]) -> Result<Option<MoreQuestion<'a>>, NoMemory>
+    ensures { IfOk result (IsAskedBy word.Ask (map string_bytes args.now)) }
+{
+    match ask_request(alloc, args)? {
+        Some(AskRequest { name, command }) => Ok(Some(MoreQuestion {
+            name,
+            command: MoreCommand::Ask(command),
+        })),
+        None => Ok(None),
     }
 }
 

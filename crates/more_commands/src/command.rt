@@ -3,17 +3,17 @@ ghost use Rattle.answer_words.specs.Refusal.{IsRefusalText};
 ghost use Rattle.bspl_types.specs.Limits.{input_limit};
 ghost use Rattle.tool_input.specs.Error.{RejectsFor};
 ghost use Rattle.tool_input.specs.declared.status.Status.TheVariants.{Refused};
-ghost use Rattle.more_commands.specs.Task.{IsMoreRefusal, more_own_text, more_rules};
+ghost use Rattle.more_commands.specs.Task.{IsMoreRefusal, more_own_text, more_refused_at_once};
+ghost use Rattle.more_commands.specs.Task.{more_rules};
 ghost use Rattle.more_commands.specs.inner.Question.{more_task};
 
-use super::can_args::CanArgs;
-use super::can_command::can;
 use super::explain_command::explain;
 use super::formula_arguments::FormulaArgs;
 use super::formula_command::formula;
 use super::lrat_command::lrat;
 use super::page_command::page;
 use answer_words::refusal_text;
+use ask_commands::AskCommand;
 use bspl_tool::Task;
 use bspl_types::Admitted;
 use list_base::{Bytes, NoMemory};
@@ -24,8 +24,8 @@ use tool_input::{AnswerError, Need, Part, Rejection, Status};
 /// A command, with what its arguments ask of a protocol.
 #[derive(Drop)]
 pub enum MoreCommand<'a> {
-    /// Whether the protocol can enact messages together.
-    Can(CanArgs<'a>),
+    /// A question on it, a log on one, or its rules.
+    Ask(AskCommand),
     /// A formula of it is printed.
     Formula(FormulaArgs<'a>),
     /// A log on it becomes a proof in LRAT form.
@@ -42,10 +42,21 @@ impl MoreCommand<'_> {
         ensures { result ≡ (more_rules (more_task self.now)).needs }
     {
         match self {
-            MoreCommand::Can(_) | MoreCommand::Formula(_) => Need::Nothing,
+            MoreCommand::Ask(command) => command.needs(),
+            MoreCommand::Formula(_) => Need::Nothing,
             MoreCommand::Lrat => Need::Part(Part::Log),
             MoreCommand::Page => Need::Input,
             MoreCommand::Explain(task) => task.needs(),
+        }
+    }
+
+    /// Why it is refused at once, before anything is read.
+    pub(crate) fn refused_at_once(&self) -> Option<Rejection>
+        ensures { result ≡ more_refused_at_once (more_task self.now) }
+    {
+        match self {
+            MoreCommand::Ask(command) => command.refused_at_once(),
+            _ => None,
         }
     }
 
@@ -85,7 +96,7 @@ impl MoreCommand<'_> {
             (RejectsFor ((more_rules (more_task self.now)).refuses protocol given.now)) }
     {
         match self {
-            MoreCommand::Can(args) => can(alloc, &protocol, args),
+            MoreCommand::Ask(command) => command.answer(alloc, &protocol, given),
             MoreCommand::Formula(args) => formula(alloc, &protocol, *args),
             MoreCommand::Lrat => lrat(alloc, &protocol, given),
             MoreCommand::Page => page(alloc, protocol, given),

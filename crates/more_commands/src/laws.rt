@@ -1,22 +1,38 @@
-ghost use Rattle.more_commands.specs.Laws.{AnswersAddWords, DoneAnswersAreTrue, DonePagesAreTrue};
-ghost use Rattle.more_commands.specs.Laws.{NeverIsTrue, OneFormulaOutput, TogetherIsTrue};
+ghost use Rattle.more_commands.specs.Laws.{AcceptedIsTrue, AnswersAddWords, BrokenIsTrue};
+ghost use Rattle.more_commands.specs.Laws.{DoneAnswersAreTrue, DonePagesAreTrue, ImpossibleIsTrue};
+ghost use Rattle.more_commands.specs.Laws.{KeptIsTrue, OneFormulaOutput, PossibleIsTrue};
 
 use super::question::MoreQuestion;
+use ask_commands::{possibilities_are_true, rules_are_judged_truly};
 use formula_text::one_text;
 use tool_input::{Question, messages_are_named_once, texts_are_judged_once};
 
-/// A law: what an output of `can` says of the messages is true of the protocol that the input
+/// A law: what an output of `ask` says of a question is true of the protocol that the input
 /// declares.
 pub fn answers_are_true()
-    ensures never { NeverIsTrue }
-    ensures together { TogetherIsTrue }
+    ensures possible { PossibleIsTrue }
+    ensures impossible { ImpossibleIsTrue }
+    ensures accepted { AcceptedIsTrue }
 {
     // law: arguments request one task
     MoreQuestion::asks_once();
     // law: a text declares one protocol for a name
     texts_are_judged_once();
-    // law: a name is that of one message
-    messages_are_named_once();
+    // law: the lines of answers are true
+    possibilities_are_true();
+}
+
+/// A law: so it is with the rules in the protocol's text.
+pub fn rules_are_answered_truly()
+    ensures kept { KeptIsTrue }
+    ensures broken { BrokenIsTrue }
+{
+    // law: arguments request one task
+    MoreQuestion::asks_once();
+    // law: a text declares one protocol for a name
+    texts_are_judged_once();
+    // law: the status of judgements is true
+    rules_are_judged_truly();
 }
 
 /// A law: arguments that ask for a formula, and an input, have one output and one status.

@@ -1,12 +1,13 @@
 ghost use Rattle.std.specs.Prelude.{◌≡◌, ⊤, IfOk};
 ghost use Rattle.tool_input.specs.Answer.{IsRightAnswer, RepliesWith};
-ghost use Rattle.tool_input.specs.TaskLaws.{LongIsRefusedAlike, OneTask};
+ghost use Rattle.tool_input.specs.TaskLaws.{AtOnceIsRefusedAlike, LongIsRefusedAlike, OneTask};
 ghost use Rattle.more_commands.specs.Task.{more_interface};
 
 use super::arguments::question_of;
 use super::command::MoreCommand;
 use super::word::word_of;
 use super::wording::USAGE;
+use ask_commands::asks_once;
 use bspl_tool::ToolQuestion;
 use bspl_types::Admitted;
 use list_base::{Bytes, NoMemory};
@@ -65,6 +66,10 @@ impl<'a> Question<'a> for MoreQuestion<'a> {
         self.command.needs()
     }
 
+    fn refused_at_once(&self) -> Option<Rejection> {
+        self.command.refused_at_once()
+    }
+
     fn reads_input(&self) -> bool {
         self.command.reads_input()
     }
@@ -108,8 +113,10 @@ impl<'a> Question<'a> for MoreQuestion<'a> {
     fn asks_once()
         ensures once { OneTask more_interface }
         ensures alike { LongIsRefusedAlike more_interface }
+        ensures at_once { AtOnceIsRefusedAlike more_interface }
     {
-        // law: arguments request one task of the tool at most
+        // laws: arguments request one task of the tool at most, and one of `ask`
         ToolQuestion::asks_once();
+        asks_once();
     }
 }

@@ -7,7 +7,7 @@ use super::wording;
 /// The word of a command.
 #[derive(Clone, Copy, Debug, PartialEq, Eq)]
 pub enum CommandWord {
-    Can,
+    Ask,
     Formula,
     Lrat,
     Page,
@@ -20,8 +20,8 @@ pub(crate) fn word_of(text: &[u8]) -> Option<CommandWord>
         ((word : SpecWord) → text.now ≢ word_text word)
         (λ word. text.now ≡ word_text word) }
 {
-    if text == wording::CAN {
-        Some(CommandWord::Can)
+    if text == wording::ASK {
+        Some(CommandWord::Ask)
     } else if text == wording::FORMULA {
         Some(CommandWord::Formula)
     } else if text == wording::LRAT {

@@ -4,11 +4,11 @@ pub(crate) mod answers;
 
 /// The line for arguments that request nothing.
 pub(crate) const USAGE: &[u8] =
-    b"usage: bspl_more COMMAND NAME ..: can NAME MESSAGE .. [--brief] [--conflicts N] | \
-formula NAME safety|liveness|dead MESSAGE | lrat NAME | page NAME | explain COMMAND NAME ..\n";
+    b"usage: bspl_more COMMAND NAME ..: ask NAME QUESTION [--brief] [--conflicts N] | \
+ask NAME --check | ask NAME --all [--brief] [--conflicts N] | formula NAME safety|liveness|dead MESSAGE | lrat NAME | page NAME | explain COMMAND NAME ..\n";
 
 // The words of the commands.
-pub(crate) const CAN: &[u8] = b"can";
+pub(crate) const ASK: &[u8] = b"ask";
 
 pub(crate) const FORMULA: &[u8] = b"formula";
 
@@ -17,13 +17,6 @@ pub(crate) const LRAT: &[u8] = b"lrat";
 pub(crate) const PAGE: &[u8] = b"page";
 
 pub(crate) const EXPLAIN: &[u8] = b"explain";
-
-// The answers of `can`, before the names of the messages.
-pub(crate) const TOGETHER: &[u8] = b"together";
-
-pub(crate) const NEVER: &[u8] = b"never";
-
-pub(crate) const UNDECIDED: &[u8] = b"undecided";
 
 // The words for formulas.
 pub(crate) const SAFETY: &[u8] = b"safety";

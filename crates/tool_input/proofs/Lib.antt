@@ -1,8 +1,6 @@
 pub mod PartLines
 pub mod FirstPart
 pub mod OneRefusal
-pub mod MessageNames
-pub mod RoleNames
 pub mod Unasked
 pub mod InputReplies
 pub mod Replies

@@ -1,5 +1,5 @@
 -- What is replied to the arguments is an output.
-use Rattle.std.proofs.Common.{◌≡◌, ℕ, ◌<◌, ◌≤◌, List, length, Result, Ok, Err, refl, sym, subst}
+use Rattle.std.proofs.Common.{◌≡◌, ℕ, ◌<◌, ◌≤◌, List, length, Option, None, Some, Result, Ok, Err, refl, sym, subst}
 use Rattle.std.specs.Prelude.{IfOk}
 use Rattle.list_base.specs.declared.memory.NoMemory.{NoMemory}
 use Rattle.program_frame.specs.declared.reply.Reply.{Reply}
@@ -38,11 +38,21 @@ all_long_replied i args task name input (Ok reply) requests asks alike said ends
 all_long_replied i args task name input (Err e) requests asks alike said ends = tt
 
 -- an answer on the bytes that a task is done on
-pub task_replied : {Task : Type 0} (i : Interface Task) (args : List (List ℕ)) (task : Task) (name bytes out : List ℕ) (status : Status) → i.requests args task name → length bytes ≤ input_limit → AnswersInput (i.rules task) name (task_bytes i task bytes) out status → Output i args bytes out status
-task_replied i args task name bytes out status requests short answered =
-    done out status (record { task = task; name = name; read = record { requested = requests; short = λ _. short }; answered = answered })
+pub task_replied : {Task : Type 0} (i : Interface Task) (args : List (List ℕ)) (task : Task) (name bytes out : List ℕ) (status : Status) → i.requests args task name → i.refused_at_once task ≡ None → length bytes ≤ input_limit → AnswersInput (i.rules task) name (task_bytes i task bytes) out status → Output i args bytes out status
+task_replied i args task name bytes out status requests accepted short answered =
+    done out status (record { task = task; name = name; read = record { requested = requests; accepted = accepted; short = λ _. short }; answered = answered })
 
 -- a refusal of them
-pub task_refused : {Task : Type 0} (i : Interface Task) (args : List (List ℕ)) (task : Task) (name bytes text out : List ℕ) (status : Status) (r : Rejection) → i.requests args task name → length bytes ≤ input_limit → RefusesInput (i.rules task) name (task_bytes i task bytes) r → i.refusal_text task (task_bytes i task bytes) r out → text ≡ out → status ≡ Refused → Output i args bytes text status
-task_refused i args task name bytes text out status r requests short reason said same ends =
-    refusal_replied i args task name bytes text out status r requests (Refuses.read task name r (record { requested = requests; short = λ _. short }) reason) said same ends
+pub task_refused : {Task : Type 0} (i : Interface Task) (args : List (List ℕ)) (task : Task) (name bytes text out : List ℕ) (status : Status) (r : Rejection) → i.requests args task name → i.refused_at_once task ≡ None → length bytes ≤ input_limit → RefusesInput (i.rules task) name (task_bytes i task bytes) r → i.refusal_text task (task_bytes i task bytes) r out → text ≡ out → status ≡ Refused → Output i args bytes text status
+task_refused i args task name bytes text out status r requests accepted short reason said same ends =
+    refusal_replied i args task name bytes text out status r requests (Refuses.read task name r (record { requested = requests; accepted = accepted; short = λ _. short }) reason) said same ends
+
+-- a task that is refused at once
+pub at_once_replied : {Task : Type 0} (i : Interface Task) (args : List (List ℕ)) (task : Task) (name bytes text out : List ℕ) (status : Status) (r : Rejection) → i.requests args task name → i.refused_at_once task ≡ Some r → i.refusal_text task (task_bytes i task bytes) r out → text ≡ out → status ≡ Refused → Output i args bytes text status
+at_once_replied i args task name bytes text out status r requests is said same ends =
+    refusal_replied i args task name bytes text out status r requests (Refuses.at_once task name r requests is) said same ends
+
+-- a task without a reason to be refused at once is accepted
+pub accepted : (found reason : Option Rejection) → found ≡ reason → ((r : Rejection) → found ≡ Some r → ⊥) → reason ≡ None
+accepted found None same none = refl
+accepted found (Some r) same none = absurd (none r same)

@@ -13,6 +13,8 @@ pub record Interface (Task : Type 0) : Type 1 where
   pub rules : Task → CommandRules
   -- the text that the task makes for itself and is done on in place of the input
   pub own_text : Task → Option (List ℕ)
+  -- why the task is refused at once, before anything is read
+  pub refused_at_once : Task → Option Rejection
   -- how a refusal of the task on these bytes is written
   pub refusal_text : Task → List ℕ → Rejection → List ℕ → Type 0
 
@@ -24,12 +26,14 @@ HasTask {Task} i args = (task : Task) × (name : List ℕ) × i.requests args ta
 abbrev pub IsSomeRequest : {Task : Type 0} → Interface Task → Task → List ℕ → Type 0
 IsSomeRequest i task name = (args : List (List ℕ)) × i.requests args task name
 
--- the arguments ask for the input: they request a task that has no text of its own
+-- the arguments ask for the input: they request a task that is not refused at once and has no text
+-- of its own
 pub record RequestsInput {Task : Type 0} (i : Interface Task) (args : List (List ℕ))
     : Type 0 where
   pub task : Task
   pub name : List ℕ
   pub requested : i.requests args task name
+  pub accepted : i.refused_at_once task ≡ None
   pub reads : i.own_text task ≡ None
 
 -- the bytes that a task is done on: its own text, or the input

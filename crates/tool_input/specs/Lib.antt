@@ -8,6 +8,7 @@ pub mod TextRefusal
 pub mod Rejection
 pub mod MessageName
 pub mod RoleName
+pub mod UndeclaredName
 pub mod Laws
 pub mod Status
 -- What a program of commands promises, in the order in which it is read: a command's rules, the

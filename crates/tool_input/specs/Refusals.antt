@@ -1,5 +1,5 @@
 -- Why an input is refused, in the order in which the reasons are judged.
-use Rattle.std.specs.Prelude.{◌≡◌, ℕ, ◌<◌, ◌≤◌, List, length, Some}
+use Rattle.std.specs.Prelude.{◌≡◌, ℕ, ◌<◌, ◌≤◌, List, length, None, Some}
 use Rattle.bspl_types.specs.declared.expanded.Expanded.{Expanded}
 use Rattle.bspl_types.specs.declared.refusals.Refusal.{Refusal}
 use Rattle.bspl_types.specs.Limits.{input_limit}
@@ -28,15 +28,20 @@ pub data RefusesInput (rules : CommandRules) (name input : List ℕ) : Rejection
       → Declares name (protocol_text input) x → rules.refuses x given r
       → RefusesInput rules name input r
 
--- the arguments request the task, and an input that they ask for is no longer than its limit
+-- the arguments request the task, which is not refused at once, and an input that they ask for is
+-- no longer than its limit
 pub record IsReadFor {Task : Type 0} (i : Interface Task) (args : List (List ℕ)) (bytes : List ℕ)
     (task : Task) (name : List ℕ) : Type 0 where
   pub requested : i.requests args task name
+  pub accepted : i.refused_at_once task ≡ None
   pub short : RequestsInput i args → length bytes ≤ input_limit
 
 -- why the arguments are refused on these bytes of the input
 pub data Refuses {Task : Type 0} (i : Interface Task) (args : List (List ℕ)) (bytes : List ℕ)
     : Rejection → Type 0 where
+  -- the task that they request is refused at once, whatever the input is
+  at_once : (task : Task) (name : List ℕ) (r : Rejection) → i.requests args task name
+      → i.refused_at_once task ≡ Some r → Refuses i args bytes r
   -- the input that they ask for is too long
   too_long : RequestsInput i args → input_limit < length bytes
       → Refuses i args bytes (over_limit input_limit)

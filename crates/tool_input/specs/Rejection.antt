@@ -7,7 +7,7 @@ use Rattle.bspl_types.specs.declared.refusals.What.{What}
 use Rattle.bspl_types.specs.declared.refusals.What.TheVariants as what
 use Rattle.tool_input.specs.declared.parts.Part.{Part}
 use Rattle.tool_input.specs.declared.rejection.Code.{Code}
-use Rattle.tool_input.specs.declared.rejection.Code.TheVariants.{E, F, H, L, P, S, W}
+use Rattle.tool_input.specs.declared.rejection.Code.TheVariants.{E, F, H, L, P, Q, S, W}
 use Rattle.tool_input.specs.declared.rejection.Field.{Field}
 use Rattle.tool_input.specs.declared.rejection.Field.TheVariants as field
 use Rattle.tool_input.specs.declared.rejection.Rejection.{Rejection}
@@ -25,6 +25,7 @@ code_text (W n) = codes "W" ++ decimal n
 code_text (S n) = codes "S" ++ decimal n
 code_text (H n) = codes "H" ++ decimal n
 code_text (F n) = codes "F" ++ decimal n
+code_text (Q n) = codes "Q" ++ decimal n
 
 -- the word for what is counted against a limit
 abbrev pub what_word : What → List ℕ

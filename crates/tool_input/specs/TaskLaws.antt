@@ -1,6 +1,7 @@
 -- What has to hold of the interface of a program.
-use Rattle.std.specs.Prelude.{◌≡◌, ℕ, List}
+use Rattle.std.specs.Prelude.{◌≡◌, ℕ, List, Some}
 use Rattle.bspl_types.specs.Limits.{input_limit}
+use Rattle.tool_input.specs.declared.rejection.Rejection.{Rejection}
 use Rattle.tool_input.specs.Rejection.{over_limit}
 use Rattle.tool_input.specs.Interface.{Interface}
 
@@ -14,3 +15,9 @@ abbrev pub LongIsRefusedAlike : {Task : Type 0} → Interface Task → Type 0
 LongIsRefusedAlike {Task} i = (task : Task) (input other out : List ℕ)
     → i.refusal_text task input (over_limit input_limit) out
     → i.refusal_text task other (over_limit input_limit) out
+
+-- so is the refusal of a task at once
+abbrev pub AtOnceIsRefusedAlike : {Task : Type 0} → Interface Task → Type 0
+AtOnceIsRefusedAlike {Task} i = (task : Task) (r : Rejection) (input other out : List ℕ)
+    → i.refused_at_once task ≡ Some r → i.refusal_text task input r out
+    → i.refusal_text task other r out

@@ -4,7 +4,7 @@ ghost use Rattle.tool_input.specs.declared.status.Status.TheVariants.{Refused};
 ghost use Rattle.tool_input.specs.Answer.{IsRightAnswer, RepliesWith};
 ghost use Rattle.tool_input.specs.Error.{RejectsFor};
 ghost use Rattle.tool_input.specs.Interface.{IsSomeRequest};
-ghost use Rattle.tool_input.specs.TaskLaws.{LongIsRefusedAlike, OneTask};
+ghost use Rattle.tool_input.specs.TaskLaws.{AtOnceIsRefusedAlike, LongIsRefusedAlike, OneTask};
 ghost use Rattle.tool_input.specs.Request.{IsRequest};
 
 use super::answer_error::AnswerError;
@@ -58,6 +58,10 @@ pub trait Question<'a>: Drop {
     fn needs(&self) -> Need
         ensures { result ≡ (interface.rules (task self.now)).needs };
 
+    /// Why the task is refused at once, before anything is read.
+    fn refused_at_once(&self) -> Option<Rejection>
+        ensures { result ≡ interface.refused_at_once (task self.now) };
+
     /// Whether the task is done on the input.
     fn reads_input(&self) -> bool
         ensures { IsTrue result ↔ (interface.own_text (task self.now) ≡ None) };
@@ -106,8 +110,9 @@ pub trait Question<'a>: Drop {
         ensures { IfOk result (λ reply. completes answer reply.text reply.status) };
 
     /// A law: arguments request one task on one name at most, and the refusal of an input that is
-    /// too long is written alike for each.
+    /// too long, or of a task at once, is written alike for each input.
     fn asks_once()
         ensures once { OneTask interface }
-        ensures alike { LongIsRefusedAlike interface };
+        ensures alike { LongIsRefusedAlike interface }
+        ensures at_once { AtOnceIsRefusedAlike interface };
 }

@@ -24,6 +24,8 @@ pub enum Code {
     H(u8),
     /// The first line for a role.
     F(u8),
+    /// A question.
+    Q(u8),
 }
 
 /// What a rejection names.
@@ -31,7 +33,7 @@ pub enum Code {
 pub enum Field {
     /// An offset, a count, a limit or a line.
     Number(u64),
-    /// The name of a protocol, a message or a parameter.
+    /// The name of a protocol, a role, a message or a parameter.
     Name(Name),
     /// What is counted against a limit.
     Counted(What),

@@ -42,6 +42,7 @@ fn push_code(alloc: Global, text: &mut Bytes, code: Code) -> Result<(), NoMemory
         Code::S(number) => (b'S', number),
         Code::H(number) => (b'H', number),
         Code::F(number) => (b'F', number),
+        Code::Q(number) => (b'Q', number),
     };
     text.push(letter)?;
     text.append(number.to_string(alloc)?.as_bytes())

@@ -71,10 +71,10 @@ impl<'a, Q: Question<'a>> Program<'a> for Request<'a, Q> {
     }
 
     fn asks_input(&self) -> bool {
-        // law: arguments request one task at most
+        // law: arguments request one task at most, and a refusal at once is written alike
         Q::asks_once();
         match &self.asked {
-            Some(question) => question.reads_input(),
+            Some(question) => question.refused_at_once().is_none() && question.reads_input(),
             None => false,
         }
     }
@@ -119,6 +119,9 @@ impl<'a, Q: Question<'a>> Request<'a, Q> {
         };
         let own = question.own_text(alloc)?;
         let bytes = bytes_of(&own, input);
+        if let Some(rejection) = question.refused_at_once() {
+            return Ok(Q::whole(question.refused(alloc, bytes, &rejection)?));
+        }
         match answer_input(alloc, question, bytes) {
             Ok(answer) => Ok(answer),
             Err(AnswerError::Rejected(rejection)) => {

@@ -4,8 +4,7 @@
 pub(crate) const SAFE: &[u8] =
     b"Nothing is wrong with safety: in one enactment no parameter is produced twice, and \
 roles never know different values of it.\n\
-Whether a rule of your own holds is another question: ask bspl can if two messages \
-can be sent together.\n\
+Whether a rule of your own holds is another question: put it with `bspl ask`.\n\
 Whether each message can be sent at all is another question: ask `bspl dead`.\n";
 
 pub(crate) const LIVE: &[u8] =

@@ -1,23 +1,14 @@
 -- What the arguments request, as the code keeps it.
-use Rattle.std.specs.Prelude.{◌≡◌, ℕ, List, Option, None, Some, map}
-use Rattle.more_commands.specs.declared.can_args.CanArgs.{CanArgs}
+use Rattle.std.specs.Prelude.{◌≡◌, ℕ, List, Option, None, Some}
+use Rattle.ask_commands.specs.AskCommand.{ask_task}
 use Rattle.more_commands.specs.declared.command.MoreCommand.{MoreCommand}
 use Rattle.more_commands.specs.declared.command.MoreCommand.TheVariants as command
 use Rattle.more_commands.specs.declared.formula_arguments.FormulaArgs.{FormulaArgs}
 use Rattle.more_commands.specs.declared.formula_arguments.FormulaArgs.TheVariants as formula
 use Rattle.more_commands.specs.declared.question.MoreQuestion.{MoreQuestion}
 use Rattle.more_commands.specs.declared.word.CommandWord.{CommandWord}
-use Rattle.more_commands.specs.CanArguments.{CanTask}
 use Rattle.more_commands.specs.FormulaArguments.{Dead, FormulaSubject, Whole}
-use Rattle.more_commands.specs.Task.{AsksTask, Can, Explain, Formula, Lrat, MoreTask, Page, task_word}
-
--- what is asked of messages together
-abbrev pub can_task : CanArgs → CanTask
-can_task args = record {
-  messages = map (λ name. name.now) args.messages;
-  brief = args.brief;
-  conflicts = args.conflicts;
-}
+use Rattle.more_commands.specs.Task.{Ask, AsksTask, Explain, Formula, Lrat, MoreTask, Page, task_word}
 
 -- the formula that is asked for
 abbrev pub subject_of : FormulaArgs → FormulaSubject
@@ -26,7 +17,7 @@ subject_of (formula.Message message) = Dead message.now
 
 -- the task of a command
 abbrev pub more_task : MoreCommand → MoreTask
-more_task (command.Can args) = Can (can_task args)
+more_task (command.Ask asked) = Ask (ask_task asked)
 more_task (command.Formula args) = Formula (subject_of args)
 more_task command.Lrat = Lrat
 more_task command.Page = Page

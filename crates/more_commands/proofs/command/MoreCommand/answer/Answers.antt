@@ -1,8 +1,11 @@
 -- The answer is that of the command.
 use Rattle.more_commands.proofs.command.MoreCommand.answer.Goals as goal
 
-pub returns-in-Can-clause-ok : goal.returns-in-Can-clause-ok
-returns-in-Can-clause-ok c = rw c.in-Can.is c.can.ensures.ok
+pub returns-in-Ask-clause-ok : goal.returns-in-Ask-clause-ok
+returns-in-Ask-clause-ok c = rw c.in-Ask.is c.answer.ensures.ok
+
+pub returns-in-Ask-clause-refused : goal.returns-in-Ask-clause-refused
+returns-in-Ask-clause-refused c = rw c.in-Ask.is c.answer.ensures.refused
 
 pub returns-in-Formula-clause-ok : goal.returns-in-Formula-clause-ok
 returns-in-Formula-clause-ok c = rw c.in-Formula.is c.formula.ensures.ok

@@ -1,0 +1,25 @@
+//! The command `ask`: whether a question on one enactment is possible, whether a log refutes its
+//! question, and whether a protocol keeps the rules in its text.
+#![tactic(auto)]
+
+mod answer_text;
+mod arguments;
+mod check_command;
+mod command;
+mod conflicts;
+mod judged;
+mod judgement;
+mod laws;
+mod options;
+mod question_command;
+mod request;
+mod rules_command;
+mod wording;
+
+pub use check_command::check;
+pub use command::{AskCommand, AskRequest};
+pub use laws::{asks_once, possibilities_are_true, rules_are_judged_truly};
+pub use options::AskOptions;
+pub use question_command::ask;
+pub use request::ask_request;
+pub use rules_command::judge;
