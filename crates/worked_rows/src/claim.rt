@@ -1,4 +1,5 @@
 use super::answer::{Answer, LentAnswer, answer_to};
+use super::question_claim::{is_shown, refuted_question};
 use list_base::{Bytes, NoMemory};
 use std::alloc::Global;
 use std::sync::Wait;
@@ -43,27 +44,52 @@ pub(crate) fn log_holds<H: Threads + Wait + Sync>(
     claim: &[u8],
     block: &[u8],
 ) -> Result<bool, NoMemory> {
-    let command = checker_of(claim);
-    let answer = answer_with_part(rt, alloc, command, name, input, b"\n%% log\n", block)?;
-    is_accepted(alloc, claim, &answer)
+    let command = checker_of(alloc, claim, name)?;
+    let part = b"\n%% log\n".as_slice();
+    let answer = answer_with_part(rt, alloc, command.as_slice(), input, part, block)?;
+    if claim.starts_with(b"undecided ") {
+        return Ok(is_full(&answer));
+    }
+    match refuted_question(claim) {
+        Some(question) => names_accepted(alloc, b"accepted impossible ", question, &answer),
+        None => is_accepted(alloc, claim, &answer),
+    }
 }
 
-/// The command that checks the logs for such a claim.
-fn checker_of(claim: &[u8]) -> &'static [u8] {
+/// The call that checks the logs for such a claim on the protocol of that name.
+fn checker_of(alloc: Global, claim: &[u8], name: &[u8]) -> Result<Bytes, NoMemory> {
     if claim.starts_with(b"message ") {
-        b"bspl check-dead "
-    } else {
-        b"bspl check "
+        return joined(alloc, b"bspl check-dead ", name);
     }
+    if claim.starts_with(b"undecided ") || refuted_question(claim).is_some() {
+        let call = joined(alloc, b"bspl_more ask ", name)?;
+        return joined(alloc, call.as_slice(), b" --check");
+    }
+    joined(alloc, b"bspl check ", name)
 }
 
 /// Whether this answer of the checker is the one for the claim.
 fn is_accepted(alloc: Global, claim: &[u8], answer: &Answer) -> Result<bool, NoMemory> {
     let claim = claim_of(alloc, claim)?;
     if claim.verdict.starts_with(b"undecided ") {
-        return Ok(is_answer(answer, b"1", b"rejected not-empty\n"));
+        return Ok(is_full(answer));
     }
-    let mut wanted = joined(alloc, b"accepted ", claim.about.as_slice())?;
+    names_accepted(alloc, b"accepted ", claim.about.as_slice(), answer)
+}
+
+/// Whether the answer of the checker is that each step resolves, and none derives the empty clause.
+fn is_full(answer: &Answer) -> bool {
+    is_answer(answer, b"1", b"rejected not-empty\n")
+}
+
+/// Whether the answer of the checker accepts the log, in these words, for what it is about.
+fn names_accepted(
+    alloc: Global,
+    words: &[u8],
+    about: &[u8],
+    answer: &Answer,
+) -> Result<bool, NoMemory> {
+    let mut wanted = joined(alloc, words, about)?;
     wanted.push(b'\n')?;
     Ok(is_answer(answer, b"0", wanted.as_slice()))
 }
@@ -74,9 +100,8 @@ fn is_answer(answer: &Answer, status: &[u8], output: &[u8]) -> bool {
 }
 
 /// Whether `replay` finds in the run what is claimed: the conflict, at these positions and the
-/// second one last, or the parameter that stays unbound at the key of all ones. A run of messages
-/// together has to be legal, and to send each of them; one of a message that is enacted has to be
-/// legal, and to end with the message.
+/// second one last, or the parameter that stays unbound at the key of all ones. A run that answers a
+/// question has to be legal; one of a message that is enacted also to end with the message.
 pub(crate) fn run_holds<H: Threads + Wait + Sync>(
     rt: &H,
     alloc: Global,
@@ -85,13 +110,14 @@ pub(crate) fn run_holds<H: Threads + Wait + Sync>(
     claim: &[u8],
     block: &[u8],
 ) -> Result<bool, NoMemory> {
-    let answer = answer_with_part(rt, alloc, b"bspl replay ", name, input, RUN_PART, block)?;
+    let command = joined(alloc, b"bspl replay ", name)?;
+    let answer = answer_with_part(rt, alloc, command.as_slice(), input, RUN_PART, block)?;
     if answer.status.as_slice() != b"0".as_slice() {
         return Ok(false);
     }
     let report = answer.output.as_slice();
-    if let Some(names) = claim.strip_prefix(b"together ") {
-        return Ok(sends_all(block, names));
+    if is_shown(claim) {
+        return Ok(report.starts_with(b"legal "));
     }
     if let Some(message) = claim.strip_prefix(b"message ") {
         return Ok(report.starts_with(b"legal ") && ends_with(block, message));
@@ -104,13 +130,6 @@ fn ends_with(block: &[u8], claim: &[u8]) -> bool {
     let events = block.strip_suffix(b"\nend\n").unwrap_or(block);
     let last = events.split(|b| *b == b'\n').last().unwrap_or(events);
     is_sent(last, split_once(claim, b' ').0)
-}
-
-/// Whether the run sends each of the messages.
-fn sends_all(block: &[u8], names: &[u8]) -> bool {
-    names.split(|b| *b == b' ').all(|name| block
-        .split(|b| *b == b'\n')
-        .any(|line| is_sent(line, name)))
 }
 
 /// Whether the line is that of an emission of the message.
@@ -159,20 +178,18 @@ fn is_unbound(line: &[u8], param: &[u8]) -> bool {
         .is_some_and(|front| front.ends_with(b" quiet unbound "))
 }
 
-/// The answer to a command on the protocol of that name, over the input with a part after it.
+/// The answer to a call over the input with a part after it.
 fn answer_with_part<H: Threads + Wait + Sync>(
     rt: &H,
     alloc: Global,
-    command: &[u8],
-    name: &[u8],
+    call: &[u8],
     input: &[u8],
     part_line: &[u8],
     part: &[u8],
 ) -> Result<Answer, NoMemory> {
-    let whole = joined(alloc, command, name)?;
     let mut text = joined(alloc, input, part_line)?;
     text.append(part)?;
-    answer_to(rt, alloc, whole.as_slice(), text.as_slice())
+    answer_to(rt, alloc, call, text.as_slice())
 }
 
 /// Both texts, one after the other.

@@ -4,6 +4,7 @@
 mod answer;
 mod claim;
 mod evidence;
+mod question_claim;
 mod row;
 mod spelling;
 mod streams;
