@@ -25,6 +25,8 @@ from rows import rows
 WORDS = {word: "declaration" for word in ("roles", "role", "parameters", "parameter", "private")}
 WORDS |= {word: "adornment" for word in ("in", "out", "nil", "any", "opt")}
 WORDS |= {"key": "key"}
+QUESTION_WORDS = dict.fromkeys(("rest", "not", "and", "or", "before", "after"), 0)  # and how many names come after
+QUESTION_WORDS |= dict.fromkeys(("sent", "received", "bound", "can", "but"), 1) | {"knows": 2}
 LETTERS = set("ABCDEFGHIJKLMNOPQRSTUVWXYZabcdefghijklmnopqrstuvwxyz")
 DIGITS = set("0123456789")
 EDGES = [
@@ -35,6 +37,9 @@ EDGES = [
     "P { }\n%% histories\nhistories 1\nrole role\nsend send role=1 in#1.key=\"a=b\"\nrole A-1\nreceive m x=0\nend",
     "P { }\n%% wire\nrole role\n{\"emit\":{\"key\":[\"1\"],\"message\":\"role\",\"outs\":[]}}\n", "P { }\n%% wire\nrole A-1",
     "P { }\n%% log\nlog 2 dead dead\nstep 12 -3 4 5 1\ndrop 1 2\nend", "P { }\n%% log\nlog 1 safety\nend\n",
+    "P {\n  //? never sent can before knows not before and not (rest but or but and)\n//?some can P#1.m // in\n //? sent\n}",
+    "P { }\n%% log\nlog 1 ask ( sent ask ) and not knows in 12\nstep 1 2 3\nend\n",
+    "//? never\nP { x //? never sent a\n\t//?never-a sent-b knows A->B bound in sent;\n// ? some\n //?never rest//rest\n}",
 ]
 CLASSES = [  # the class of a scope of the grammar, by its beginning
     ("comment", "comment"), ("keyword.operator.arrow", "arrow"), ("keyword.operator.assignment", "equals"),
@@ -48,7 +53,9 @@ EVENT_PARTS = ("run", "histories")
 GROUPS = {  # the class of a group of the Vim file, without `bspl`
     "Protocol": "name", "Message": "name", "Name": "name", "PartName": "name", "PartError": "error",
     "AgentsComment": "comment", "AgentsWord": "statement", "RunWord": "statement", "LogWord": "statement",
-    "HistoriesWord": "statement", "WireWord": "statement", "WireName": "name", "Wire": None,
+    "RuleWord": "statement", "RuleName": "name", "RuleFirst": "name", "RuleLast": "name", "RuleError": "error",
+    "RuleComment": "comment", "RulePunctuation": "punctuation", "RuleArrow": "arrow", "Rule": None,
+    "HistoriesWord": "statement", "WireWord": "statement", "WireName": "name", "Wire": None, "LogQuestion": "name",
 }
 
 
@@ -63,6 +70,28 @@ def plain_end(text, at):
             break
         at += 1
     return at
+
+
+def rule_kinds(words):
+    """What the tokens after `//?` are: `never` or `some` and words of the question, or names, by the token before."""
+    wanted = 0
+    for i, (at, end, kind, word) in enumerate(words):
+        if kind == "name" and wanted:
+            wanted -= 1
+        elif kind == "name" and (word in QUESTION_WORDS or i == 0 and word in ("never", "some")):
+            kind, wanted = "statement", QUESTION_WORDS.get(word, 0)
+        else:
+            wanted = 0
+        yield at, end, kind
+
+
+def rule_tokens(text, at):
+    """The tokens of the line whose rule begins here."""
+    end = (text + "\n").index("\n", at)
+    words = []
+    for first, last, kind in tokens(" " * (at + 3) + text[at + 3 : end]):
+        words.append((first, last, "name" if kind in ("declaration", "adornment", "key") else kind, text[first:last]))
+    return [(at, at + 3, "statement"), *rule_kinds(words)]
 
 
 def name_end(text, at):
@@ -85,6 +114,9 @@ def tokens(text):
         end, kind = at + 1, "error"
         if text[at] in " \t\r\n":
             kind = None
+        elif text.startswith("//?", at) and not text[text.rfind("\n", 0, at) + 1 : at].strip(" \t"):
+            yield from rule_tokens(text, at)
+            end, kind = (text + "\n").index("\n", at), None
         elif text.startswith("//", at):
             end, kind = (text + "\n").index("\n", at), "comment"
         elif text[at] in LETTERS | {"_"}:
@@ -114,6 +146,11 @@ def fields(line, start, part):
         yield places[0][0], start + len(line), "comment"
         return
     if part == "wire" and words[:1] != ["role"]:
+        return
+    if part == "log" and words[:1] == ["log"] and words[2:3] == ["ask"] and len(words) > 3:
+        kinds = ["statement", "number", "statement"]
+        yield from ((at, end, kind) for (at, end, _), kind in zip(places, kinds))
+        yield places[3][0], start + len(line), "name"
         return
     for i, (at, end, word) in enumerate(places):
         name, equals, value = word.partition("=") if part in EVENT_PARTS and i > 1 else (word, "", "")
@@ -148,7 +185,8 @@ def scanned(text):
 
 class Grammar:
     """The grammar's rules, applied line by line: after each place the leftmost match counts, and of several there that
-    of the first rule. A rule with a beginning has no end, and its own rules hold after it."""
+    of the first rule. The own rules of one with a beginning hold after it: to the line's end if that is its end, else
+    for good."""
 
     def __init__(self, path):
         self.whole = json.loads(path.read_text())
@@ -176,8 +214,9 @@ class Grammar:
     def coloured(self, text):
         """The class of each character by the grammar."""
         classes, start, inside = [None] * len(text), 0, list(self.rules(self.whole["patterns"]))
+        outside = None
         for line in text.split("\n"):
-            at = 0
+            at, inside, outside = 0, outside or inside, None
             while best := self.first(inside, line, at):
                 rule, found = best
                 marks = rule.get("captures") or rule.get("beginCaptures") or {"0": rule}
@@ -186,6 +225,7 @@ class Grammar:
                     first, end = found.span(int(group))
                     classes[start + first : start + end] = [kind] * (end - first)
                 if "begin" in rule:
+                    outside = inside if rule["end"] == "$" else None
                     inside = list(self.rules(rule["patterns"]))
                 at = found.end()
             start += len(line) + 1

@@ -9,7 +9,7 @@ for each message M, are compared, clause by clause, with those that are made her
 docs/FORMATS.md; `minisat`, if it is installed, decides them; and the runs are searched here, without any formula. A
 protocol is unsafe exactly if its safety formula has a solution, not live exactly if its liveness formula has one, and
 a message can be sent exactly if its formula has one. The verdicts of `bspl verify` are compared too, and the answers
-of `bspl_more can` on each message and on each two, if they are built. BSPL and BSPL_MORE name the programs
+of `bspl_more ask` on each message and on each two, if they are built. BSPL and BSPL_MORE name the programs
 (crates/bspl/out/bspl and so on). The status is 1 if anything differs.
 """
 import itertools
@@ -182,8 +182,9 @@ def verdicts(name, text):
 
 
 def can_send(name, messages, text):
-    """Whether `bspl_can` prints a run in which these messages are sent."""
-    run = subprocess.run([MORE, "can", name, *messages, "--brief"], input=text.encode(), capture_output=True)
+    """Whether `bspl_more ask` prints a run in which these messages are sent."""
+    question = " and ".join(f"sent {message}" for message in messages)
+    run = subprocess.run([MORE, "ask", name, question, "--brief"], input=text.encode(), capture_output=True)
     return {0: True, 1: False}.get(run.returncode)
 
 
