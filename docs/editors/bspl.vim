@@ -19,6 +19,21 @@ syn match bsplPunctuation /[][{}(),:]/
 syn match bsplArrow /->\|↦/
 syn match bsplComment "//.*$"
 
+" A rule: its words, and the names that come after some of them.
+syn match bsplRuleError /\S/ contained
+syn match bsplRulePunctuation /[][{}(),:]/ contained
+syn match bsplRuleArrow /->\|↦/ contained
+syn match bsplRuleName /\v\h%(\w|-[[:alnum:]]@=|#[1-9]\d*\.\h@=)*/ contained
+syn match bsplRuleFirst /\v\h%(\w|-[[:alnum:]]@=|#[1-9]\d*\.\h@=)*/ contained nextgroup=bsplRuleLast skipwhite
+syn match bsplRuleLast /\v\h%(\w|-[[:alnum:]]@=|#[1-9]\d*\.\h@=)*/ contained
+syn match bsplRuleWord /\v%(rest|not|and|or|before|after)%(\w|-[[:alnum:]]|#[1-9]\d*\.\h)@!/ contained
+syn match bsplRuleWord /\v%(sent|received|bound|can|but)%(\w|-[[:alnum:]]|#[1-9]\d*\.\h)@!/ contained nextgroup=bsplRuleLast skipwhite
+syn match bsplRuleWord /\vknows%(\w|-[[:alnum:]]|#[1-9]\d*\.\h)@!/ contained nextgroup=bsplRuleFirst skipwhite
+syn match bsplRuleComment "//.*$" contained
+syn match bsplRuleWord /\v%(^[ \t]*)@<=\/\/\?%([ \t]*%(never|some)%(\w|-[[:alnum:]]|#[1-9]\d*\.\h)@!)=/ contained
+syn region bsplRule start=/\v^[ \t]*%(\/\/\?)@=/ end=/$/ oneline
+      \ contains=bsplRuleError,bsplRulePunctuation,bsplRuleArrow,bsplRuleName,bsplRuleWord,bsplRuleComment
+
 " The parts: each goes on to the end of the text.
 syn match bsplPartError /\S/ contained
 syn match bsplPartName /\v\h%(\w|-[[:alnum:]]@=|#[1-9]\d*\.\h@=)*/ contained
@@ -47,9 +62,10 @@ syn region bsplWire matchgroup=bsplPart start=/^%% wire\r\=$/ end=/\%$/ contains
 
 syn match bsplNumber /-[1-9]\@=/ contained
 syn match bsplLogWord /\v^%(log|step|drop|end)%(\s|$)@=/ contained
-syn match bsplLogWord /\v%(^log \d+ )@<=%(safety|liveness|dead)%(\s|$)@=/ contained
+syn match bsplLogWord /\v%(^log \d+ )@<=%(safety|liveness|dead|ask)%(\s|$)@=/ contained
+syn match bsplLogQuestion /\v%(^log \d+ ask )@<=.*$/ contained
 syn region bsplLog matchgroup=bsplPart start=/^%% log\r\=$/ end=/\%$/
-      \ contains=@bsplFields,bsplLogWord
+      \ contains=@bsplFields,bsplLogWord,bsplLogQuestion
 
 hi def link bsplError Error
 hi def link bsplPartError Error
@@ -65,6 +81,14 @@ hi def link bsplArrow Operator
 hi def link bsplEquals Operator
 hi def link bsplComment Comment
 hi def link bsplAgentsComment Comment
+hi def link bsplRuleComment Comment
+hi def link bsplRuleError Error
+hi def link bsplRulePunctuation Delimiter
+hi def link bsplRuleArrow Operator
+hi def link bsplRuleName Identifier
+hi def link bsplRuleFirst Identifier
+hi def link bsplRuleLast Identifier
+hi def link bsplRuleWord Statement
 hi def link bsplPart PreProc
 hi def link bsplAgentsWord Statement
 hi def link bsplRunWord Statement
@@ -72,6 +96,7 @@ hi def link bsplHistoriesWord Statement
 hi def link bsplWireWord Statement
 hi def link bsplWireName Identifier
 hi def link bsplLogWord Statement
+hi def link bsplLogQuestion Identifier
 hi def link bsplNumber Number
 hi def link bsplText String
 
