@@ -1,11 +1,10 @@
 -- The laws of `check-dead`.
-use Rattle.std.proofs.Common.{◌≡◌, ◌⊎◌, ℕ, List, [], ◌∷◌, codes, Some, inl, inr, refl, sym, ◌∙◌, ap, subst}
+use Rattle.std.proofs.Common.{◌≡◌, ◌⊎◌, ℕ, List, codes, Some, inl, inr, refl, sym, ◌∙◌, ap, subst}
 use Rattle.std.specs.Prelude.{IfSome}
 use Rattle.bspl_types.specs.declared.expanded.Expanded.{Expanded}
 use Rattle.bspl_types.specs.Expansion.{message_name}
 use Rattle.enactability.specs.DeadText.{IsDeadText}
 use Rattle.enactability.specs.Laws.{AcceptedDeadDoesNotFail, DeadLogFailsOnce, DeadLogIsNotRefused, TextHasOneDeadLog, TextHasOneDeadRefusal}
-use Rattle.enactability.specs.Refusal.{IsOneMessage}
 use Rattle.rejections.specs.PartRejection.{log_rejection}
 use Rattle.rejections.specs.FailureLine.{reject_line}
 use Rattle.refutation_log.specs.declared.refutation.Log.{Log}
@@ -25,15 +24,15 @@ use Rattle.bspl_tool.proofs.Unbroken.{joined_has_none}
 -- a text is read once, and a log is accepted or fails once
 pub record OneCheckDead : Type 0 where
   pub logs : TextHasOneDeadLog
-  pub refusals : TextHasOneDeadRefusal IsOneMessage
-  pub exclusive : DeadLogIsNotRefused IsOneMessage
+  pub refusals : TextHasOneDeadRefusal
+  pub exclusive : DeadLogIsNotRefused
   pub failure : DeadLogFailsOnce
   pub accepted : AcceptedDeadDoesNotFail
 
 -- the text of a log on a message is not refused
-read_or_refused : OneCheckDead → (x : Expanded) (part : List ℕ) (m : ℕ) (log : Log) (r : Rejection) → IsCheckDeadRefused x part r → IsDeadText x part (m ∷ []) log → ⊥
+read_or_refused : OneCheckDead → (x : Expanded) (part : List ℕ) (m : ℕ) (log : Log) (r : Rejection) → IsCheckDeadRefused x part r → IsDeadText x part m log → ⊥
 read_or_refused once x part m log r refused read =
-    once.exclusive x part (m ∷ []) log refused.refusal (not_memory refused.refusal r refused.rejection_is) (record { message = m; alone = refl; known = read.known }) read refused.refused
+    once.exclusive x part m log refused.refusal (not_memory refused.refusal r refused.rejection_is) read refused.refused
 
 -- the part is refused for one line
 refused_once : OneCheckDead → (x : Expanded) (part : List ℕ) (r s : Rejection) → IsCheckDeadRefused x part r → IsCheckDeadRefused x part s → r ≡ s
@@ -54,17 +53,16 @@ answer_claims_nothing x m log out status (inr rejected) = subst ClaimsNothing (s
 -- two answers on one log are one
 same_answer : OneCheckDead → (x : Expanded) (m : ℕ) (log : Log) (out out' : List ℕ) (status status' : Status) → SaysAcceptedDead x m log out status ⊎ SaysRejectedDead x m log out status → SaysAcceptedDead x m log out' status' ⊎ SaysRejectedDead x m log out' status' → IsOutput out status out' status'
 same_answer once x m log out out' status status' (inl one) (inl other) = (one.text ∙ sym other.text, one.done ∙ sym other.done)
-same_answer once x m log out out' status status' (inl one) (inr other) = absurd (once.accepted x (m ∷ []) log other.reject one.accepts other.fails)
-same_answer once x m log out out' status status' (inr one) (inl other) = absurd (once.accepted x (m ∷ []) log one.reject other.accepts one.fails)
+same_answer once x m log out out' status status' (inl one) (inr other) = absurd (once.accepted x m log other.reject one.accepts other.fails)
+same_answer once x m log out out' status status' (inr one) (inl other) = absurd (once.accepted x m log one.reject other.accepts one.fails)
 same_answer once x m log out out' status status' (inr one) (inr other) =
-    (one.text ∙ ap (λ reject. reject_line reject) (once.failure x (m ∷ []) log one.reject other.reject one.fails other.fails) ∙ sym other.text, one.refuted ∙ sym other.refuted)
+    (one.text ∙ ap (λ reject. reject_line reject) (once.failure x m log one.reject other.reject one.fails other.fails) ∙ sym other.text, one.refuted ∙ sym other.refuted)
 
 -- and so on one part
 checked_once : OneCheckDead → (x : Expanded) (part out out' : List ℕ) (status status' : Status) → IsCheckDeadAnswer x part out status → IsCheckDeadAnswer x part out' status' → IsOutput out status out' status'
 checked_once once x part out out' status status' one other =
-    let same = once.logs x part (other.message ∷ []) (one.message ∷ []) other.log one.log other.read one.read in
-    let message : other.message ≡ one.message = (let lists = same.0 in cc) in
-    let as_one = subst (λ m. SaysAcceptedDead x m other.log out' status' ⊎ SaysRejectedDead x m other.log out' status') message other.answer in
+    let same = once.logs x part other.message one.message other.log one.log other.read one.read in
+    let as_one = subst (λ m. SaysAcceptedDead x m other.log out' status' ⊎ SaysRejectedDead x m other.log out' status') same.0 other.answer in
     same_answer once x one.message one.log out out' status status' one.answer (subst (λ log. SaysAcceptedDead x one.message log out' status' ⊎ SaysRejectedDead x one.message log out' status') same.1 as_one)
 
 -- the laws of the command

@@ -89,12 +89,12 @@ line_is_true SaysEnacted x name field m budget known (Undecided log) right =
     inr (is_other SaysEnacted name x m (Undecided log) (ap (starts (enacted_line name)) whole ∙ has_other_word x m name field 117 101 (codes "ndecided ") (steps ++ codes "\n") (codes "nacted") refl))
 
 -- the first line of a log on a message
-title_is_block : (x : Expanded) (version : Version) (m : ℕ) → IsBlock (dead_title x version (m ∷ []))
+title_is_block : (x : Expanded) (version : Version) (m : ℕ) → IsBlock (dead_title x version m)
 title_is_block x One m = fields_are_block (codes "log" ∷ codes "1" ∷ codes "dead" ∷ message_name x m ∷ []) (or_from (has_lf (message_name x m)) false (message_has_no_lf x m) refl) refl
 title_is_block x Two m = fields_are_block (codes "log" ∷ codes "2" ∷ codes "dead" ∷ message_name x m ∷ []) (or_from (has_lf (message_name x m)) false (message_has_no_lf x m) refl) refl
 
 -- its text
-dead_text_is_block : (x : Expanded) (m : ℕ) (log : Log) → IsBlock (dead_text x (m ∷ []) log)
+dead_text_is_block : (x : Expanded) (m : ℕ) (log : Log) → IsBlock (dead_text x m log)
 dead_text_is_block x m log =
     block_joined (block_joined (title_is_block x (least_version log.removals) m) (blocks_joined entry_line entry_is_block (entries log))) (fields_are_block (codes "end" ∷ []) refl refl)
 

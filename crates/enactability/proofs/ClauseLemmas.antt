@@ -1,26 +1,23 @@
--- The formula of messages: the first clauses of the safety formula, and those that they are sent.
-use Rattle.std.proofs.Common.{◌≡◌, ℕ, Option, None, Some, IfSome, OnOk, OnErr, Result, Ok, Err, ◌+◌, ◌*◌, ◌<◌, ◌≤◌, List, [], ◌∷◌, ◌++◌, length, map, take, refl, sym, ap, ◌∙◌, subst, arith, append-nil, append_assoc, get_or, length-append, All, Contains}
-use Rattle.std.specs.Prelude.{IsNone}
-use Rattle.std.specs.List.{flat_map}
-use Rattle.std.proofs.lemmas.List.{length-map, length_push, map-append, take_all, take-append-le, take_more, take-take}
+-- The formula of a message: the shared clauses, and that it is sent.
+use Rattle.std.proofs.Common.{◌≡◌, ℕ, ◌<◌, ◌≤◌, List, [], ◌∷◌, ◌++◌, length, sym, ap, ◌∙◌, subst, arith, append_assoc, length-append, All, Contains}
 use Rattle.std.proofs.lemmas.List.Elements.{All-contains_itself, All-push, All-weaker}
-use Rattle.std.proofs.lemmas.List.FromFn.{length-enumerate_from}
 use Rattle.list_base.proofs.Members.{only}
 use Rattle.bspl_types.specs.declared.expanded.Expanded.{Expanded}
 use Rattle.clause_core.specs.declared.formula.Formula.{Formula}
 use Rattle.clause_core.specs.declared.literal.Lit.{Lit}
-use Rattle.clause_core.specs.Clause.{HasExactly, VariablesExist}
-use Rattle.clause_core.specs.Written.{Written, AreClausesOf}
-use Rattle.clause_core.specs.Literal.{positive}
-use Rattle.clause_encoding.specs.declared.rivals.Rivals.{Rivals}
+use Rattle.clause_core.specs.Clause.{IsClauseOf, VariablesExist}
+use Rattle.clause_core.specs.Written.{AppendsClauses, Written, AreClausesOf}
 use Rattle.clause_encoding.specs.Families.{shared_clauses}
-use Rattle.clause_encoding.specs.Formula.{IsSafetyFormula, safety_clauses, safety_variables}
+use Rattle.clause_encoding.specs.Formula.{safety_variables}
 use Rattle.clause_encoding.specs.Laws.{ClausesAreAsMany, SafetyClausesAreFew}
-use Rattle.clause_encoding.specs.Rivals.{rival_clauses, rivals_of, selected_is_sent, selectors}
-use Rattle.clause_encoding.specs.Variables.{kind_count, sent}
-use Rattle.enactability.specs.EnactFormula.{IsEnactFormula, enact_clauses, sent_clauses}
+use Rattle.clause_encoding.specs.Ordered.{IsSharedFormula}
+use Rattle.clause_encoding.specs.Rivals.{rival_clauses}
+use Rattle.clause_encoding.specs.Variables.{occurs, sent}
+use Rattle.order_axioms.specs.declared.ordered_formula.OrderedFormula.{OrderedFormula}
+use Rattle.order_axioms.specs.Order.{order_list}
+use Rattle.enactability.specs.EnactFormula.{IsEnactFormula, enact_clauses, sent_clause}
 use Rattle.enactability.specs.Laws.{EnactClausesAreFew}
-use Rattle.enactability.specs.inner.Sent.{HasSentAdded}
+use Rattle.enactability.specs.inner.Sent.{AlsoSends}
 
 -- clauses of one list and then of another
 joined : (written others : List Written) (clauses more : List (List Lit)) → AreClausesOf written clauses → AreClausesOf others more → AreClausesOf (written ++ others) (clauses ++ more)
@@ -29,108 +26,57 @@ joined [] others (clause ∷ clauses) more are also = absurd are
 joined (lits ∷ written) others [] more are also = absurd are
 joined (lits ∷ written) others (clause ∷ clauses) more are also = (are.0, joined written others clauses more are.1 also)
 
--- the first of two lists has the first clauses
-first_part : (written others : List Written) (clauses : List (List Lit)) → AreClausesOf (written ++ others) clauses → AreClausesOf written (take (length written) clauses)
-first_part [] others clauses are = tt
-first_part (lits ∷ written) others [] are = absurd are
-first_part (lits ∷ written) others (clause ∷ clauses) are = (are.0, first_part written others clauses are.1)
+-- the clause that the message is sent makes the shared formula that of the message
+pub sent_too : (x : Expanded) (m : ℕ) (f g : Formula) → IsSharedFormula x (safety_variables x) f → AlsoSends m f g → IsEnactFormula x m g
+sent_too x m f g is also = record {
+  vars = also.vars ∙ is.vars;
+  clauses = subst (AreClausesOf (enact_clauses x m)) (sym also.clauses.follows) (joined (shared_clauses x (safety_variables x)) (sent_clause m) f.clauses also.clauses.added is.clauses also.clauses.are);
+}
 
--- two clauses for each two rivals
-two_each : (pairs : List (ℕ × Rivals)) → length (flat_map selected_is_sent pairs) ≡ 2 * length pairs
-two_each [] = refl
-two_each (pair ∷ pairs) = let rest = two_each pairs in omega (arith, rest)
+-- what is appended is appended also after other clauses
+pub appended_after : (first old new : List (List Lit)) (written : List Written) → AppendsClauses old new written → AppendsClauses (first ++ old) (first ++ new) written
+appended_after first old new written appends = record {
+  added = appends.added;
+  follows = ap (λ (clauses : List (List Lit)). first ++ clauses) appends.follows ∙ sym (append_assoc first old appends.added);
+  are = appends.are;
+}
 
--- and one more
-rival_count : (x : Expanded) → length (rival_clauses x) ≡ 2 * length (rivals_of x) + 1
-rival_count x =
-    omega (arith, two_each (selectors x), length-enumerate_from (kind_count x + 1) (rivals_of x), length-append (flat_map selected_is_sent (selectors x)) (map (λ (s : ℕ × Rivals). positive s.0) (selectors x) ∷ []))
+-- the clause of one literal has its variable
+one_exists : (vars : ℕ) (l : Lit) (clause : List Lit) → IsClauseOf (l ∷ []) clause → 0 < l.var → l.var ≤ vars → VariablesExist vars clause
+one_exists vars l clause is from_one up_to =
+    All-weaker (Contains clause) (λ (k : Lit). (0 < k.var) × (k.var ≤ vars))
+    (λ k among. subst (λ (other : Lit). (0 < other.var) × (other.var ≤ vars)) (only l k ((is.exactly k).0 among)) (from_one, up_to))
+    clause (All-contains_itself clause)
 
--- the clauses before those on rivals
-pub shared_count : ClausesAreAsMany → (x : Expanded) (f : Formula) → IsSafetyFormula x f → length f.clauses ≡ length (shared_clauses x (safety_variables x)) + (2 * length (rivals_of x) + 1)
-shared_count as_many x f is =
-    omega (arith, as_many (safety_clauses x) f.clauses is.clauses, rival_count x, length-append (shared_clauses x (safety_variables x)) (rival_clauses x))
+-- so the variables of all clauses exist
+pub still_exist : (vars m : ℕ) (old new : List (List Lit)) → All (VariablesExist vars) old → sent m ≤ vars → AppendsClauses old new (sent_clause m) → All (VariablesExist vars) new
+still_exist vars m old new all exists appends = by_added appends.added appends.follows appends.are
+  where
+    by_added : (added : List (List Lit)) → new ≡ old ++ added → AreClausesOf (sent_clause m) added → All (VariablesExist vars) new
+    by_added [] follows are = absurd are
+    by_added (clause ∷ []) follows are =
+        subst (λ (clauses : List (List Lit)). All (VariablesExist vars) clauses) (sym follows)
+        (All-push (VariablesExist vars) old clause all (one_exists vars (occurs (sent m)) clause are.0 (omega arith) exists))
+    by_added (clause ∷ next ∷ added) follows are = absurd are.1
 
--- what comes before those on rivals asks for no message
-pub shared_part : (x : Expanded) (f g : Formula) (count : ℕ) → IsSafetyFormula x f → count ≡ length (shared_clauses x (safety_variables x)) → g.vars ≡ f.vars → g.clauses ≡ take count f.clauses → IsEnactFormula x [] g
-shared_part x f g count is counted same_vars same =
-    let shared = shared_clauses x (safety_variables x) in
-    let first : AreClausesOf shared g.clauses = subst (AreClausesOf shared) (ap (λ n. take n f.clauses) (sym counted) ∙ sym same) (first_part shared (rival_clauses x) f.clauses is.clauses) in
-    record { vars = same_vars ∙ is.vars; clauses = subst (λ (written : List Written). AreClausesOf written g.clauses) (sym (append-nil shared)) first }
-
--- the clauses that the messages are sent make it their formula
-pub sent_too : (x : Expanded) (messages : List ℕ) (f g : Formula) → IsEnactFormula x [] f → HasSentAdded messages f g → IsEnactFormula x messages g
-sent_too x messages f g is added =
-    let shared = shared_clauses x (safety_variables x) in
-    let first : AreClausesOf shared f.clauses = subst (λ (written : List Written). AreClausesOf written f.clauses) (append-nil shared) is.clauses in
-    record {
-      vars = added.longer.vars ∙ is.vars;
-      clauses = subst (AreClausesOf (enact_clauses x messages)) (sym added.longer.follows) (joined shared (sent_clauses messages) f.clauses added.added first added.are);
-    }
+pub whole_exist : (old : OrderedFormula) (m : ℕ) (new : List (List Lit)) → sent m ≤ old.stored.vars → AppendsClauses old.stored.clauses new (sent_clause m) → All (VariablesExist old.stored.vars) (order_list old.order ++ new)
+whole_exist old m new exists appends =
+    let order = order_list old.order in
+    still_exist old.stored.vars m (order ++ old.stored.clauses) (order ++ new) old.variables_exist exists (appended_after order old.stored.clauses new (sent_clause m) appends)
 
 -- the clauses are few
 pub enact_few : SafetyClausesAreFew → EnactClausesAreFew
-enact_few few x messages =
+enact_few few x m =
     let shared = shared_clauses x (safety_variables x) in
-    omega (arith, few x, length-append shared (rival_clauses x), length-append shared (sent_clauses messages), length-map messages (λ (m : ℕ). let written : Written = positive (sent m) ∷ [] in written))
+    omega (arith, few x, length-append shared (rival_clauses x), length-append shared (sent_clause m))
 
 -- so are those of the formula
-pub formula_few : ClausesAreAsMany → EnactClausesAreFew → (x : Expanded) (messages : List ℕ) (f : Formula) → IsEnactFormula x messages f → length f.clauses ≤ 8000000 + length messages
-formula_few as_many few x messages f is = omega (arith, as_many (enact_clauses x messages) f.clauses is.clauses, few x messages)
+pub formula_few : ClausesAreAsMany → EnactClausesAreFew → (x : Expanded) (m : ℕ) (f : Formula) → IsEnactFormula x m f → length f.clauses ≤ 8000001
+formula_few as_many few x m f is = omega (arith, as_many (enact_clauses x m) f.clauses is.clauses, few x m)
 
--- the formula keeps first clauses, as many as are wanted or more
-pub record KeepsFirst (count : ℕ) (old new : Formula) : Type 0 where
-  pub vars : new.vars ≡ old.vars
-  pub first : new.clauses ≡ take (length new.clauses) old.clauses
-  pub enough : count ≤ length new.clauses
+-- the message has its variable, whose number is small
+pub message_few : (x : Expanded) (m : ℕ) → m < length x.messages → m < 64
+message_few x m known = let few = x.shape.counts.few_messages in omega (arith, known, few)
 
--- one clause less
-one_less : (count : ℕ) (old new less : Formula) (clause : List Lit) → KeepsFirst count old new → count < length new.clauses → less.vars ≡ new.vars → new.clauses ≡ less.clauses ++ clause ∷ [] → KeepsFirst count old less
-one_less count old new less clause keeps more same_vars popped =
-    let n = length less.clauses in
-    let longer : length new.clauses ≡ n + 1 = ap length popped ∙ length_push less.clauses clause in
-    let first : less.clauses ≡ take n new.clauses = sym (take_all n less.clauses (omega arith)) ∙ sym (take-append-le n less.clauses (clause ∷ []) (omega arith)) ∙ ap (take n) (sym popped) in
-    record {
-      vars = same_vars ∙ keeps.vars;
-      first = first ∙ ap (take n) keeps.first ∙ take-take n (length new.clauses) old.clauses (omega (arith, longer));
-      enough = omega (arith, more, longer);
-    }
-
--- so it is with what was taken out, if anything was
-pub one_popped : (count : ℕ) (old new less : Formula) (popped : Option (List Lit)) → KeepsFirst count old new → count < length new.clauses → less.vars ≡ new.vars → IfSome popped (λ clause. new.clauses ≡ less.clauses ++ clause ∷ []) → (IsNone popped → new.clauses ≡ []) → KeepsFirst count old less
-one_popped count old new less None keeps more same_vars last empty = absurd (omega (arith, more, ap length (empty refl)))
-one_popped count old new less (Some clause) keeps more same_vars last empty = one_less count old new less clause keeps more same_vars last
-
--- the clause of one literal has its variable
-pub one_exists : (vars : ℕ) (l : Lit) (clause : List Lit) → HasExactly clause (l ∷ []) → 0 < l.var → l.var ≤ vars → VariablesExist vars clause
-one_exists vars l clause exactly from_one up_to =
-    All-weaker (Contains clause) (λ (k : Lit). (0 < k.var) × (k.var ≤ vars))
-    (λ k among. subst (λ (other : Lit). (0 < other.var) × (other.var ≤ vars)) (only l k ((exactly k).0 among)) (from_one, up_to))
-    clause (All-contains_itself clause)
-
--- so have all clauses after a push
-pub pushed_exist : {E : Type 0} (vars : ℕ) (old new : List (List Lit)) (clause : List Lit) (r : Result (Unit {0}) E) → All (VariablesExist vars) old → VariablesExist vars clause → OnOk r (new ≡ old ++ clause ∷ []) → OnErr r (new ≡ old) → All (VariablesExist vars) new
-pushed_exist vars old new clause (Ok done) all exists pushed kept = subst (λ (clauses : List (List Lit)). All (VariablesExist vars) clauses) (sym pushed) (All-push (VariablesExist vars) old clause all exists)
-pushed_exist vars old new clause (Err error) all exists pushed kept = subst (λ (clauses : List (List Lit)). All (VariablesExist vars) clauses) (sym kept) all
-
--- the clauses of some messages and then of others
-sent_both : (messages others : List ℕ) (old mid new : Formula) → HasSentAdded messages old mid → HasSentAdded others mid new → HasSentAdded (messages ++ others) old new
-sent_both messages others old mid new first second =
-    let written = joined (sent_clauses messages) (sent_clauses others) first.added second.added first.are second.are in
-    record {
-      added = first.added ++ second.added;
-      longer = record {
-        vars = second.longer.vars ∙ first.longer.vars;
-        follows = second.longer.follows ∙ ap (λ clauses. clauses ++ second.added) first.longer.follows ∙ append_assoc old.clauses first.added second.added;
-      };
-      are = subst (λ (w : List Written). AreClausesOf w (first.added ++ second.added)) (sym (map-append (λ m. positive (sent m) ∷ []) messages others)) written;
-    }
-
--- one message more
-pub one_more : (messages : List ℕ) (i d : ℕ) (old mid new : Formula) → i < length messages → HasSentAdded (take i messages) old mid → HasSentAdded (get_or messages i d ∷ []) mid new → HasSentAdded (take (i + 1) messages) old new
-one_more messages i d old mid new within first second =
-    subst (λ (ms : List ℕ). HasSentAdded ms old new) (sym (take_more messages i d within)) (sent_both (take i messages) (get_or messages i d ∷ []) old mid new first second)
-
--- as many clauses more as messages
-pub added_count : ClausesAreAsMany → (messages : List ℕ) (f g : Formula) → HasSentAdded messages f g → length g.clauses ≡ length f.clauses + length messages
-added_count as_many messages f g added =
-    omega (arith, ap length added.longer.follows, length-append f.clauses added.added, as_many (sent_clauses messages) added.added added.are, length-map messages (λ (m : ℕ). let written : Written = positive (sent m) ∷ [] in written))
+pub variable_exists : (x : Expanded) (m : ℕ) (f : Formula) → IsSharedFormula x (safety_variables x) f → m < length x.messages → sent m ≤ f.vars
+variable_exists x m f is known = omega (arith, is.vars, known)

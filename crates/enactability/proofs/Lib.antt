@@ -1,7 +1,6 @@
-pub mod CutLemmas
-pub mod EmissionLemmas
 pub mod ClauseLemmas
-pub mod StoredLemmas
+pub mod EmissionLemmas
+pub mod CutLemmas
 pub mod AnswerLemmas
 pub mod ModelLemmas
 pub mod CheckLemmas

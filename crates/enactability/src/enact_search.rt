@@ -1,4 +1,4 @@
-ghost use Rattle.std.specs.Prelude.{◌≡◌, ◌<◌, ◌≤◌, length, IfOk};
+ghost use Rattle.std.specs.Prelude.{◌<◌, ◌≤◌, length, IfOk};
 ghost use Rattle.clause_core.specs.Assignment.{valuation};
 ghost use Rattle.clause_core.specs.Clause.{SatisfiesAll};
 ghost use Rattle.clause_encoding.specs.Families.{shared_clauses};
@@ -9,9 +9,8 @@ ghost use Rattle.witness_replay.specs.Witness.{IsRunOfAssignment};
 ghost use Rattle.enactability.specs.Answer.{HasEnactLogInRange, IsRightEnact};
 
 use super::cut::{cut_of, known_cut};
-use super::laws::{cut_enacts, enact_clauses_are_few, enactable_alone, no_model_is_dead};
-use super::model_search::sent_model;
-use super::ordered_formula::ordered_shared;
+use super::formula::{shared_formula, with_sent};
+use super::laws::{cut_enacts, enact_clauses_are_few, no_model_is_dead};
 use super::outcome::Enact;
 use bspl_types::{Admitted, Run};
 use clause_core::Assignment;
@@ -23,7 +22,7 @@ use order_axioms::OrderedFormula;
 use sat_solver::Outcome;
 use std::alloc::Global;
 use std::marker::Model;
-use verdict::numbers_in_range;
+use verdict::{numbers_in_range, search_model};
 use witness_replay::order_run;
 
 /// Searches of one protocol, which make the clauses that all messages share once, and look first
@@ -31,7 +30,7 @@ use witness_replay::order_run;
 #[derive(Drop)]
 pub struct EnactSearch<'a> {
     protocol: &'a Admitted,
-    formula: OrderedFormula,
+    shared: OrderedFormula,
     runs: Seq<Run>,
 }
 
@@ -44,28 +43,27 @@ impl<'a> Model for EnactSearch<'a> {
 
     ghost view = { λ s. s.protocol.now };
 
-    ghost invariant = { λ s. IsSearch s.protocol.now (whole s.formula) s.runs };
+    ghost invariant = { λ s. IsSearch s.protocol.now (whole s.shared) s.runs };
 }
 
 impl<'a> EnactSearch<'a> {
-    ghost use Rattle.std.specs.Prelude.{◌≡◌, ◌+◌, ◌<◌, ◌≤◌, length, IfOk};
+    ghost use Rattle.std.specs.Prelude.{◌≡◌, ◌<◌, ◌≤◌, length, IfOk};
     ghost use Rattle.clause_core.specs.Assignment.{valuation};
     ghost use Rattle.clause_core.specs.Clause.{SatisfiesAll};
     ghost use Rattle.clause_encoding.specs.Formula.{safety_variables};
     ghost use Rattle.clause_encoding.specs.Variables.{variable_count};
-    ghost use Rattle.enactability.specs.Answer.{AreAnswered, HasEnactLogInRange, IsRightEnact};
+    ghost use Rattle.enactability.specs.Answer.{HasEnactLogInRange, IsRightEnact};
     ghost use Rattle.enactability.specs.EnactFormula.{enact_clauses};
-    ghost use Rattle.enactability.specs.Enactable.{AreMessages};
     ghost use Rattle.enactability.specs.inner.Search.{HasRightRun};
 
     /// Makes the shared clauses.
     pub fn new(alloc: Global, protocol: &'a Admitted) -> Result<EnactSearch<'a>, NoMemory>
         ensures { IfOk result (λ search. search ≡ protocol.now) }
     {
-        let formula = ordered_shared(alloc, protocol)?;
+        let shared = shared_formula(alloc, protocol)?;
         Ok(EnactSearch {
             protocol,
-            formula,
+            shared,
             runs: Seq::new(alloc),
         })
     }
@@ -80,45 +78,24 @@ impl<'a> EnactSearch<'a> {
         ensures numbers { budget ≤ 1000000 → IfOk result HasEnactLogInRange }
         ensures same { self.new ≡ self.old }
     {
-        // law: a message can be enacted exactly if the list of it alone can
-        enactable_alone();
-        self.enactable_together(alloc, &[message], budget)
-    }
-
-    /// Decides whether some legal run emits all of the messages under one key.
-    pub fn enactable_together(
-        &mut self,
-        alloc: Global,
-        messages: &[u32],
-        budget: u32,
-    ) -> Result<Enact, NoMemory>
-        requires known { AreMessages self.old messages.now }
-        requires some { 1 ≤ budget }
-        requires few { length messages.now + budget ≤ 2147483648 }
-        ensures right { IfOk result (AreAnswered self.old messages.now budget) }
-        ensures numbers { length messages.now + budget ≤ 1000001 →
-            IfOk result HasEnactLogInRange }
-        ensures same { self.new ≡ self.old }
-    {
         // law: a run that was found is the evidence if it is cut so
         cut_enacts();
-        match known_cut(alloc, self.runs.as_slice(), messages)? {
+        match known_cut(alloc, self.runs.as_slice(), message)? {
             Some(run) => Ok(Enact::Enacted(run)),
-            None => self.search(alloc, messages, budget),
+            None => self.search(alloc, message, budget),
         }
     }
 
-    /// Searches for a model of the formula in which the messages are sent.
-    fn search(&mut self, alloc: Global, messages: &[u32], budget: u32) -> Result<Enact, NoMemory>
-        requires known { AreMessages self.old messages.now }
+    /// Searches for a model of the formula of the message.
+    fn search(&mut self, alloc: Global, message: u32, budget: u32) -> Result<Enact, NoMemory>
+        requires known { message < length self.old.messages }
         requires some { 1 ≤ budget }
-        requires few { length messages.now + budget ≤ 2147483648 }
-        ensures right { IfOk result (AreAnswered self.old messages.now budget) }
-        ensures numbers { length messages.now + budget ≤ 1000001 →
-            IfOk result HasEnactLogInRange }
+        requires few { budget ≤ 2147483647 }
+        ensures right { IfOk result (IsRightEnact self.old message budget) }
+        ensures numbers { budget ≤ 1000000 → IfOk result HasEnactLogInRange }
         ensures same { self.new ≡ self.old }
     {
-        // law: a formula without a model says that no legal run emits the messages
+        // law: a formula without a model says that no legal run emits the message
         no_model_is_dead();
         // laws: a model satisfies what is written, for each of which there is a clause
         written_is_satisfied();
@@ -127,31 +104,32 @@ impl<'a> EnactSearch<'a> {
         enact_clauses_are_few();
         variables_are_small();
         numbers_in_range();
-        match sent_model(alloc, &mut self.formula, messages, budget)? {
-            Outcome::Sat(assignment) => self.enact(alloc, messages, &assignment),
+        let formula = with_sent(alloc, &self.shared, message)?;
+        match search_model(alloc, &formula, budget)? {
+            Outcome::Sat(assignment) => self.enact(alloc, message, &assignment),
             Outcome::Unsat(log) => Ok(Enact::Dead(log)),
             Outcome::Budget(log) => Ok(Enact::Undecided(log)),
         }
     }
 
-    /// The run of a model, cut after the last emission of the messages. The whole run is kept.
+    /// The run of a model, cut after its first emission of the message. The whole run is kept.
     fn enact(
         &mut self,
         alloc: Global,
-        messages: &[u32],
+        message: u32,
         assignment: &Assignment,
     ) -> Result<Enact, NoMemory>
-        requires known { AreMessages self.old messages.now }
+        requires known { message < length self.old.messages }
         requires all { variable_count (safety_variables self.old) ≤ length assignment.now }
         requires satisfied { SatisfiesAll (valuation assignment.now)
-            (enact_clauses self.old messages.now) }
-        ensures right { IfOk result (HasRightRun self.old messages.now) }
+            (enact_clauses self.old message) }
+        ensures right { IfOk result (HasRightRun self.old message) }
         ensures same { self.new ≡ self.old }
     {
         // law: the run of a model is the evidence if it is cut so
         cut_enacts();
         let whole = model_run(alloc, self.protocol, assignment)?;
-        let run = cut_of(alloc, whole.as_slice(), messages)?.unwrap();
+        let run = cut_of(alloc, whole.as_slice(), message)?.unwrap();
         self.runs.push(whole)?;
         Ok(Enact::Enacted(run))
     }

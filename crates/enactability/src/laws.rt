@@ -1,11 +1,9 @@
-ghost use Rattle.enactability.specs.Enactable.{AreMessages};
 ghost use Rattle.enactability.specs.Laws.{AcceptedDeadDoesNotFail, DeadExactlyIfNoModel};
 ghost use Rattle.enactability.specs.Laws.{DeadLogFailsOnce, DeadLogIsNotRefused};
 ghost use Rattle.enactability.specs.Laws.{DeadStepsAreFewerThanBytes};
-ghost use Rattle.enactability.specs.Laws.{EnactClausesAreFew, EnactableAlone, ModelEnacts};
-ghost use Rattle.enactability.specs.Laws.{NoModelIsDead, TextHasOneDeadLog};
-ghost use Rattle.enactability.specs.Laws.{TextHasOneDeadRefusal, WrittenIsDeadText};
-ghost use Rattle.enactability.specs.Refusal.{IsOneMessage};
+ghost use Rattle.enactability.specs.Laws.{EnactClausesAreFew, ModelEnacts, NoModelIsDead};
+ghost use Rattle.enactability.specs.Laws.{TextHasOneDeadLog, TextHasOneDeadRefusal};
+ghost use Rattle.enactability.specs.Laws.{WrittenIsDeadText};
 ghost use Rattle.enactability.specs.inner.Search.{CutEnacts};
 
 use bspl_types::equal_values_are_one;
@@ -13,18 +11,14 @@ use clause_encoding::{clauses_are_determined, safety_clauses_are_few, written_is
 use enactment_model::prefix_is_legal;
 use first_occurrences::{assignment_exists, shared_clauses_hold};
 use log_checker::{clauses_decide, fails_once};
+use named_parts::messages_are_named_once;
 use refutation_log::{reads_once, steps_have_lines};
 use run_text::names_are_fields;
 use witness_replay::shared_model_has_run;
 
-/// A law: a message can be enacted exactly if the list of it alone can.
-pub fn enactable_alone()
-    ensures { EnactableAlone }
-{}
-
-/// A law: if the formula of messages has no model, then no legal run, over any number of keys,
-/// emits all of them under one key: the first occurrences under that key would be a model (after
-/// Singh 2012).
+/// A law: if the formula of a message has no model, then no legal run, over any number of keys,
+/// emits it: the first occurrences under the key of its emission would be a model (after Singh
+/// 2012).
 pub fn no_model_is_dead()
     ensures { NoModelIsDead }
 {
@@ -37,8 +31,8 @@ pub fn no_model_is_dead()
     written_is_satisfied();
 }
 
-/// A law: each model of the formula of messages gives a legal run, which is cut after the last of
-/// their emissions.
+/// A law: each model of the formula of a message gives a legal run, which is cut after its first
+/// emission of the message.
 pub fn model_enacts()
     ensures { ModelEnacts }
 {
@@ -48,8 +42,8 @@ pub fn model_enacts()
     cut_enacts();
 }
 
-/// A law: the run of a model is evidence for each messages that it emits, if it is cut after the
-/// last of their emissions.
+/// A law: the run of a model is evidence for each message that it emits, if it is cut after its
+/// first emission of the message.
 pub(crate) fn cut_enacts()
     ensures { CutEnacts }
 {
@@ -59,7 +53,7 @@ pub(crate) fn cut_enacts()
     prefix_is_legal();
 }
 
-/// A law: messages are dead exactly if their formula has no model.
+/// A law: a message is dead exactly if its formula has no model.
 pub fn dead_exactly_if_no_model()
     ensures { DeadExactlyIfNoModel }
 {
@@ -72,7 +66,7 @@ pub fn dead_exactly_if_no_model()
     model_enacts();
 }
 
-/// A law: the formula of messages has few clauses.
+/// A law: the formula of a message has few clauses.
 pub fn enact_clauses_are_few()
     ensures { EnactClausesAreFew }
 {
@@ -80,12 +74,12 @@ pub fn enact_clauses_are_few()
     safety_clauses_are_few();
 }
 
-/// A law: for the formula of messages a log is accepted or has one first failure, and not both.
+/// A law: for the formula of a message a log is accepted or has one first failure, and not both.
 pub fn dead_log_fails_once()
     ensures failure { DeadLogFailsOnce }
     ensures accepted { AcceptedDeadDoesNotFail }
 {
-    // law: messages have one formula
+    // law: a message has one formula
     clauses_are_determined();
     // law: what a log does to a formula it does to each with the same clauses
     clauses_decide();
@@ -93,7 +87,7 @@ pub fn dead_log_fails_once()
     fails_once();
 }
 
-/// A law: what is written of a log on messages is a text of it.
+/// A law: what is written of a log on a message is a text of it.
 pub fn dead_texts_written()
     ensures { WrittenIsDeadText }
 {}
@@ -101,28 +95,17 @@ pub fn dead_texts_written()
 /// A law: a text is that of one log on one message at most, or refused for one thing, and not both.
 pub fn dead_texts_read_once()
     ensures logs { TextHasOneDeadLog }
-    ensures refusals { TextHasOneDeadRefusal IsOneMessage }
-    ensures exclusive { DeadLogIsNotRefused IsOneMessage }
+    ensures refusals { TextHasOneDeadRefusal }
+    ensures exclusive { DeadLogIsNotRefused }
 {
-    // law: a name is one field of a line
+    // laws: the name of a message has no LF, and is that of no other one
     names_are_fields();
+    messages_are_named_once();
     // law: the same of the text of any log
     reads_once();
 }
 
-/// A law: the same where any messages may be named.
-pub fn texts_on_messages_read_once()
-    ensures logs { TextHasOneDeadLog }
-    ensures refusals { TextHasOneDeadRefusal AreMessages }
-    ensures exclusive { DeadLogIsNotRefused AreMessages }
-{
-    // law: a name is one field of a line
-    names_are_fields();
-    // law: the same of the text of any log
-    reads_once();
-}
-
-/// A law: a log on messages has no more steps than its text has bytes.
+/// A law: a log on a message has no more steps than its text has bytes.
 pub fn dead_steps_are_fewer_than_bytes()
     ensures { DeadStepsAreFewerThanBytes }
 {

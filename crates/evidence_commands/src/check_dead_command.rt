@@ -26,9 +26,9 @@ pub fn check_dead(
         IsCheckDeadAnswer protocol.now part.now reply.text reply.status) }
     ensures refused { IfErr result (RejectsFor (IsCheckDeadRefused protocol.now part.now)) }
 {
-    // law: a log on messages has no more steps than its text has bytes
+    // law: a log on a message has no more steps than its text has bytes
     dead_steps_are_fewer_than_bytes();
-    // law: the formula of messages has few clauses
+    // law: the formula of a message has few clauses
     enact_clauses_are_few();
     let read = read_dead(alloc, protocol, part);
     let (message, log) = read.map_err(|refusal| error_for(log_rejection(refusal)))?;

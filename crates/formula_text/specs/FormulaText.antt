@@ -1,5 +1,5 @@
 -- The text of a formula: a comment line for each variable, the header, and a line for each clause.
-use Rattle.std.specs.Prelude.{◌≡◌, ℕ, List, [], ◌∷◌, ◌++◌, length, codes}
+use Rattle.std.specs.Prelude.{◌≡◌, ℕ, List, ◌∷◌, ◌++◌, length, codes}
 use Rattle.std.specs.List.{flat_map}
 use Rattle.bspl_types.specs.declared.expanded.Expanded.{Expanded}
 use Rattle.clause_core.specs.declared.formula.Formula.{Formula}
@@ -42,5 +42,5 @@ pub record IsFormulaText (property : Property) (x : Expanded) (text : List ℕ) 
 -- the text is that of the formula in which the message is sent, which has the variables of safety
 pub record IsEnactText (x : Expanded) (message : ℕ) (text : List ℕ) : Type 0 where
   pub formula : Formula
-  pub is_formula : IsEnactFormula x (message ∷ []) formula
+  pub is_formula : IsEnactFormula x message formula
   pub printed : text ≡ text_of Safety x formula

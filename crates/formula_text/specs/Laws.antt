@@ -1,5 +1,5 @@
 -- The text is read as the formula, its legend names each variable once, and it is the only one.
-use Rattle.std.specs.Prelude.{◌≡◌, ℕ, List, [], ◌∷◌, map}
+use Rattle.std.specs.Prelude.{◌≡◌, ℕ, List, map}
 use Rattle.std.specs.List.{range_with_len}
 use Rattle.bspl_types.specs.declared.expanded.Expanded.{Expanded}
 use Rattle.clause_core.specs.declared.formula.Formula.{Formula}
@@ -20,7 +20,7 @@ ReadsBack =
 -- so is the text of the formula in which a message is sent
 abbrev pub EnactReadsBack : Type 0
 EnactReadsBack =
-    (x : Expanded) (message : ℕ) (f : Formula) → IsEnactFormula x (message ∷ []) f →
+    (x : Expanded) (message : ℕ) (f : Formula) → IsEnactFormula x message f →
     IsDimacs (text_of Safety x f) f.vars f.clauses
 
 -- the variables of the legend are those from 1 to the formula's last, in order
@@ -32,7 +32,7 @@ NamesEachVariable =
 -- those of safety are also the variables of that formula
 abbrev pub NamesEachEnactVariable : Type 0
 NamesEachEnactVariable =
-    (x : Expanded) (message : ℕ) (f : Formula) → IsEnactFormula x (message ∷ []) f →
+    (x : Expanded) (message : ℕ) (f : Formula) → IsEnactFormula x message f →
     map (λ (variable, words). variable) (legend Safety x) ≡ range_with_len 1 f.vars
 
 -- a protocol has one text

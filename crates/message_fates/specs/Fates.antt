@@ -1,5 +1,5 @@
 -- What becomes of each message of a protocol.
-use Rattle.std.specs.Prelude.{◌≡◌, ℕ, List, [], ◌∷◌, length}
+use Rattle.std.specs.Prelude.{◌≡◌, ℕ, List, length}
 use Rattle.std.specs.List.{All, enumerate_from}
 use Rattle.bspl_types.specs.declared.expanded.Expanded.{Expanded}
 use Rattle.enactability.specs.Enactable.{Enactable}
@@ -13,7 +13,7 @@ use Rattle.verdict.specs.Decision.{IsUndecidedVerdict}
 -- many new clauses, and none of them empty
 pub record IsUndecidedMessage (x : Expanded) (budget m : ℕ) : Type 0 where
   pub log : Log
-  pub spent : IsUndecidedVerdict (IsEnactFormula x (m ∷ [])) budget log
+  pub spent : IsUndecidedVerdict (IsEnactFormula x m) budget log
 
 -- some legal run emits a message that is said to be sent, and none one that is said to be dead; of
 -- one that is said to be undecided there is such a log

@@ -65,52 +65,33 @@ const ROWS: &[Row] = &[
     },
 ];
 
-/// Messages, and how a run ends that emits them all under one key; nothing if none does.
-struct Question {
-    messages: &'static [u32],
-    ending: Option<Ending>,
-}
-
-/// How many events the run has, and the message of the last emission.
+/// How many events a run has, and the message of the last emission.
 #[derive(Clone, Copy)]
 struct Ending {
     events: usize,
     message: u32,
 }
 
-/// Questions about the choice, one after the other. Only B's own reception of ask comes before its
-/// answer.
-const QUESTIONS: &[Question] = &[
-    Question {
-        messages: &[1],
-        ending: Some(Ending {
-            events: 3,
-            message: 1,
-        }),
+/// How runs of the choice end that enact a message each, one after the other. Only B's own
+/// reception of ask comes before its answer.
+const ENDINGS: &[Ending] = &[
+    Ending {
+        events: 3,
+        message: 1,
     },
-    Question {
-        messages: &[0],
-        ending: Some(Ending {
-            events: 1,
-            message: 0,
-        }),
+    Ending {
+        events: 1,
+        message: 0,
     },
-    Question {
-        messages: &[1, 2],
-        ending: None,
-    },
-    Question {
-        messages: &[2, 0],
-        ending: Some(Ending {
-            events: 3,
-            message: 2,
-        }),
+    Ending {
+        events: 3,
+        message: 2,
     },
 ];
 
 /// The answer for the text of a short log.
 fn answer(alloc: Global, protocol: &Admitted, text: &[u8]) -> Option<Result<(), Reject>> {
-    // law: the formula of messages has few clauses
+    // law: the formula of a message has few clauses
     enact_clauses_are_few();
     let (message, log) = read_dead(alloc, protocol, text).ok()?;
     if log.steps.len() < 100 {
@@ -146,32 +127,28 @@ fn ends_so(run: &Run, ending: Ending) -> bool {
     }
 }
 
-/// Whether the messages are answered as the question says.
-fn is_answered(alloc: Global, search: &mut EnactSearch<'_>, question: &Question) -> bool
+/// Whether the message is enacted by a run that ends so.
+fn is_answered(alloc: Global, search: &mut EnactSearch<'_>, ending: Ending) -> bool
     requires { length search.old.messages ≡ 3 }
     ensures { search.new ≡ search.old }
 {
-    if !question.messages.iter().all(|m| *m < 3) || question.messages.len() > 3 {
+    if ending.message >= 3 {
         return false;
     }
-    match search.enactable_together(alloc, question.messages, 100) {
-        Ok(Enact::Enacted(run)) => match question.ending {
-            Some(ending) => ends_so(&run, ending),
-            None => false,
-        },
-        Ok(Enact::Dead(_)) => question.ending.is_none(),
+    match search.enactable(alloc, ending.message, 100) {
+        Ok(Enact::Enacted(run)) => ends_so(&run, ending),
         _ => false,
     }
 }
 
-/// Whether all questions about a protocol of three messages are, in one search.
+/// Whether all messages of a protocol of three are, in one search.
 fn are_answered(alloc: Global, protocol: &Admitted) -> Result<bool, NoMemory> {
     if protocol.expanded().messages.len() != 3 {
         return Ok(false);
     }
     let mut search = EnactSearch::new(alloc, protocol)?;
-    for question in QUESTIONS {
-        if !is_answered(alloc, &mut search, question) {
+    for ending in ENDINGS {
+        if !is_answered(alloc, &mut search, *ending) {
             return Ok(false);
         }
     }
@@ -200,7 +177,7 @@ fn a_message_that_waits_for_nothing_known_is_dead(rt: HostRuntime) -> Result<(),
 }
 
 #[test]
-fn messages_are_enacted_alone_and_together(rt: HostRuntime) -> Result<(), Fail> {
+fn messages_are_enacted_one_after_the_other(rt: HostRuntime) -> Result<(), Fail> {
     let pings = alone(rt.alloc(), protocol(rt.alloc(), PING, b"Ping")?)?;
     let ending = Ending {
         events: 1,

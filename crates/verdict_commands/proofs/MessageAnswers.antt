@@ -21,7 +21,7 @@ use Rattle.verdict_commands.specs.EnactedRun.{EnactedRunFits}
 
 -- the run of a right answer fits the protocol
 pub right_run_fits : (x : Expanded) (m budget : ℕ) (answer : Enact) → IsRightEnact x m budget answer → EnactedRunFits x answer
-right_run_fits x m budget (Enacted run) right = right.enacted.legal.fits
+right_run_fits x m budget (Enacted run) right = right.legal.fits
 right_run_fits x m budget (Dead log) right = tt
 right_run_fits x m budget (Undecided log) right = tt
 

@@ -1,5 +1,5 @@
 -- What `dead` answers on an admitted protocol: of each message, whether some legal run emits it.
-use Rattle.std.specs.Prelude.{◌≡◌, ℕ, Bool, true, false, if◌then◌else◌, List, [], ◌∷◌, ◌++◌, length}
+use Rattle.std.specs.Prelude.{◌≡◌, ℕ, Bool, true, false, if◌then◌else◌, List, [], ◌++◌, length}
 use Rattle.std.specs.List.{All, enumerate_from, flat_map, list_any}
 use Rattle.bspl_types.specs.declared.expanded.Expanded.{Expanded}
 use Rattle.bspl_types.specs.Expansion.{message_name}
@@ -25,8 +25,8 @@ enact_line name (Undecided log) = undecided_message_line name (length log.steps)
 -- its evidence: a run that ends with the message, or a log on it
 abbrev pub message_evidence : Expanded → ℕ → Enact → List ℕ
 message_evidence x m (Enacted run) = run_text x run
-message_evidence x m (Dead log) = dead_text x (m ∷ []) log
-message_evidence x m (Undecided log) = dead_text x (m ∷ []) log
+message_evidence x m (Dead log) = dead_text x m log
+message_evidence x m (Undecided log) = dead_text x m log
 
 -- the evidence, unless the text is brief
 abbrev pub message_part : Expanded → Bool → ℕ → Enact → List ℕ

@@ -1,8 +1,10 @@
--- Emissions of messages in a run, whatever their keys.
-use Rattle.std.specs.Prelude.{◌≡◌, ℕ, ◌+◌, ◌==◌, Bool, false, List, [], ◌∷◌, IsTrue, max, take}
-use Rattle.std.specs.List.{All, Contains, list_any, position_or_len}
+-- Emissions of a message in a run, whatever their keys.
+use Rattle.std.specs.Prelude.{◌≡◌, ℕ, ◌==◌, Bool, false, List}
+use Rattle.std.specs.List.{Contains}
 use Rattle.bspl_types.specs.declared.event.Event.{Event}
 use Rattle.bspl_types.specs.declared.event.Event.TheVariants.{Emit, Receive}
+use Rattle.bspl_types.specs.declared.event.Instance.{Instance}
+use Rattle.enactability.specs.Answer.{IsCutAfter}
 
 -- the event is an emission of the message
 abbrev pub emits : ℕ → Event → Bool
@@ -10,23 +12,13 @@ emits m (Emit i) = i.message == m
 emits m (Receive i) = false
 
 -- some event is
-abbrev pub HasEmission : List Event → ℕ → Type 0
-HasEmission run m = IsTrue (list_any (emits m) run)
+pub record HasEmission (run : List Event) (m : ℕ) : Type 0 where
+  pub instance : Instance
+  pub emitted : Contains run (Emit instance)
+  pub message_is : instance.message ≡ m
 
--- how many events there are up to the last of the first emissions of the messages
-abbrev pub events_until : List Event → List ℕ → ℕ
-events_until run [] = 0
-events_until run (m ∷ messages) =
-    max (position_or_len (emits m) run + 1) (events_until run messages)
-
--- the run is the whole one up to there, and the whole one has an emission of each
-pub record IsCut (messages : List ℕ) (whole run : List Event) : Type 0 where
-  pub emitted : All (HasEmission whole) messages
-  pub cut : run ≡ take (events_until whole messages) whole
-
--- so it is of one of the runs
-pub record IsCutOfOne (messages : List ℕ) (runs : List (List Event)) (run : List Event)
-    : Type 0 where
+-- the run is one of the runs, cut after its first emission of the message
+pub record IsCutOfOne (m : ℕ) (runs : List (List Event)) (run : List Event) : Type 0 where
   pub whole : List Event
   pub among : Contains runs whole
-  pub is_cut : IsCut messages whole run
+  pub is_cut : IsCutAfter m whole run

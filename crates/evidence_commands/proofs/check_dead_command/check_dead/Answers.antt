@@ -1,5 +1,5 @@
 -- The answer is that of the check, once the log is read.
-use Rattle.std.proofs.Common.{◌≡◌, [], ◌∷◌, rules, refl, subst, arith}
+use Rattle.std.proofs.Common.{◌≡◌, rules, refl, subst, arith}
 use Rattle.bspl_types.specs.declared.expanded.Expanded.{Expanded}
 use Rattle.bspl_types.specs.Expansion.{message_name}
 use Rattle.tool_input.specs.Lines.{line}
@@ -10,8 +10,8 @@ use Rattle.evidence_commands.proofs.check_dead_command.check_dead.Goals as goal
 pub check_dead-checked-requires-clause-few : goal.check_dead-checked-requires-clause-few
 check_dead-checked-requires-clause-few c =
     let x = c.args.protocol.now in
-    let few = c.enact_clauses_are_few.ensures x (c.in_ok-message.message ∷ []) in
-    let steps = c.dead_steps_are_fewer_than_bytes.ensures x c.args.part.now (c.in_ok-message.message ∷ []) c.in_ok-message.log (search rules) in
+    let few = c.enact_clauses_are_few.ensures x c.in_ok-message.message in
+    let steps = c.dead_steps_are_fewer_than_bytes.ensures x c.args.part.now c.in_ok-message.message c.in_ok-message.log (search rules) in
     omega (arith, few, steps, c.requires)
 
 pub returns-in_ok-accepted_dead_text-in-Ok-clause-ok : goal.returns-in_ok-accepted_dead_text-in-Ok-clause-ok

@@ -1,5 +1,5 @@
 -- Two formulas of a protocol have equal clauses, so equal texts.
-use Rattle.std.proofs.Common.{ℕ, List, [], ◌∷◌, ◌++◌, length, sym, ◌∙◌}
+use Rattle.std.proofs.Common.{ℕ, List, ◌++◌, length, sym, ◌∙◌}
 use Rattle.std.specs.List.{flat_map}
 use Rattle.bspl_types.specs.declared.expanded.Expanded.{Expanded}
 use Rattle.bspl_types.specs.declared.property.Property.{Property}
@@ -27,5 +27,5 @@ returns-clause-property c = λ property x a b one other.
 pub returns-clause-message : goal.returns-clause-message
 returns-clause-message c = λ x message a b one other.
     let vars = one.is_formula.vars ∙ sym other.is_formula.vars in
-    let clauses = c.clauses_are_determined.ensures (enact_clauses x (message ∷ [])) one.formula.clauses other.formula.clauses one.is_formula.clauses other.is_formula.clauses in
+    let clauses = c.clauses_are_determined.ensures (enact_clauses x message) one.formula.clauses other.formula.clauses one.is_formula.clauses other.is_formula.clauses in
     one.printed ∙ (λ i. text_by Safety x (vars i) (clauses i)) ∙ sym other.printed

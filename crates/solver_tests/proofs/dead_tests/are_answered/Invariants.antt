@@ -2,5 +2,5 @@ use Rattle.std.proofs.Common.{◌≡◌, length}
 use Rattle.solver_tests.proofs.dead_tests.are_answered.Given as goal
 
 -- the search is of a protocol of three messages
-abbrev pub invariant-loop-question : goal.invariant-loop-question
-invariant-loop-question l = length l.search.messages ≡ 3
+abbrev pub invariant-loop-ending : goal.invariant-loop-ending
+invariant-loop-ending l = length l.search.messages ≡ 3

@@ -1,13 +1,12 @@
--- The answer on the list of one message is that on the message.
-use Rattle.std.proofs.Common.{[], ◌∷◌}
-use Rattle.std.proofs.lemmas.Result.{IfOk-weaker}
-use Rattle.enactability.specs.Answer.{AreAnswered, IsRightEnact}
-use Rattle.enactability.proofs.AnswerLemmas.{one_answered}
+-- A run that was found is the evidence if it is cut so.
+use Rattle.std.proofs.Common.{subst}
+use Rattle.bspl_types.specs.declared.expanded.Expanded.{Expanded}
+use Rattle.enactability.specs.Answer.{IsEnacted}
+use Rattle.enactability.proofs.AnswerLemmas.{known_enacted}
 use Rattle.enactability.proofs.enact_search.EnactSearch.enactable.Goals as goal
 
-pub returns-clause-right : goal.returns-clause-right
-returns-clause-right c =
-    let x = c.args.self.now in
-    let m = c.args.message in
-    IfOk-weaker c.enactable_together.result (AreAnswered x (m ∷ []) c.args.budget) (IsRightEnact x m c.args.budget)
-    (λ enact right. one_answered c.enactable_alone.ensures x m c.args.budget enact right) c.enactable_together.ensures.right
+pub returns-in-Some-clause-right : goal.returns-in-Some-clause-right
+returns-in-Some-clause-right c =
+    let found = rw (c.in-Some.is, c.as_slice.ensures) at c.in_ok-run.ensures in
+    subst (λ (x : Expanded). IsEnacted x c.args.message c.in-Some.run') c.self.view_is
+    (known_enacted c.cut_enacts.ensures c.self.inside.protocol.now c.args.message c.self.inside.runs c.in-Some.run' c.self.invariant.runs found)
