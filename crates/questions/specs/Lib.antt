@@ -4,4 +4,5 @@ pub mod Answer
 pub mod Subject
 pub mod Same
 pub mod Laws
+pub mod Conflict
 pub mod inner
