@@ -48,6 +48,12 @@ is_absent() {
     [ $state = absent ]
 }
 
+# whether the program can answer at once
+is_built() {
+    look_at "$1"
+    [ $state = proved ] || [ $state = unproved ]
+}
+
 # the state in words
 state_of() {
     look_at "$1"

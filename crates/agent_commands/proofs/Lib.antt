@@ -3,3 +3,4 @@ pub mod RunAnswers
 pub mod RestartAnswers
 pub mod GenerateAnswers
 pub mod ServeAnswers
+pub mod OneServing

@@ -36,7 +36,7 @@ opened x part first lines role is whole = record {
 }
 
 -- one of the text's bytes is an LF
-abbrev has_lf : List ℕ → Bool
+abbrev pub has_lf : List ℕ → Bool
 has_lf text = list_any (λ b. eqb b 10) text
 
 -- a text whose bytes are other ones than LF
@@ -44,7 +44,7 @@ no_lf_in : (text : List ℕ) → All (λ byte. byte ≢ 10) text → has_lf text
 no_lf_in text other = list_any_none (λ b. eqb b 10) text (All-weaker (λ byte. byte ≢ 10) (λ byte. eqb byte 10 ≡ false) (λ byte is_other. ne_eqb byte 10 is_other) text other)
 
 -- a line ends where its LF is
-cut_once : (one other x y : List ℕ) → has_lf one ≡ false → has_lf other ≡ false → one ++ 10 ∷ x ≡ other ++ 10 ∷ y → one ≡ other
+pub cut_once : (one other x y : List ℕ) → has_lf one ≡ false → has_lf other ≡ false → one ++ 10 ∷ x ≡ other ++ 10 ∷ y → one ≡ other
 cut_once [] [] x y none none_too is = refl
 cut_once [] (b ∷ other) x y none none_too is =
     let lines : 10 ∷ x ≡ b ∷ (other ++ 10 ∷ y) = is in
@@ -62,11 +62,11 @@ cut_once (a ∷ one) (b ∷ other) x y none none_too is =
     cc
 
 -- the first line of an opened part, and the rest
-opened_parts : (x : Expanded) (part : List ℕ) (role : ℕ) (lines : List ℕ) → OpensRole x part role lines → part ≡ (ROLE.now ++ role_name x role) ++ 10 ∷ lines
+pub opened_parts : (x : Expanded) (part : List ℕ) (role : ℕ) (lines : List ℕ) → OpensRole x part role lines → part ≡ (ROLE.now ++ role_name x role) ++ 10 ∷ lines
 opened_parts x part role lines opens = opens.whole ∙ append_assoc (ROLE.now ++ role_name x role) (10 ∷ []) lines
 
 -- that line has no other LF
-role_line_is_whole : NamesAreFields → (x : Expanded) (role : ℕ) → role < length x.roles → has_lf (ROLE.now ++ role_name x role) ≡ false
+pub role_line_is_whole : NamesAreFields → (x : Expanded) (role : ℕ) → role < length x.roles → has_lf (ROLE.now ++ role_name x role) ≡ false
 role_line_is_whole fields x role known =
     list_any-append (λ b. eqb b 10) ROLE.now (role_name x role) ∙ no_lf_in (role_name x role) (fields (role_name x role) (x.shape.role_names.named role [] known)).no_end
 

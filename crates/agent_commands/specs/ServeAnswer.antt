@@ -1,5 +1,6 @@
 -- What `serve` answers on an admitted protocol and the lines for one of its roles.
-use Rattle.std.specs.Prelude.{◌≡◌, ℕ, ◌<◌, List, ◌++◌, length}
+use Rattle.std.specs.Prelude.{◌≡◌, ℕ, ◌<◌, List, ◌++◌, length, ⊤}
+use Rattle.bspl_types.specs.Admission.{IsAdmitted}
 use Rattle.bspl_types.specs.declared.expanded.Expanded.{Expanded}
 use Rattle.history_audit.specs.HistoryText.{role_line}
 use Rattle.local_store.specs.State.{StoreState}
@@ -34,11 +35,17 @@ pub record IsServeRefused (x : Expanded) (part : List ℕ) (rejection : Rejectio
   pub none : (role : ℕ) (lines : List ℕ) → ¬ OpensRole x part role lines
   pub rejection_is : rejection ≡ unknown_role
 
--- it needs lines for a role; that no other output would be right is not claimed
+-- a part has one answer
+abbrev pub OneServeAnswer : Type 0
+OneServeAnswer = (x : Expanded) (part out other : List ℕ) (status also : Status) → IsAdmitted x
+    → IsServeAnswer x part out status → IsServeAnswer x part other also
+    → (out ≡ other) × (status ≡ also)
+
+-- it needs lines for a role, and has one answer
 abbrev pub serve_rules : CommandRules
 serve_rules = record {
   needs = Part part.Wire;
   answers = IsServeAnswer;
   refuses = IsServeRefused;
-  is_determined = ⊥;
+  is_determined = ⊤;
 }

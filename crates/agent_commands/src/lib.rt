@@ -4,6 +4,7 @@
 mod agents;
 mod answer;
 mod generate_command;
+mod laws;
 mod play;
 mod play_mode;
 mod restart_command;
@@ -17,6 +18,7 @@ mod world_report;
 
 pub use answer::Answer;
 pub use generate_command::generate;
+pub use laws::serve_answers_once;
 pub use play::{finish, finish_in_threads};
 pub use play_mode::PlayMode;
 pub use restart_command::restart;

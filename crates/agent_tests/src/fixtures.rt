@@ -3,10 +3,12 @@ ghost use Rattle.std.specs.List.{Contains, filter, list_any};
 ghost use Rattle.bspl_types.specs.Choice.{is_chosen};
 ghost use Rattle.stamped_history.specs.Entries.{clock_limit, last_stamp};
 
+use agent_scripts::Job;
 use bspl_parser::{parse, reads_back};
 use bspl_types::{Admitted, Adornment, Carried, Expanded, Key, NoMemory, Refusal, Seq, Value};
 use local_store::Store;
 use protocol_expand::{admit, expand};
+use script_text::read_scripts;
 use std::alloc::Global;
 use std::test::Fail;
 
@@ -16,6 +18,15 @@ pub(crate) const TALK: &[u8] = b"P {
   parameters out ID key, out x, out y
   A -> B: ask[out ID, out x]
   B -> A: tell[in ID, in x, out y]
+}";
+
+/// Each role sends a message to the next one, and the last one to the first.
+pub(crate) const RELAY: &[u8] = b"P {
+  roles A, B, C
+  parameters out ID key, out x, out y, out z
+  A -> B: a[out ID, out x]
+  B -> C: b[in ID, in x, out y]
+  C -> A: c[in ID, in y, out z]
 }";
 
 /// The key of these numbers, if there are one or two.
@@ -46,6 +57,13 @@ pub(crate) fn admitted(alloc: Global, text: &[u8]) -> Result<Admitted, Fail> {
         .ok()
         .ok_or("the text has no expansion")?;
     Ok(admit(x).ok().ok_or("the protocol is not admitted")?)
+}
+
+/// The protocol, and the agents of the text.
+pub(crate) fn job_of(alloc: Global, protocol: &[u8], text: &[u8]) -> Result<Job, Fail> {
+    let protocol = admitted(alloc, protocol)?;
+    let agents = read_scripts(alloc, text, &protocol)?;
+    Ok(Job::of(protocol, agents))
 }
 
 /// A list of the item alone: it is one value to drop, where the item may have many.

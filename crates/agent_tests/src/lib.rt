@@ -28,6 +28,8 @@ mod protocols;
 #[cfg(test)]
 mod reception_tests;
 #[cfg(test)]
+mod restart_tests;
+#[cfg(test)]
 mod start_tests;
 #[cfg(test)]
 mod stop_tests;

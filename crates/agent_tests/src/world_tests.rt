@@ -3,23 +3,13 @@ ghost use Rattle.bspl_types.specs.History.{instance_of, IsRun};
 ghost use Rattle.bspl_types.specs.Instance.{Fits};
 ghost use Rattle.enactment_model.specs.Safety.{SafeProtocol};
 
-use super::fixtures::{admitted, alone};
+use super::fixtures::{RELAY, alone, job_of};
 use agent_scripts::Job;
 use bspl_types::{Event, Expanded, NoMemory, Run};
 use enactment_model::{legal, single_producer};
-use script_text::read_scripts;
 use std::alloc::Global;
 use std::test::Fail;
 use world_run::{merge, run_one};
-
-/// Each role sends a message to the next one, and the last one to the first.
-const RELAY: &[u8] = b"P {
-  roles A, B, C
-  parameters out ID key, out x, out y, out z
-  A -> B: a[out ID, out x]
-  B -> C: b[in ID, in x, out y]
-  C -> A: c[in ID, in y, out z]
-}";
 
 /// C starts, B and C send to A, and A answers each of the two messages.
 const FORK: &[u8] = b"P {
@@ -66,13 +56,6 @@ const RELAYED_FIRST: &[Act] = &[
     Act::Emit(3),
     Act::Receive(3),
 ];
-
-/// The protocol, and the agents of the text.
-fn job_of(alloc: Global, protocol: &[u8], text: &[u8]) -> Result<Job, Fail> {
-    let protocol = admitted(alloc, protocol)?;
-    let agents = read_scripts(alloc, text, &protocol)?;
-    Ok(Job::of(protocol, agents))
-}
 
 /// All events of the world in which the agents play.
 fn merged(alloc: Global, job: &Job) -> Result<Run, NoMemory>

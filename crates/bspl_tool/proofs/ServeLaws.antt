@@ -10,7 +10,7 @@ use Rattle.serde_json.specs.Written.{compact_text}
 use Rattle.wire_form.specs.declared.reply.Reply.{Reply}
 use Rattle.wire_form.specs.declared.reply.Reply.TheVariants.{Blocked, Received, Refused, Sent}
 use Rattle.wire_form.specs.Reply.{reply_data, reply_text}
-use Rattle.agent_commands.specs.ServeAnswer.{serve_rules}
+use Rattle.agent_commands.specs.ServeAnswer.{OneServeAnswer, serve_rules}
 use Rattle.bspl_tool.proofs.ClaimsNothing.{IsBlock, block_joined, claims, closed, line_claims_nothing, no_lines}
 use Rattle.bspl_tool.proofs.CommandLaws.{CommandLaws, honest_nothing}
 use Rattle.bspl_tool.proofs.JsonLines.{json_has_no_lf}
@@ -40,11 +40,11 @@ replies_are_block (line ∷ lines) s out end serves =
     subst IsBlock (sym first.text) (block_joined (reply_is_block s.protocol first.reply) (replies_are_block lines serves.0 serves.1 end serves.3))
 
 -- the laws of the command
-pub serve_laws : {Once : Type 0} → CommandLaws Once serve_rules
+pub serve_laws : CommandLaws OneServeAnswer serve_rules
 serve_laws = record {
   honest = λ x part out status n answer. honest_nothing x out n (replies_are_block (lines_of answer.lines) (first_store x answer.role) out answer.replies.0 answer.replies.1).nothing;
   names = λ x part r refused. subst HasNames (sym refused.rejection_is) (record { first = tt; second = tt });
   distinct = λ once x part out status r admitted answer refused. refused.none answer.role answer.lines answer.opens;
   one_refusal = λ once x part r s admitted one other. one.rejection_is ∙ sym other.rejection_is;
-  one_answer = λ once x part out out' status status' admitted determined one other. absurd determined;
+  one_answer = λ once x part out out' status status' admitted determined one other. once x part out out' status status' admitted one other;
 }

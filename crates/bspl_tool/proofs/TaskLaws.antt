@@ -9,6 +9,7 @@ use Rattle.agent_commands.specs.GenerateAnswer.{generate_rules}
 use Rattle.evidence_commands.specs.ReplayAnswer.{replay_rules}
 use Rattle.agent_commands.specs.RestartAnswer.{restart_rules}
 use Rattle.agent_commands.specs.RunAnswer.{run_rules}
+use Rattle.agent_commands.specs.ServeAnswer.{OneServeAnswer, serve_rules}
 use Rattle.bspl_tool.specs.Task.{task_rules}
 use Rattle.bspl_tool.proofs.AuditLaws.{OneAudit, audit_laws}
 use Rattle.bspl_tool.proofs.CheckDeadLaws.{OneCheckDead, check_dead_laws}
@@ -32,6 +33,7 @@ pub record OneEvidence : Type 0 where
   pub agents : OneAgents
   pub dead : OneCheckDead
   pub audit : OneAudit
+  pub serve : OneServeAnswer
 
 -- one row for each command
 pub laws_of : (task : Task) → CommandLaws OneEvidence (task_rules task)
@@ -43,6 +45,6 @@ laws_of (Run brief conflicts threads) = with_more (run_rules brief conflicts thr
 laws_of (Restart brief conflicts) = with_more (restart_rules brief conflicts) (λ once. once.agents) (restart_laws brief conflicts)
 laws_of (Dead brief conflicts) = dead_laws brief conflicts
 laws_of CheckDead = with_more check_dead_rules (λ once. once.dead) check_dead_laws
-laws_of Serve = serve_laws
+laws_of Serve = with_more serve_rules (λ once. once.serve) serve_laws
 laws_of Audit = with_more audit_rules (λ once. once.audit) audit_laws
 laws_of (Generate stages conflicts threads) = with_more (generate_rules stages conflicts threads) (λ once. once.agents) (generate_laws stages conflicts threads)

@@ -8,8 +8,8 @@ pub fn calls_are_true()
 
 /// A law: each command line requests a task, and arguments that are none get the usage line alone.
 /// There is one reason at most to refuse arguments and an input, what is refused is not answered,
-/// and `check`, `check-dead`, `replay` and `expand` have one answer at most. `verify`, `dead` and
-/// `run` may have several: the search may find another run, log or number of steps, and the answer
+/// and `check`, `check-dead`, `replay`, `serve` and `expand` have one answer at most. `verify`,
+/// `dead` and `run` may have several: the search may find another run, log or number of steps, and the answer
 /// with it is right too. So it is with `audit`, whose run or cycle may be another.
 pub fn answers_are_distinct()
     ensures tasks { LinesRequestTasks }
@@ -40,4 +40,6 @@ pub fn answers_are_distinct()
     script_text::reads_once();
     // law: a text is that of one list of histories at most, or has one first bad line
     history_audit::reads_once();
+    // law: the lines for a role have one answer
+    agent_commands::serve_answers_once();
 }

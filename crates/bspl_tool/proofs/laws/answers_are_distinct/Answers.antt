@@ -42,5 +42,6 @@ returns c =
           refusals = c.reads_once-4.ensures.refusals;
           exclusive = c.reads_once-4.ensures.exclusive;
         };
+        serve = c.serve_answers_once.ensures;
       };
     } in record { tasks = λ args is. line_has_task args is.0 is.1; usage = usage_law; rejection = rejection_law each; refused = refusal_law each; answer = answer_law each }
