@@ -1,0 +1,3 @@
+mod CrashLemmas
+mod HalfLemmas
+mod TextLemmas

@@ -1,0 +1,69 @@
+ghost use Rattle.std.specs.Prelude.{◌≡◌, IsErrOf};
+ghost use Rattle.bspl_io.specs.Faults.{HasCounted};
+ghost use Rattle.kept_lines.specs.Passage.{KeepsFirst};
+
+use super::journal::Journal;
+use bspl_io::{Sink, Trouble, WriteRefusal, write_all};
+
+/// Why the replies to lines were not written whole.
+#[derive(Clone, Copy, Debug, PartialEq, Eq)]
+pub enum AnswerRefusal {
+    /// Keeping failed, and was counted. No reply was written.
+    JournalFault,
+    /// Writing failed, and was counted. The lines are kept, and the replies may be cut short.
+    WriteFault,
+    /// Memory ran out.
+    NoMemory,
+}
+
+impl From<Trouble> for AnswerRefusal {
+    ghost use Rattle.std.specs.Prelude.{◌≡◌};
+    ghost use Rattle.kept_lines.specs.Refusal.{refusal_of_journal};
+
+    ghost from_gives = { λ trouble refusal. refusal ≡ refusal_of_journal trouble };
+
+    fn from(trouble: Trouble) -> AnswerRefusal {
+        match trouble {
+            Trouble::Failed => AnswerRefusal::JournalFault,
+            Trouble::NoMemory => AnswerRefusal::NoMemory,
+        }
+    }
+}
+
+impl From<WriteRefusal> for AnswerRefusal {
+    ghost use Rattle.std.specs.Prelude.{◌≡◌};
+    ghost use Rattle.kept_lines.specs.Refusal.{refusal_of_sink};
+
+    ghost from_gives = { λ written refusal. refusal ≡ refusal_of_sink written };
+
+    fn from(refusal: WriteRefusal) -> AnswerRefusal {
+        match refusal {
+            WriteRefusal::WriteFault => AnswerRefusal::WriteFault,
+            WriteRefusal::NoMemory => AnswerRefusal::NoMemory,
+        }
+    }
+}
+
+/// Keeps the lines, and then writes the replies to them.
+pub fn keep_and_write<J: Journal, W: Sink>(
+    journal: &mut J,
+    output: &mut W,
+    lines: &[u8],
+    replies: &[u8],
+) -> Result<(), AnswerRefusal>
+    ensures order { KeepsFirst (record { kept = J.kept journal.old;
+        kept_after = J.kept journal.new; contents = W.contents output.old;
+        contents_after = W.contents output.new }) lines.now replies.now result }
+    ensures keep_counted { IsErrOf result AnswerRefusal.JournalFault →
+        HasCounted (J.faults journal.old) (J.faults journal.new) }
+    ensures keep_still { ¬ IsErrOf result AnswerRefusal.JournalFault →
+        J.faults journal.new ≡ J.faults journal.old }
+    ensures write_counted { IsErrOf result AnswerRefusal.WriteFault →
+        HasCounted (W.faults output.old) (W.faults output.new) }
+    ensures write_still { ¬ IsErrOf result AnswerRefusal.WriteFault →
+        W.faults output.new ≡ W.faults output.old }
+{
+    journal.keep(lines)?;
+    write_all(output, replies)?;
+    Ok(())
+}
