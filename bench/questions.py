@@ -9,8 +9,10 @@ many of their questions are possible; the clauses of the largest formula; and se
 -no-pre` on the formulas of all questions together, from files that checks/ask/by_formula.py writes; of `ask NAME
 QUESTION --brief` for each question, and the ratio of that to minisat's; of `ask NAME --all --brief`, which makes the
 clauses that all questions share once, and its ratio; and of `verify NAME --brief`, with the ratio of one `ask` to it.
-The least of RUNS (3) runs counts. What differs is said, and the status is 1. BSPL and BSPL_MORE name the
-programs (crates/bspl/out/bspl, crates/bspl_more/out/bspl_more).
+Then come the four long protocols again, with a hundred rules each, made of their messages: the seconds of one `ask`,
+the mean over all hundred questions; of `verify`, and the ratio to it, which should be at most 1.5; and of `ask --all`,
+and its ratio to one `ask`, which should be at most 20. The least of RUNS (3) runs counts. What differs is said, and the
+status is 1. BSPL and BSPL_MORE name the programs (crates/bspl/out/bspl, crates/bspl_more/out/bspl_more).
 """
 import os
 import shutil
@@ -36,12 +38,19 @@ RULES = {
 }
 HEAD = (f"{'protocol':24}{'rules':>6}{'possible':>9}{'clauses':>9}{'minisat':>9}{'ask':>9}{'ratio':>7}{'all':>9}"
         f"{'ratio':>7}{'verify':>9}{'ratio':>7}")
+HEAD_OF_HUNDRED = f"\n{'protocol':24}{'rules':>6}{'ask':>9}{'verify':>9}{'ratio':>7}{'all':>9}{'ratio':>7}"
 
 
-def with_rules(name, text):
-    """The text with the rules of the protocol before its brace."""
-    lines = "".join(f"  //? {rule}\n" for rule in RULES[name])
-    return text.removesuffix("}\n") + lines + "}\n"
+def with_rules(text, found):
+    """The text with these rules before its last brace."""
+    return text.removesuffix("}\n") + "".join(f"  //? {rule}\n" for rule in found) + "}\n"
+
+
+def hundred(it):
+    """A hundred rules, kept or not: each message can be sent, and none is sent before the one above it."""
+    names = [message.name for message in it.messages]
+    ordered = [f"never sent {later} before sent {name}" for name, later in zip(names, names[1:])]
+    return [*(f"some sent {name}" for name in names), *ordered][:100]
 
 
 def write_formula(formula, shared, tree, path):
@@ -76,6 +85,24 @@ def asked(name, text, found):
     return [run.status for run in runs], sum(run.processor for run in runs)
 
 
+def ratio(one, other):
+    return f"{one / max(other, 1e-4):7.2f}"
+
+
+def row_of_hundred(name, text):
+    """Prints the line of a protocol with a hundred rules, and gives what differs."""
+    text = with_rules(text, hundred(protocol.expansion(text, name)))
+    found, given = rules.rules_of(text, name), text.encode("latin-1")
+    statuses, asking = asked(name, given, found)
+    one = asking / len(found)
+    whole = least([MORE, "ask", name, "--all", "--brief"], given)
+    verifying = least([BSPL, "verify", name, "--brief"], given).processor
+    print(f"{name:24}{len(found):>6}{one:9.3f}{verifying:9.3f}{ratio(one, verifying)}{whole.processor:9.3f}"
+          f"{ratio(whole.processor, one)}", flush=True)
+    kept = all((status == 0) == (sense == "some") for (sense, _, _), status in zip(found, statuses))
+    return [] if whole.status == (not kept) else [f"{name}: status {whole.status} of a hundred rules"]
+
+
 def row(name, text, folder):
     """Prints the line of a protocol, and gives what differs."""
     found = rules.rules_of(text, name)
@@ -86,7 +113,6 @@ def row(name, text, folder):
     statuses, asking = asked(name, given, found)
     whole = least([MORE, "ask", name, "--all", "--brief"], given)
     verifying = least([BSPL, "verify", name, "--brief"], given).processor
-    ratio = lambda one, other: f"{one / max(other, 1e-4):7.2f}"
     print(f"{name:24}{len(found):>6}{sum(answers):>9}{clauses:>9}{solving:9.3f}{asking:9.3f}{ratio(asking, solving)}"
           f"{whole.processor:9.3f}{ratio(whole.processor, solving)}{verifying:9.3f}"
           f"{ratio(asking / len(found), verifying)}", flush=True)
@@ -104,11 +130,13 @@ def main():
     folders = [Path(f) for f in sys.argv[1:]] or [TOP / "examples"]
     files = sorted(path for folder in folders for path in folder.glob("*.bspl"))
     texts = [(path.stem, path.read_bytes().decode("latin-1")) for path in files]
-    for name, text in [("Choices", choices()), ("Deals", deals()), ("Random", randomly()), ("Waiting", waiting())]:
-        texts.append((name, with_rules(name, text)))
+    long = [("Choices", choices()), ("Deals", deals()), ("Random", randomly()), ("Waiting", waiting())]
+    texts += [(name, with_rules(text, RULES[name])) for name, text in long]
     print(HEAD)
     with tempfile.TemporaryDirectory() as folder:
         faults = [fault for name, text in texts for fault in row(name, text, folder)]
+    print(HEAD_OF_HUNDRED)
+    faults += [fault for name, text in long for fault in row_of_hundred(name, text)]
     for fault in faults:
         print(fault)
     return 1 if faults else 0
