@@ -1,0 +1,5 @@
+mod ListedLemmas
+mod KnownLemmas
+mod WithinLemmas
+mod EnabledLemmas
+mod LawLemmas

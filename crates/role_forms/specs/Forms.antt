@@ -1,0 +1,45 @@
+-- What a role may send now under a key, and what its sender still has to choose.
+use Rattle.std.specs.Prelude.{◌≡◌, ◌↔◌, ℕ, ◌<◌, List, map, IsTrue}
+use Rattle.std.specs.List.{All, AllPairs, Contains}
+use Rattle.bspl_types.specs.declared.event.Event.{Event}
+use Rattle.bspl_types.specs.declared.expanded.Expanded.{Expanded}
+use Rattle.bspl_types.specs.declared.protocol.Adornment.TheVariants.{In}
+use Rattle.bspl_types.specs.declared.protocol.Carried.{Carried}
+use Rattle.bspl_types.specs.declared.value.Value.{Value}
+use Rattle.bspl_types.specs.Choice.{chosen_params}
+use Rattle.bspl_types.specs.Expansion.{message_of}
+use Rattle.bspl_types.specs.Knowledge.{CanEmit, Knows}
+use Rattle.enactment_model.specs.Liveness.{IsEmitted}
+use Rattle.local_store.specs.State.{StoreState, acts_of}
+use Rattle.role_forms.specs.declared.form.Form.{Form}
+use Rattle.role_forms.specs.declared.form.KnownValue.{KnownValue}
+use Rattle.role_forms.specs.Known.{ListsValue}
+
+-- the role sends the message, and can emit it now under the key
+pub record MaySend (s : StoreState) (key : List Value) (m : ℕ) : Type 0 where
+  pub own : (message_of s.protocol m).sender ≡ s.role
+  pub can : CanEmit s.protocol (acts_of s) m key
+
+-- exactly the messages that the role may send, in the protocol's order
+pub record AreEnabled (s : StoreState) (key : List Value) (messages : List ℕ) : Type 0 where
+  pub each : All (MaySend s key) messages
+  pub all : (m : ℕ) → MaySend s key m → Contains messages m
+  pub in_order : AllPairs ◌<◌ messages
+
+-- of the `in` parameters among these, exactly what is known under the key
+abbrev pub ListsIns : Expanded → List Event → List Value → List Carried → List KnownValue → Type 0
+ListsIns x history key carried list = (p : ℕ) (v : Value) → ListsValue list p v ↔
+    (Contains carried (record { param = p; adornment = In }) × Knows x history key p v)
+
+-- the form of a message that the role may send: whether it was emitted before, what is known of its
+-- `in` parameters, and the parameters whose values its sender chooses
+pub record IsForm (s : StoreState) (key : List Value) (f : Form) : Type 0 where
+  pub may : MaySend s key f.message
+  pub before : IsTrue f.sent ↔ IsEmitted (acts_of s) key f.message
+  pub ins_are : ListsIns s.protocol (acts_of s) key (message_of s.protocol f.message).carried f.ins
+  pub outs_are : f.outs ≡ map (λ c. c.param) (chosen_params s.protocol f.message)
+
+-- the forms of exactly the messages that the role may send, in the protocol's order
+pub record AreForms (s : StoreState) (key : List Value) (forms : List Form) : Type 0 where
+  pub messages : AreEnabled s key (map (λ f. f.message) forms)
+  pub each : All (IsForm s key) forms
