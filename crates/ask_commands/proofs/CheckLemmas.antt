@@ -31,7 +31,7 @@ use Rattle.tool_input.specs.Error.{RejectsFor, error_for}
 use Rattle.tool_input.specs.Lines.{line}
 use Rattle.ask_commands.specs.declared.wording.TheConstants as wording
 use Rattle.ask_commands.specs.AskAnswer.{phrase_spelling}
-use Rattle.ask_commands.specs.CheckAnswer.{HasQuestionTitle, IsCheckAskAnswer, IsCheckAskRefused, IsSpelledQuestion}
+use Rattle.ask_commands.specs.CheckAnswer.{HasQuestionTitle, IsCheckAskRefused, IsLogOnQuestion, IsSpelledQuestion}
 
 -- a first line that is none
 pub not_titled : (x : Expanded) (part : List ℕ) → ¬ HasQuestionTitle x part → RejectsFor (IsCheckAskRefused x part) (error_for (log_rejection (Form 1)))
@@ -48,14 +48,6 @@ pub rest_refused : (x : Expanded) (part : List ℕ) (title : HasQuestionTitle x 
 rest_refused x part title (Form number) refused = record { refusal = Form number; refused = inr (record { title = title; refused = refused }); rejection_is = refl }
 rest_refused x part title (Number number) refused = record { refusal = Number number; refused = record { title = title; refused = refused }; rejection_is = refl }
 rest_refused x part title NoMemory refused = tt
-
--- a log that is accepted
-pub accepted_log : (x : Expanded) (part out : List ℕ) (title : HasQuestionTitle x part) (log : Log) → IsRestOfLog title.version title.rest log → AcceptsImpossible x title.question log → ¬ IsPossible x title.question → out ≡ line (wording.ACCEPTED.now ++ title.spelling) → IsCheckAskAnswer x part out Done
-accepted_log x part out title log is_rest accepts impossible is = record { title = title; log = log; is_rest = is_rest; answer = inl (record { accepts = accepts; impossible = impossible; text = is; done = refl }) }
-
--- and one that is not
-pub rejected_log : (x : Expanded) (part out : List ℕ) (title : HasQuestionTitle x part) (log : Log) (reject : Reject) → IsRestOfLog title.version title.rest log → FailsImpossible x title.question log reject → out ≡ reject_line reject → IsCheckAskAnswer x part out Refuted
-rejected_log x part out title log reject is_rest fails is = record { title = title; log = log; is_rest = is_rest; answer = inr (record { reject = reject; fails = fails; text = is; refuted = refl }) }
 
 -- the first line is longer than its question
 title_length : (version : Version) (spelling : List ℕ) → length spelling ≤ length (question_title version spelling)
@@ -117,4 +109,15 @@ title_of x part spelling rest version q titled (phrase, asks) = record {
   phrase = phrase;
   question = q;
   asks = asks;
+}
+
+-- and the log after it
+pub log_on : (x : Expanded) (part spelling rest : List ℕ) (version : Version) (q : Question) (log : Log) → IsTitled part version spelling rest → ((phrase : Phrase) × IsSpelledQuestion x spelling phrase q) → IsRestOfLog version rest log → IsLogOnQuestion x part spelling q log
+log_on x part spelling rest version q log titled (phrase, asks) is_rest = record {
+  version = version;
+  rest = rest;
+  titled = titled;
+  phrase = phrase;
+  asks = asks;
+  is_rest = is_rest;
 }

@@ -23,7 +23,7 @@ use Rattle.tool_input.specs.Lines.{line}
 use Rattle.ask_commands.specs.declared.options.AskOptions.{AskOptions}
 use Rattle.ask_commands.specs.declared.wording.TheConstants as wording
 use Rattle.ask_commands.specs.AskAnswer.{IsAskAnswer, ask_text, asked_protocol_line, possibility_evidence, possibility_line}
-use Rattle.ask_commands.specs.CheckAnswer.{HasQuestionTitle, IsCheckAskAnswer}
+use Rattle.ask_commands.specs.CheckAnswer.{IsCheckAskAnswer, IsSpelledQuestion}
 use Rattle.ask_commands.specs.Claims.{SaysAcceptedQuestion, SaysImpossible, SaysOfQuestion, SaysPossible}
 
 -- a question means one of the protocol at most, and that has one answer
@@ -90,16 +90,16 @@ titled_alike title text same =
     append_cancel_left wording.ACCEPTED.now title text (append_cancel_right (wording.ACCEPTED.now ++ title) (wording.ACCEPTED.now ++ text) (10 ∷ []) same)
 
 -- a question that is not possible, in the words of another text of it
-titled_impossible : OneMeaning → HasOneTree → (x : Expanded) (part text : List ℕ) (tree : Tree) (q : Question) (title : HasQuestionTitle x part) → title.spelling ≡ text → IsQuestionText text tree → AsksQuestion x tree q → ¬ IsPossible x title.question → ¬ IsPossible x q
-titled_impossible law trees x part text tree q title same read asks impossible = λ possible.
-    let its = title.asks.read in
+titled_impossible : OneMeaning → HasOneTree → (x : Expanded) (title text : List ℕ) (phrase : Phrase) (tree : Tree) (asked q : Question) → IsSpelledQuestion x title phrase asked → title ≡ text → IsQuestionText text tree → AsksQuestion x tree q → ¬ IsPossible x asked → ¬ IsPossible x q
+titled_impossible law trees x title text phrase tree asked q is same read asks impossible = λ possible.
+    let its = is.read in
     let one : phrase_of tree ≡ phrase_of its.tree = trees text tree its.tree read (subst (λ (t : List ℕ). IsQuestionText t its.tree) same its.read) in
-    let means : AsksQuestion x its.tree title.question = subst (λ (p : Phrase). MeansQuestion x p title.question) (sym its.phrase_is) title.asks.means in
-    impossible (same_possible law x tree its.tree q title.question one asks means possible)
+    let means : AsksQuestion x its.tree asked = subst (λ (p : Phrase). MeansQuestion x p asked) (sym its.phrase_is) is.means in
+    impossible (same_possible law x tree its.tree q asked one asks means possible)
 
 pub accepted_impossible : OneMeaning → HasOneTree → (x : Expanded) (part text out : List ℕ) (ends : Status) (tree : Tree) (q : Question) → IsCheckAskAnswer x part out ends → IsQuestionText text tree → AsksQuestion x tree q → SaysAcceptedQuestion text out → ¬ IsPossible x q
 accepted_impossible law trees x part text out ends tree q is read asks says =
     elim is.answer [
-      | inl accepted ↦ titled_impossible law trees x part text tree q is.title (titled_alike is.title.spelling text (sym accepted.text ∙ says)) read asks accepted.impossible
+      | inl accepted ↦ titled_impossible law trees x is.spelling text is.read.phrase tree is.question q is.read.asks (titled_alike is.spelling text (sym accepted.text ∙ says)) read asks accepted.impossible
       | inr rejected ↦ absurd (not_rejected rejected.reject text (sym rejected.text ∙ says))
     ]

@@ -1,18 +1,16 @@
 -- What the arguments request, as the code keeps it.
 use Rattle.std.specs.Prelude.{ℕ, List, Option, None, Some}
 use Rattle.question_text.specs.Tree.{phrase_of}
-use Rattle.tool_input.specs.declared.rejection.Code.TheVariants.{Q}
-use Rattle.tool_input.specs.declared.rejection.Field.TheVariants as field
-use Rattle.tool_input.specs.Rejection.{with_one}
 use Rattle.ask_commands.specs.declared.command.AskCommand.{AskCommand}
 use Rattle.ask_commands.specs.declared.command.AskCommand.TheVariants as command
 use Rattle.ask_commands.specs.declared.command.AskRequest.{AskRequest}
 use Rattle.ask_commands.specs.AskTask.{AskTask, Check, Judge, Misput, Put, RequestsAsk}
+use Rattle.ask_commands.specs.Misread.{misread_rejection}
 
 -- the task of a command
 abbrev pub ask_task : AskCommand → AskTask
 ask_task (command.Put question options) = Put (phrase_of question) options
-ask_task (command.Misread code number) = Misput (with_one (Q code) (field.Number number))
+ask_task (command.Misread misread) = Misput (misread_rejection misread)
 ask_task command.Check = Check
 ask_task (command.Judge options) = Judge options
 

@@ -42,6 +42,16 @@ pub record HasQuestionTitle (x : Expanded) (bytes : List ℕ) : Type 0 where
   pub question : Question
   pub asks : IsSpelledQuestion x spelling phrase question
 
+-- the bytes are the text of the log on this question, which is so spelled
+pub record IsLogOnQuestion (x : Expanded) (bytes spelling : List ℕ) (q : Question) (log : Log)
+    : Type 0 where
+  pub version : Version
+  pub rest : List ℕ
+  pub titled : IsTitled bytes version spelling rest
+  pub phrase : Phrase
+  pub asks : IsSpelledQuestion x spelling phrase q
+  pub is_rest : IsRestOfLog version rest log
+
 -- the log is accepted, so that no legal run gives the answer yes, and the text says so
 pub record SaysAcceptedImpossible (x : Expanded) (title : List ℕ) (q : Question) (log : Log)
     (out : List ℕ) (status : Status) : Type 0 where
@@ -60,11 +70,12 @@ pub record SaysRejectedImpossible (x : Expanded) (q : Question) (log : Log) (out
 
 -- the part is the text of a log on a question, and the answer says whether it is accepted
 pub record IsCheckAskAnswer (x : Expanded) (part out : List ℕ) (status : Status) : Type 0 where
-  pub title : HasQuestionTitle x part
+  pub spelling : List ℕ
+  pub question : Question
   pub log : Log
-  pub is_rest : IsRestOfLog title.version title.rest log
-  pub answer : SaysAcceptedImpossible x title.spelling title.question log out status ⊎
-      SaysRejectedImpossible x title.question log out status
+  pub read : IsLogOnQuestion x part spelling question log
+  pub answer : SaysAcceptedImpossible x spelling question log out status ⊎
+      SaysRejectedImpossible x question log out status
 
 -- after such a first line comes what is refused so
 pub record IsRefusedAfterTitle (x : Expanded) (part : List ℕ) (refusal : LogRefusal)

@@ -2,6 +2,7 @@
 -- cite is last.
 pub mod AskArguments
 pub mod AskTask
+pub mod Misread
 pub mod AskCommand
 pub mod AskAnswer
 pub mod CheckAnswer

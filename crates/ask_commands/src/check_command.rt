@@ -1,33 +1,20 @@
-ghost use Rattle.std.specs.Prelude.{◌≡◌, ◌≢◌, ◌≤◌, ◌↔◌, ◌++◌, length, IfErr, IfOk, IfSome, IsTrue};
-ghost use Rattle.std.specs.Prelude.{MatchOption, OnOk};
+ghost use Rattle.std.specs.Prelude.{◌≡◌, ◌≤◌, ◌++◌, length, IfErr, IfOk};
 ghost use Rattle.bspl_types.specs.Limits.{input_limit};
-ghost use Rattle.question_text.specs.Tree.{Phrase};
-ghost use Rattle.questions.specs.Subject.{IsAbout};
-ghost use Rattle.questions.specs.declared.question.Question.{Question as SpecQuestion};
-ghost use Rattle.rejections.specs.PartRejection.{log_rejection};
-ghost use Rattle.tool_input.specs.Error.{RejectsFor, error_for};
+ghost use Rattle.tool_input.specs.Error.{RejectsFor};
 ghost use Rattle.tool_input.specs.Lines.{line};
 ghost use Rattle.ask_commands.specs.CheckAnswer.{IsCheckAskAnswer, IsCheckAskRefused};
-ghost use Rattle.ask_commands.specs.CheckAnswer.{IsSpelledQuestion};
 ghost use Rattle.ask_commands.specs.declared.wording.TheConstants as wording;
 
+use super::question_log::{QuestionLog, read_question_log};
 use super::wording::ACCEPTED;
-use bspl_types::{Admitted, Expanded};
+use bspl_types::Admitted;
 use list_base::{Bytes, NoMemory};
 use log_checker::Reject;
 use program_frame::Reply;
-use question_answer::{
-    check_question, question_steps_are_fewer_than_bytes, read_titled_log, split_title, titled_once,
-};
-use question_text::{
-    QuestionFault, UnknownName, means_once, one_question, question_of, read_question,
-    write_spelling,
-};
-use questions::Question;
-use refutation_log::LogRefusal;
-use rejections::{log_rejection, reject_line};
+use question_answer::check_question;
+use rejections::reject_line;
 use std::alloc::Global;
-use tool_input::{AnswerError, Status, error_for};
+use tool_input::{AnswerError, Status};
 
 /// Answers whether a log, which anybody may have made, refutes its question.
 pub fn check(alloc: Global, protocol: &Admitted, part: &[u8]) -> Result<Reply<Status>, AnswerError>
@@ -36,20 +23,11 @@ pub fn check(alloc: Global, protocol: &Admitted, part: &[u8]) -> Result<Reply<St
         IsCheckAskAnswer protocol.now part.now reply.text reply.status) }
     ensures refused { IfErr result (RejectsFor (IsCheckAskRefused protocol.now part.now)) }
 {
-    // law: a log has no more steps than its text has bytes
-    question_steps_are_fewer_than_bytes();
-    // law: a text has one first line
-    titled_once();
-    let Some((version, spelling, rest)) = split_title(part) else {
-        return Err(bad_title());
-    };
-    let Some(question) = spelled_question(alloc, protocol.expanded(), spelling)? else {
-        return Err(bad_title());
-    };
-    let log = match read_titled_log(alloc, version, rest) {
-        Ok(log) => log,
-        Err(refusal) => return Err(error_for(log_rejection(refusal))),
-    };
+    let QuestionLog {
+        spelling,
+        question,
+        log,
+    } = read_question_log(alloc, protocol.expanded(), part)?;
     let checked = check_question(alloc, protocol, &question, &log);
     drop(log);
     match checked {
@@ -62,72 +40,6 @@ pub fn check(alloc: Global, protocol: &Admitted, part: &[u8]) -> Result<Reply<St
             status: Status::Refuted,
             text: reject_line(alloc, reject)?,
         }),
-    }
-}
-
-/// The error for a first line that is none.
-fn bad_title() -> AnswerError
-    ensures { result ≡ error_for (log_rejection (LogRefusal.Form 1)) }
-{
-    error_for(log_rejection(LogRefusal::Form { line: 1 }))
-}
-
-/// The question that the text spells as answers do, if it is about the protocol.
-fn spelled_question(alloc: Global, x: &Expanded, text: &[u8]) -> Result<Option<Question>, NoMemory>
-    requires { length text.now ≤ 4294967295 }
-    ensures exact { IfOk result (λ found. MatchOption found
-        ((phrase : Phrase) (q : SpecQuestion) → ¬ IsSpelledQuestion x.now text.now phrase q)
-        (λ q. (phrase : Phrase) × IsSpelledQuestion x.now text.now phrase q)) }
-    ensures about { IfOk result (λ found. IfSome found (IsAbout x.now)) }
-{
-    // law: a text is one question at most, or is refused for one reason
-    one_question();
-    // law: a question means one of the protocol at most, or has one first unknown name
-    means_once();
-    let tree = match read_question(alloc, text) {
-        Ok(tree) => tree,
-        Err(fault) => {
-            misread(fault)?;
-            return Ok(None);
-        }
-    };
-    let spelling = write_spelling(alloc, &tree)?;
-    if !are_same(spelling.as_slice(), text) {
-        return Ok(None);
-    }
-    match question_of(alloc, x, &tree) {
-        Ok(question) => Ok(Some(question)),
-        Err(name) => {
-            unknown(&name)?;
-            Ok(None)
-        }
-    }
-}
-
-/// Whether the texts are the same.
-fn are_same(one: &[u8], other: &[u8]) -> bool
-    ensures { IsTrue result ↔ (one.now ≡ other.now) }
-{
-    one == other
-}
-
-/// The text is no question, unless memory ran out.
-fn misread(fault: QuestionFault) -> Result<(), NoMemory>
-    ensures { OnOk result (fault ≢ QuestionFault.NoMemory) }
-{
-    match fault {
-        QuestionFault::Byte(_) | QuestionFault::TooLong(_) | QuestionFault::Syntax(_) => Ok(()),
-        QuestionFault::NoMemory => Err(NoMemory),
-    }
-}
-
-/// The protocol does not have the name, unless memory ran out.
-fn unknown(name: &UnknownName) -> Result<(), NoMemory>
-    ensures { OnOk result (name.now ≢ UnknownName.NoMemory) }
-{
-    match name {
-        UnknownName::Message(_) | UnknownName::Role(_) | UnknownName::Parameter(_) => Ok(()),
-        UnknownName::NoMemory => Err(NoMemory),
     }
 }
 

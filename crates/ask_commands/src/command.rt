@@ -1,9 +1,5 @@
-ghost use Rattle.std.specs.Prelude.{◌≡◌};
-ghost use Rattle.tool_input.specs.Rejection.{with_one};
-ghost use Rattle.tool_input.specs.declared.rejection.Code.TheVariants.{Q};
-ghost use Rattle.tool_input.specs.declared.rejection.Field.TheVariants as field;
-
 use super::check_command::check;
+use super::misread::Misread;
 use super::options::AskOptions;
 use super::question_command::ask;
 use super::rules_command::judge;
@@ -11,15 +7,15 @@ use bspl_types::Admitted;
 use program_frame::Reply;
 use question_text::Tree;
 use std::alloc::Global;
-use tool_input::{AnswerError, Code, Field, Need, Part, Rejection, Status};
+use tool_input::{AnswerError, Need, Part, Rejection, Status};
 
 /// What the arguments of `ask` ask of a protocol.
 #[derive(Drop)]
 pub enum AskCommand {
     /// Whether the question is possible.
     Put { question: Tree, options: AskOptions },
-    /// Nothing: the text is no question, and this number of the code Q says why.
-    Misread { code: u8, number: u64 },
+    /// Nothing: the text is no question, for this reason.
+    Misread(Misread),
     /// Whether a log refutes its question.
     Check,
     /// Whether the protocol keeps the rules in its text.
@@ -47,7 +43,7 @@ impl AskCommand {
         ensures { result ≡ (ask_rules (ask_task self.now)).needs }
     {
         match self {
-            AskCommand::Put { .. } | AskCommand::Misread { .. } => Need::Nothing,
+            AskCommand::Put { .. } | AskCommand::Misread(_) => Need::Nothing,
             AskCommand::Check => Need::Part(Part::Log),
             AskCommand::Judge(_) => Need::Input,
         }
@@ -58,7 +54,7 @@ impl AskCommand {
         ensures { result ≡ ask_refused_at_once (ask_task self.now) }
     {
         match self {
-            AskCommand::Misread { code, number } => Some(misread(*code, *number)),
+            AskCommand::Misread(misread) => Some(misread.rejection()),
             _ => None,
         }
     }
@@ -78,18 +74,9 @@ impl AskCommand {
     {
         match self {
             AskCommand::Put { question, options } => ask(alloc, protocol, question, *options),
-            AskCommand::Misread { code, number } => {
-                Err(AnswerError::Rejected(misread(*code, *number)))
-            }
+            AskCommand::Misread(misread) => Err(AnswerError::Rejected(misread.rejection())),
             AskCommand::Check => check(alloc, protocol, given),
             AskCommand::Judge(options) => judge(alloc, protocol, given, *options),
         }
     }
-}
-
-/// The rejection of a text that is no question.
-fn misread(code: u8, number: u64) -> Rejection
-    ensures { result ≡ with_one (Q code) (field.Number number) }
-{
-    Rejection::with_one(Code::Q(code), Field::Number(number))
 }

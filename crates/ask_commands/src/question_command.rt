@@ -44,7 +44,7 @@ pub fn ask(
 }
 
 /// The question that the tree asks of the protocol.
-pub(crate) fn asked(alloc: Global, x: &Expanded, tree: &Tree) -> Result<Question, AnswerError>
+pub fn asked(alloc: Global, x: &Expanded, tree: &Tree) -> Result<Question, AnswerError>
     ensures means { IfOk result (MeansQuestion x.now (phrase_of tree.now)) }
     ensures about { IfOk result (IsAbout x.now) }
     ensures refused { IfErr result (RejectsFor (IsAskRefused x.now (phrase_of tree.now))) }

@@ -7,10 +7,10 @@ ghost use Rattle.ask_commands.specs.inner.Request.{IsRequestByKind, by_kind_of};
 use super::arguments::{Sorted, by_kind};
 use super::command::{AskCommand, AskRequest};
 use super::conflicts::conflicts_of;
+use super::misread::question_or_misread;
 use super::options::AskOptions;
 use bspl_types::is_name;
 use list_base::NoMemory;
-use question_text::{QuestionFault, read_question};
 use std::alloc::Global;
 
 /// The most bytes of a question, whose offsets a count of 32 bits can give.
@@ -98,12 +98,9 @@ fn put(alloc: Global, text: &[u8], options: AskOptions) -> Result<AskCommand, No
     requires { length text.now ≤ 4294967295 }
     ensures { IfOk result (λ command. PutsText text.now options (ask_task command)) }
 {
-    match read_question(alloc, text) {
+    match question_or_misread(alloc, text)? {
         Ok(question) => Ok(AskCommand::Put { question, options }),
-        Err(QuestionFault::Byte(number)) => Ok(AskCommand::Misread { code: 1, number }),
-        Err(QuestionFault::TooLong(number)) => Ok(AskCommand::Misread { code: 2, number }),
-        Err(QuestionFault::Syntax(number)) => Ok(AskCommand::Misread { code: 3, number }),
-        Err(QuestionFault::NoMemory) => Err(NoMemory),
+        Err(misread) => Ok(AskCommand::Misread(misread)),
     }
 }
 

@@ -8,3 +8,4 @@ pub mod Reading
 pub mod Numbering
 pub mod Written
 pub mod AskedLemmas
+pub mod SameLemmas

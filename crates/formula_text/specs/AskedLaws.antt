@@ -6,6 +6,7 @@ use Rattle.clause_core.specs.declared.formula.Formula.{Formula}
 use Rattle.dimacs.specs.Dimacs.{IsDimacs}
 use Rattle.question_formula.specs.Formula.{IsQuestionFormula}
 use Rattle.questions.specs.declared.question.Question.{Question}
+use Rattle.questions.specs.Same.{AskTheSame}
 use Rattle.formula_text.specs.AskedText.{FitsText, IsQuestionFormulaText, question_legend}
 use Rattle.formula_text.specs.AskedText.{text_of_question}
 
@@ -22,6 +23,12 @@ abbrev pub NamesEachQuestionVariable : Type 0
 NamesEachQuestionVariable =
     (x : Expanded) (q : Question) (f : Formula) → IsQuestionFormula x q f →
     map (λ (variable, words). variable) (question_legend x f.vars) ≡ range_with_len 1 f.vars
+
+-- questions that ask the same, wherever their nodes lie in memory, have the same text
+abbrev pub SameHasSameFormula : Type 0
+SameHasSameFormula =
+    (spelling : List ℕ) (x : Expanded) (q r : Question) (text : List ℕ) → AskTheSame q r →
+    IsQuestionFormulaText spelling x q text → IsQuestionFormulaText spelling x r text
 
 -- a question has one text
 abbrev pub OneQuestionText : Type 0

@@ -1,5 +1,5 @@
 ghost use Rattle.formula_text.specs.AskedLaws.{NamesEachQuestionVariable, OneQuestionText};
-ghost use Rattle.formula_text.specs.AskedLaws.{QuestionReadsBack};
+ghost use Rattle.formula_text.specs.AskedLaws.{QuestionReadsBack, SameHasSameFormula};
 
 use clause_encoding::clauses_are_determined;
 
@@ -12,6 +12,11 @@ pub fn question_reads_back()
 /// A law: the legend has a line for each variable, in the order of their numbers.
 pub fn names_each_question_variable()
     ensures { NamesEachQuestionVariable }
+{}
+
+/// A law: questions that ask the same have the same text.
+pub fn same_has_same_formula()
+    ensures { SameHasSameFormula }
 {}
 
 /// A law: a question as it is spelt has one text.

@@ -13,6 +13,8 @@ mod rest;
 mod text;
 
 pub use asked::question_formula_text;
-pub use asked_laws::{names_each_question_variable, one_question_text, question_reads_back};
+pub use asked_laws::{
+    names_each_question_variable, one_question_text, question_reads_back, same_has_same_formula,
+};
 pub use laws::{names_each_variable, one_text, reads_back};
 pub use text::{enact_formula_text, formula_text};

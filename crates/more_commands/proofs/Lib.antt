@@ -3,6 +3,7 @@ pub mod FormulaLemmas
 pub mod RequestLemmas
 pub mod TruthLemmas
 pub mod FormulaOutput
+pub mod LratLemmas
 pub mod PageLemmas
 pub mod PlayLemmas
 pub mod VerdictLemmas

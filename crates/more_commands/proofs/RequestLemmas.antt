@@ -10,7 +10,7 @@ use Rattle.more_commands.specs.declared.word.CommandWord.{CommandWord}
 use Rattle.more_commands.specs.declared.word.CommandWord.TheVariants as word
 use Rattle.more_commands.specs.FormulaArguments.{FormulaSubject}
 use Rattle.more_commands.specs.Task.{Ask, AsksTask, Explain, Formula, IsNameAlone, Lrat, MoreTask, Page, more_interface, task_word, word_text}
-use Rattle.more_commands.proofs.FormulaLemmas.{one_formula}
+use Rattle.more_commands.proofs.FormulaLemmas.{OneReading, one_formula}
 
 -- the command whose word begins with the letter
 of_letter : ℕ → CommandWord
@@ -86,33 +86,33 @@ one_name : (args : List (List ℕ)) (name again : List ℕ) → IsNameAlone args
 one_name args name again one other = ap (λ (list : List (List ℕ)). get_or list 0 []) (sym one.arguments ∙ other.arguments)
 
 -- arguments after one word ask for one task
-same_task : OneTask tool_interface → OneAsk → (args : List (List ℕ)) (task other : MoreTask) (name again : List ℕ) → task_word task ≡ task_word other → AsksTask args task name → AsksTask args other again → AreSame task other name again
-same_task tool ask args (Ask task) other name again same asks also =
+same_task : OneTask tool_interface → OneAsk → OneReading → (args : List (List ℕ)) (task other : MoreTask) (name again : List ℕ) → task_word task ≡ task_word other → AsksTask args task name → AsksTask args other again → AreSame task other name again
+same_task tool ask reading args (Ask task) other name again same asks also =
     let (found, is) = is_ask other (sym same) in
     let one = ask args task found name again asks (subst (λ (t : MoreTask). AsksTask args t again) is also) in
     (ap Ask one.0 ∙ sym is, one.1)
-same_task tool ask args (Formula subject) other name again same asks also =
+same_task tool ask reading args (Formula subject) other name again same asks also =
     let (found, is) = is_formula other (sym same) in
-    let one = one_formula args name again subject found asks (subst (λ (t : MoreTask). AsksTask args t again) is also) in
+    let one = one_formula reading args name again subject found asks (subst (λ (t : MoreTask). AsksTask args t again) is also) in
     (ap Formula one.0 ∙ sym is, one.1)
-same_task tool ask args Lrat other name again same asks also =
+same_task tool ask reading args Lrat other name again same asks also =
     let is = is_lrat other (sym same) in
     (sym is, one_name args name again asks (subst (λ (t : MoreTask). AsksTask args t again) is also))
-same_task tool ask args Page other name again same asks also =
+same_task tool ask reading args Page other name again same asks also =
     let is = is_page other (sym same) in
     (sym is, one_name args name again asks (subst (λ (t : MoreTask). AsksTask args t again) is also))
-same_task tool ask args (Explain task) other name again same asks also =
+same_task tool ask reading args (Explain task) other name again same asks also =
     let (found, is) = is_explain other (sym same) in
     let one = tool args task found name again asks (subst (λ (t : MoreTask). AsksTask args t again) is also) in
     (ap Explain one.0 ∙ sym is, one.1)
 
 -- arguments request one task on one name
-pub one_task : OneTask tool_interface → OneAsk → OneTask more_interface
-one_task tool ask args task other name again one also =
+pub one_task : OneTask tool_interface → OneAsk → OneReading → OneTask more_interface
+one_task tool ask reading args task other name again one also =
     let both = sym one.arguments ∙ also.arguments in
     let word : task_word task ≡ task_word other = one_command (task_word task) (task_word other) (ap (λ (list : List (List ℕ)). get_or list 0 []) both) in
     let rest : one.rest ≡ also.rest = ap (drop 1) both in
-    same_task tool ask also.rest task other name again word (subst (λ (list : List (List ℕ)). AsksTask list task name) rest one.asks) also.asks
+    same_task tool ask reading also.rest task other name again word (subst (λ (list : List (List ℕ)). AsksTask list task name) rest one.asks) also.asks
 
 -- the words for an input that is too long say nothing of its bytes
 pub long_is_refused_alike : LongIsRefusedAlike more_interface

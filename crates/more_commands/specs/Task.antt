@@ -16,7 +16,7 @@ use Rattle.more_commands.specs.declared.word.CommandWord.{CommandWord}
 use Rattle.more_commands.specs.declared.word.CommandWord.TheVariants as word
 use Rattle.more_commands.specs.ExplainAnswer.{explain_rules}
 use Rattle.more_commands.specs.FormulaAnswer.{formula_rules}
-use Rattle.more_commands.specs.FormulaArguments.{AsksFormula, FormulaSubject}
+use Rattle.more_commands.specs.FormulaArguments.{AsksFormula, FormulaSubject, formula_refused_at_once}
 use Rattle.more_commands.specs.LratAnswer.{lrat_rules}
 use Rattle.more_commands.specs.PageAnswer.{page_rules}
 
@@ -80,6 +80,7 @@ more_own_text task = None
 -- a text that is no question is refused at once
 abbrev pub more_refused_at_once : MoreTask → Option Rejection
 more_refused_at_once (Ask task) = ask_refused_at_once task
+more_refused_at_once (Formula subject) = formula_refused_at_once subject
 more_refused_at_once task = None
 
 -- how a refusal is written: in words, or in its line

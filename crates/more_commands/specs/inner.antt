@@ -1,3 +1,4 @@
 -- What only private functions cite.
 pub mod Question
+pub mod Proof
 pub mod Section

@@ -24,7 +24,7 @@ pub(crate) fn question_of<'a>(
 {
     match word {
         CommandWord::Ask => ask_question(alloc, args),
-        CommandWord::Formula => Ok(formula_question(args)),
+        CommandWord::Formula => formula_question(alloc, args),
         CommandWord::Lrat => Ok(lrat_question(args)),
         CommandWord::Page => Ok(page_question(args)),
         CommandWord::Explain => explain_question(alloc, args),

@@ -56,6 +56,7 @@ impl MoreCommand<'_> {
     {
         match self {
             MoreCommand::Ask(command) => command.refused_at_once(),
+            MoreCommand::Formula(args) => args.refused_at_once(),
             _ => None,
         }
     }
@@ -97,7 +98,7 @@ impl MoreCommand<'_> {
     {
         match self {
             MoreCommand::Ask(command) => command.answer(alloc, &protocol, given),
-            MoreCommand::Formula(args) => formula(alloc, &protocol, *args),
+            MoreCommand::Formula(args) => formula(alloc, &protocol, args),
             MoreCommand::Lrat => lrat(alloc, &protocol, given),
             MoreCommand::Page => page(alloc, protocol, given),
             MoreCommand::Explain(task) => explain(alloc, *task, protocol, given),

@@ -4,7 +4,8 @@ ghost use Rattle.more_commands.specs.Laws.{KeptIsTrue, OneFormulaOutput, Possibl
 
 use super::question::MoreQuestion;
 use ask_commands::{possibilities_are_true, rules_are_judged_truly};
-use formula_text::one_text;
+use formula_text::{one_question_text, one_text, same_has_same_formula};
+use question_text::means_once;
 use tool_input::{Question, messages_are_named_once, texts_are_judged_once};
 
 /// A law: what an output of `ask` says of a question is true of the protocol that the input
@@ -45,8 +46,12 @@ pub fn one_output()
     texts_are_judged_once();
     // law: a name is that of one message
     messages_are_named_once();
-    // law: a protocol has one text of its formula
+    // law: a question means one of the protocol at most
+    means_once();
+    // laws: a protocol has one text of its formula, and questions that ask the same have one
     one_text();
+    one_question_text();
+    same_has_same_formula();
 }
 
 /// A law: the status 0 is that of a page on a safe and live protocol.

@@ -27,7 +27,7 @@ pub use laws::{
     answers_add_words, answers_are_true, done_answers_are_true, done_pages_are_true, one_output,
     rules_are_answered_truly,
 };
-pub use lrat_command::{log_answer, lrat};
+pub use lrat_command::{log_answer, lrat, question_log_answer};
 pub use page_command::page;
 pub use pages::{page_answer, page_with_agents, page_with_run};
 pub use question::MoreQuestion;

@@ -12,6 +12,7 @@ use bspl_tool::ToolQuestion;
 use bspl_types::Admitted;
 use list_base::{Bytes, NoMemory};
 use program_frame::Reply;
+use question_text::one_question;
 use std::alloc::Global;
 use tool_input::{AnswerError, Need, Question, Rejection, Status};
 
@@ -118,5 +119,7 @@ impl<'a> Question<'a> for MoreQuestion<'a> {
         // laws: arguments request one task of the tool at most, and one of `ask`
         ToolQuestion::asks_once();
         asks_once();
+        // law: a text is one question at most, or is refused for one reason
+        one_question();
     }
 }

@@ -5,7 +5,7 @@ pub(crate) mod answers;
 /// The line for arguments that request nothing.
 pub(crate) const USAGE: &[u8] =
     b"usage: bspl_more COMMAND NAME ..: ask NAME QUESTION [--brief] [--conflicts N] | \
-ask NAME --check | ask NAME --all [--brief] [--conflicts N] | formula NAME safety|liveness|dead MESSAGE | lrat NAME | page NAME | explain COMMAND NAME ..\n";
+ask NAME --check | ask NAME --all [--brief] [--conflicts N] | formula NAME safety|liveness|dead MESSAGE|ask QUESTION | lrat NAME | page NAME | explain COMMAND NAME ..\n";
 
 // The words of the commands.
 pub(crate) const ASK: &[u8] = b"ask";

@@ -1,19 +1,28 @@
 -- What the arguments request, as the code keeps it.
 use Rattle.std.specs.Prelude.{◌≡◌, ℕ, List, Option, None, Some}
 use Rattle.ask_commands.specs.AskCommand.{ask_task}
+use Rattle.ask_commands.specs.Misread.{misread_rejection}
+use Rattle.question_text.specs.Tree.{phrase_of}
 use Rattle.more_commands.specs.declared.command.MoreCommand.{MoreCommand}
 use Rattle.more_commands.specs.declared.command.MoreCommand.TheVariants as command
 use Rattle.more_commands.specs.declared.formula_arguments.FormulaArgs.{FormulaArgs}
 use Rattle.more_commands.specs.declared.formula_arguments.FormulaArgs.TheVariants as formula
 use Rattle.more_commands.specs.declared.question.MoreQuestion.{MoreQuestion}
 use Rattle.more_commands.specs.declared.word.CommandWord.{CommandWord}
-use Rattle.more_commands.specs.FormulaArguments.{Dead, FormulaSubject, Whole}
+use Rattle.more_commands.specs.FormulaArguments.{Asked, Dead, FormulaSubject, Misput, NamesFormula, Whole}
 use Rattle.more_commands.specs.Task.{Ask, AsksTask, Explain, Formula, Lrat, MoreTask, Page, task_word}
 
 -- the formula that is asked for
 abbrev pub subject_of : FormulaArgs → FormulaSubject
 subject_of (formula.Property property) = Whole property
 subject_of (formula.Message message) = Dead message.now
+subject_of (formula.Question tree) = Asked (phrase_of tree)
+subject_of (formula.Misread misread) = Misput (misread_rejection misread)
+
+-- the words stand for this formula, or for none
+abbrev pub IsSubjectOf : List (List ℕ) → Option FormulaArgs → Type 0
+IsSubjectOf words None = (subject : FormulaSubject) → ¬ NamesFormula words subject
+IsSubjectOf words (Some args) = NamesFormula words (subject_of args)
 
 -- the task of a command
 abbrev pub more_task : MoreCommand → MoreTask

@@ -11,4 +11,9 @@ returns c = λ args input out out' status status' subject name requested. output
   message = c.messages_are_named_once.ensures;
   property_text = c.one_text.ensures.property;
   enact_text = c.one_text.ensures.message;
+  question = c.means_once.ensures.question;
+  unknown = c.means_once.ensures.unknown;
+  asked = c.means_once.ensures.exclusive;
+  same_text = c.same_has_same_formula.ensures;
+  question_text = c.one_question_text.ensures;
 }) args input subject name requested out out' status status'

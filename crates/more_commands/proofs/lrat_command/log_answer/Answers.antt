@@ -1,23 +1,18 @@
--- The proof of the formula, or the first failure.
-use Rattle.std.proofs.Common.{inl, inr, refl, rules}
+-- The reply is on the formula of the log's kind.
+use Rattle.std.proofs.Common.{◌≡◌, ℕ, List}
+use Rattle.std.proofs.lemmas.Result.{IfOk-weaker}
+use Rattle.program_frame.specs.declared.reply.Reply.{Reply}
+use Rattle.tool_input.specs.declared.status.Status.{Status}
+use Rattle.more_commands.specs.LratAnswer.{IsProofAnswer}
+use Rattle.more_commands.specs.inner.Proof.{IsProofReply}
+use Rattle.more_commands.proofs.LratLemmas.{kind_proof}
 use Rattle.more_commands.proofs.lrat_command.log_answer.Goals as goal
 
-pub returns-in-Ok : goal.returns-in-Ok
-returns-in-Ok c = inl (record {
-  formula = c.in_ok-formula.formula;
-  is_formula = rw c.property_of.ensures at c.in_ok-formula.ensures.exact;
-  proves = c.in-Ok.ensures.ok;
-  done = refl;
-})
-
 pub returns : goal.returns
-returns c = inr (record {
-  reject = c.in-Err.reject;
-  fails = record {
-    formula = c.in_ok-formula.formula;
-    is_formula = rw c.property_of.ensures at c.in_ok-formula.ensures.exact;
-    fails = (c.in-Err.ensures.rejects (search rules) c.in-Err.reject).0 refl;
-  };
-  text = c.in_ok-reject_line-in-Err.ensures;
-  refuted = refl;
-})
+returns c =
+    let x = c.args.protocol.now in
+    let kind = c.args.kind in
+    let log = c.args.log.now in
+    let formula = c.in_ok-formula.formula in
+    IfOk-weaker c.proof_reply.result (λ (reply : Reply Status). IsProofReply formula log reply.text reply.status) (λ (reply : Reply Status). IsProofAnswer x kind log reply.text reply.status)
+    (λ reply is. kind_proof x kind formula log reply.text reply.status (rw c.property_of.ensures at c.in_ok-formula.ensures.exact) is) c.proof_reply.ensures

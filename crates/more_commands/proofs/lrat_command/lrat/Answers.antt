@@ -1,11 +1,5 @@
--- The answer is that on the log that was read.
-use Rattle.std.proofs.Common.{rules}
+-- The first line says what the log is on.
+use Rattle.std.proofs.Common.{inl, inr}
+use Rattle.std.proofs.lemmas.Result.{IfErr-weaker, IfOk-weaker}
+use Rattle.more_commands.proofs.LratLemmas.{refused_on_kind, refused_on_question}
 use Rattle.more_commands.proofs.lrat_command.lrat.Goals as goal
-
-pub returns-clause-ok : goal.returns-clause-ok
-returns-clause-ok c = record {
-  kind = c.in_ok-kind.kind;
-  log = c.in_ok-kind.log;
-  read = search rules;
-  answer = c.in_ok-log_answer.ensures;
-}

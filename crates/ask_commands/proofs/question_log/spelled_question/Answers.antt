@@ -1,7 +1,7 @@
 -- A text is a question so spelled, or not.
 use Rattle.std.proofs.Common.{◌≡◌, true, sym, ◌∙◌}
 use Rattle.ask_commands.proofs.CheckLemmas.{is_spelled, misread_spells_none, other_spelling}
-use Rattle.ask_commands.proofs.check_command.spelled_question.Goals as goal
+use Rattle.ask_commands.proofs.question_log.spelled_question.Goals as goal
 
 pub returns-in-Err-clause-exact : goal.returns-in-Err-clause-exact
 returns-in-Err-clause-exact c = misread_spells_none c.one_question.ensures.exclusive c.args.x.now c.args.text.now c.in-Err.fault c.in-Err.ensures.refused c.in_ok-misread-in-Err.ensures
