@@ -6,7 +6,7 @@ use question_text::{QuestionFault, Tree, read_question};
 use std::alloc::Global;
 use tool_input::{Code, Field, Rejection};
 
-/// Why a text is no question: a number of the code Q, and the offset or the count that goes with it.
+/// Why a text is no question: a number of the code Q, and the offset or the count beside it.
 #[derive(Clone, Copy, Debug)]
 pub struct Misread {
     pub code: u8,

@@ -1,7 +1,9 @@
 -- Arguments ask for one formula of one protocol.
-use Rattle.std.proofs.Common.{◌≡◌, ℕ, List, [], ◌∷◌, length, None, Some, refl, sym, ap, subst, ◌∙◌, arith, get_or, drop}
+use Rattle.std.proofs.Common.{◌≡◌, ◌≢◌, ℕ, ◌≤◌, List, [], ◌∷◌, length, None, Some, refl, sym, ap, subst, ◌∙◌, arith, get_or, drop}
+use Rattle.std.specs.Prelude.{IsTrue}
 use Rattle.std.proofs.lemmas.Option.{none-some}
 use Rattle.ask_commands.specs.AskTask.{IsMisputText, IsTextOfPhrase, question_rejection}
+use Rattle.bspl_types.specs.Name.{is_name}
 use Rattle.bspl_types.specs.declared.property.Property.{Property}
 use Rattle.bspl_types.specs.declared.property.Property.TheVariants.{Liveness, Safety}
 use Rattle.question_text.specs.Laws.{HasOneFault, HasOneTree, HasTreeOrFault, IsFaultOf}
@@ -91,6 +93,30 @@ module _ (law : OneReading) (words : List (List ℕ)) where
   subject_once (Misput r) (Dead name) one too = absurd (not_both words name one.text too.0 one.words_are)
   subject_once (Misput r) (Asked phrase) one too = absurd (asked_or_misput phrase r too one)
   subject_once (Misput r) (Misput s) one too = ap Misput (misput_once r s one too)
+
+-- a word that is that of no property stands for no formula
+pub no_word : (word : List ℕ) → ((property : Property) → word ≢ property_word property) → (subject : FormulaSubject) → ¬ NamesFormula (word ∷ []) subject
+no_word word none (Whole property) is = none property (ap (word_at 0) is)
+no_word word none (Dead name) is = not_one (word ∷ []) word wording.DEAD.now name refl is.0
+no_word word none (Asked phrase) is = not_one (word ∷ []) word wording.ASK.now is.text refl is.words_are
+no_word word none (Misput r) is = not_one (word ∷ []) word wording.ASK.now is.text refl is.words_are
+
+-- nor do a word and a text that are no message and no question
+pub no_pair : (word text : List ℕ) → (word ≡ wording.DEAD.now → ¬ IsTrue (is_name text)) → (word ≡ wording.ASK.now → ¬ (length text ≤ 4294967295)) → (subject : FormulaSubject) → ¬ NamesFormula (word ∷ text ∷ []) subject
+no_pair word text no_message no_question (Whole property) is = not_one (word ∷ text ∷ []) (property_word property) word text is refl
+no_pair word text no_message no_question (Dead name) is =
+    no_message (ap (word_at 0) is.0) (subst (λ (t : List ℕ). IsTrue (is_name t)) (sym (ap (word_at 1) is.0)) is.1)
+no_pair word text no_message no_question (Asked phrase) is =
+    no_question (ap (word_at 0) is.words_are) (subst (λ (t : List ℕ). length t ≤ 4294967295) (sym (ap (word_at 1) is.words_are)) is.short)
+no_pair word text no_message no_question (Misput r) is =
+    no_question (ap (word_at 0) is.words_are) (subst (λ (t : List ℕ). length t ≤ 4294967295) (sym (ap (word_at 1) is.words_are)) is.short)
+
+-- a formula has one word or two
+pub one_or_two : (words : List (List ℕ)) → (length words ≡ 1 → ⊥) → (length words ≡ 2 → ⊥) → (subject : FormulaSubject) → ¬ NamesFormula words subject
+one_or_two words one two (Whole property) is = one (ap length is)
+one_or_two words one two (Dead name) is = two (ap length is.0)
+one_or_two words one two (Asked phrase) is = two (ap length is.words_are)
+one_or_two words one two (Misput r) is = two (ap length is.words_are)
 
 -- so do arguments, of one protocol
 pub one_formula : OneReading → (args : List (List ℕ)) (name again : List ℕ) (subject another : FormulaSubject) → AsksFormula args name subject → AsksFormula args again another → (subject ≡ another) × (name ≡ again)

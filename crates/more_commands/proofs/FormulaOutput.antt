@@ -2,6 +2,7 @@
 use Rattle.std.proofs.Common.{◌≡◌, ℕ, ◌<◌, ◌≤◌, List, [], None, Some, length, refl, sym, ap, subst, inl, inr, ◌⊎◌, ◌∙◌, arith}
 use Rattle.std.proofs.lemmas.Option.{none-some}
 use Rattle.ask_commands.specs.AskAnswer.{IsAskRefused, name_rejection, phrase_spelling}
+use Rattle.ask_commands.specs.AskTask.{IsTextOfPhrase}
 use Rattle.bspl_types.specs.declared.expanded.Expanded.{Expanded}
 use Rattle.bspl_types.specs.declared.refusals.Refusal.{Refusal}
 use Rattle.bspl_types.specs.Limits.{input_limit}
@@ -26,7 +27,7 @@ use Rattle.tool_input.specs.MessageName.{OneMessageOfAName}
 use Rattle.tool_input.specs.Parts.{protocol_text}
 use Rattle.tool_input.specs.Rejection.{over_limit, rejection_line, text_rejection}
 use Rattle.more_commands.specs.FormulaAnswer.{IsAskedText, IsFormulaRefused, IsTextOfSubject, formula_rules}
-use Rattle.more_commands.specs.FormulaArguments.{Asked, Dead, FormulaSubject, Misput, Whole, formula_refused_at_once}
+use Rattle.more_commands.specs.FormulaArguments.{Asked, AsksFormula, Dead, FormulaSubject, Misput, PutText, Whole, formula_refused_at_once}
 use Rattle.more_commands.specs.Task.{Formula, IsMoreRefusal, MoreTask, RequestsMore, more_interface, more_refused_at_once, more_rules}
 
 -- what the crates below have once
@@ -243,7 +244,9 @@ pub output_once : OneEach → (args : List (List ℕ)) (input : List ℕ) (subje
 output_once each args input (Whole property) name requested = read_once each args input (Whole property) name requested tt refl
 output_once each args input (Dead message) name requested = read_once each args input (Dead message) name requested tt refl
 output_once each args input (Asked phrase) name requested =
-    let put = requested.asks.subject_is.holds in
+    let asks : AsksFormula requested.rest name (Asked phrase) = requested.asks in
+    let words : PutText asks.words (λ text. IsTextOfPhrase text phrase) = asks.subject_is in
+    let put : IsTextOfPhrase words.text phrase = words.holds in
     read_once each args input (Asked phrase) name requested (put.tree, put.phrase_is) refl
 output_once each args input (Misput reason) name requested = λ out out' status status' one other.
     let first = misput_output each args input reason name requested out status one in

@@ -19,12 +19,9 @@ use Rattle.more_commands.specs.inner.Proof.{IsProofReply}
 
 -- a proof of a formula is one of each formula of that sort
 proof_of : (IsIt : Formula → Type 0) (f : Formula) (log : Log) (out : List ℕ) (status : Status) → IsIt f → SaysProof (λ g. g ≡ f) log out status → SaysProof IsIt log out status
-proof_of IsIt f log out status is says = record {
-  formula = says.formula;
-  is_formula = subst IsIt (sym says.is_formula) is;
-  proves = says.proves;
-  done = says.done;
-}
+proof_of IsIt f log out status is says =
+    let same : says.formula ≡ f = says.is_formula in
+    record { formula = says.formula; is_formula = subst IsIt (sym same) is; proves = says.proves; done = says.done }
 
 -- of a verdict
 pub kind_proof : (x : Expanded) (kind : Kind) (f : Formula) (log : Log) (out : List ℕ) (status : Status) → IsFormula (property_of kind) x f → IsProofReply f log out status → IsProofAnswer x kind log out status

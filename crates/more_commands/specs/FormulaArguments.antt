@@ -8,8 +8,8 @@ use Rattle.question_text.specs.Tree.{Phrase}
 use Rattle.tool_input.specs.declared.rejection.Rejection.{Rejection}
 use Rattle.more_commands.specs.declared.wording.TheConstants as wording
 
--- which formula of a protocol: that of a property, of a message by its name, or of a question; none,
--- by a text that is no question
+-- which formula of a protocol: that of a property, of a message by its name, or of a question; or
+-- none, by a text that is no question
 pub data FormulaSubject : Type 0 where
   Whole : (property : Property) → FormulaSubject
   Dead : (message : List ℕ) → FormulaSubject

@@ -125,7 +125,8 @@ fn subject_with_text<'a>(
 /// The formula of a question, if the text is one.
 fn question_asked<'a>(alloc: Global, text: &[u8]) -> Result<FormulaArgs<'a>, NoMemory>
     requires { length text.now ≤ 4294967295 }
-    ensures { IfOk result (λ args. NamesFormula (wording.ASK.now ∷ text.now ∷ []) (subject_of args)) }
+    ensures { IfOk result (λ args.
+        NamesFormula (wording.ASK.now ∷ text.now ∷ []) (subject_of args)) }
 {
     match question_or_misread(alloc, text)? {
         Ok(question) => Ok(FormulaArgs::Question(question)),

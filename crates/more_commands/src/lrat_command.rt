@@ -88,7 +88,8 @@ pub fn log_answer(
     log: &Log,
 ) -> Result<Reply<Status>, NoMemory>
     requires { length log.now.steps ≤ input_limit }
-    ensures { IfOk result (λ reply. IsProofAnswer protocol.now kind log.now reply.text reply.status) }
+    ensures { IfOk result (λ reply.
+        IsProofAnswer protocol.now kind log.now reply.text reply.status) }
 {
     let formula = formula_of(alloc, property_of(kind), protocol)?;
     proof_reply(alloc, &formula, log)
