@@ -23,10 +23,7 @@ impl Misread {
 }
 
 /// The question that the text is, or why it is none.
-pub fn question_or_misread(
-    alloc: Global,
-    text: &[u8],
-) -> Result<Result<Tree, Misread>, NoMemory>
+pub fn question_or_misread(alloc: Global, text: &[u8]) -> Result<Result<Tree, Misread>, NoMemory>
     requires { length text.now ≤ 4294967295 }
     ensures { IfOk result (IsReadAs text.now) }
 {
