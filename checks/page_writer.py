@@ -1,7 +1,8 @@
 """Writes the page of a protocol, from what docs/COMMANDS.md says of a page and from the definitions of html,
 page_sections, page_text and run_chart: of a protocol text without references, as `bspl expand` prints it, of verdicts
 and dead messages, as `bspl verify --brief` and `bspl dead --brief` print them, and of a run text and what `bspl replay`
-prints of it, or of what `bspl run --threads 0 --brief` prints. It shares nothing with the program."""
+prints of it, or of what `bspl run --threads 0 --brief` prints, and of what `bspl ask --all --brief` prints of rules. It
+shares nothing with the program."""
 import re
 from pathlib import Path
 from typing import NamedTuple
@@ -267,6 +268,29 @@ def verdicts_of(text):
             found[3].append(line)
 
 
+def rules_section(protocol, asked):
+    """The section of the rules, from the lines of `bspl ask NAME --all --brief`: each rule, and its run if it has one."""
+    shown, run = [], None
+    for line in asked.splitlines()[1:]:
+        if line == "run 1":
+            run = []
+        elif line == "end":
+            chart = Chart(protocol, run_of(run), ("plain",)).text()
+            shown.append(f"{chart}<pre>run 1\n{''.join(words(event) + chr(10) for event in run)}end\n</pre>\n")
+            run = None
+        elif run is not None:
+            run.append(line)
+        else:
+            word, rule = re.fullmatch(r"(kept|broken|undecided)(?: \d+)? ((?:never|some) .*)", line).groups()
+            shown.append(f"<p><b>{word}</b>: <code>{words(rule)}</code></p>\n")
+    if not shown:
+        return ""
+    return (
+        "<h2>Rules</h2>\n<p>A rule <code>never</code> is kept if no legal run answers its question with yes, and a rule "
+        "<code>some</code> if one does. Such a run is shown. Of an undecided rule this is not known.</p>\n" + "".join(shown)
+    )
+
+
 def why(reason):
     """Why an event may not follow those before it, from the words of `bspl replay`."""
     if reason[0] == "missing":
@@ -381,13 +405,15 @@ def tables(protocol, dead):
     return "".join(out) + "</tbody>\n</table>\n"
 
 
-def page(text, verdicts, dead, run=None, report="", played=None, events=None):
+def page(text, verdicts, dead, run=None, report="", played=None, events=None, asked=""):
     """The page of the protocol of the text with these verdicts and dead messages, and the lines of a run's events with what
-    `bspl replay` prints of it, or what `bspl run` prints of agents, with the lines of the events of a short run."""
+    `bspl replay` prints of it, or what `bspl run` prints of agents, with the lines of the events of a short run; and what
+    `bspl ask --all` prints of its rules."""
     protocol, found = protocol_of(text), list(verdicts_of(verdicts))
     said = {property_: verdict.replace("-", " ") for property_, verdict, _, _ in found}
     title = f"{words(protocol.name)}: safety {said['safety']}, liveness {said['liveness']}"
-    given = "" if run is None else run_section(protocol, run, report)
+    given = rules_section(protocol, asked)
+    given += "" if run is None else run_section(protocol, run, report)
     given += "" if played is None else world_section(protocol, played, events)
     return (
         '<!DOCTYPE html>\n<html lang="en">\n<head>\n<meta charset="utf-8">\n<meta name="viewport" content="width=device-width">\n'

@@ -142,7 +142,9 @@ def wrongs_of(name, given, folder):
     played = asked("run", name, "--threads", "0", "--brief", "--conflicts", "10000") if plays else None
     world = plays and re.search(rb"^<h2>World: events</h2>\n.*?^<pre>run 1\n(.*?)end\n</pre>", ran.out, re.M | re.S)
     events = world and html.unescape(world[1].decode()).splitlines()
-    shown = run_of(given), asked("replay", name), played, events
+    all_rules = [MORE, "ask", name, "--all", "--brief", "--conflicts", "10000"]
+    rules = subprocess.run(all_rules, input=given, capture_output=True).stdout.decode()
+    shown = run_of(given), asked("replay", name), played, events, rules
     if events is not None and not is_legal(name, given, events):
         wrong.append("the run of the world is not legal")
     if ran.out.decode() != page_writer.page(asked("expand", name), verdict.out.decode(), dead, *shown):

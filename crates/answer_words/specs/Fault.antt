@@ -15,7 +15,7 @@ text_faults =
     fault.BadByte ∷ fault.BadToken ∷ fault.NoProtocol ∷ fault.NameTwice ∷ fault.UnknownName ∷
     fault.OtherArity ∷ fault.BadAdornment ∷ fault.Cycle ∷ fault.OverLimit ∷ fault.NoKey ∷
     fault.KeyMissing ∷ fault.KeyElsewhere ∷ fault.ToItself ∷ fault.ParameterTwice ∷
-    fault.NoMessage ∷ []
+    fault.NoMessage ∷ fault.NoRoleNamed ∷ fault.NoParameter ∷ []
 
 abbrev pub log_faults : List Fault
 log_faults = fault.LogForm ∷ fault.LogNumber ∷ []
@@ -23,7 +23,11 @@ log_faults = fault.LogForm ∷ fault.LogNumber ∷ []
 abbrev pub script_faults : List Fault
 script_faults = fault.ScriptForm ∷ fault.ScriptName ∷ []
 
--- the fault of a code; the codes of a question have none, since no task of the tool asks one
+-- those of a question
+abbrev pub question_faults : List Fault
+question_faults = fault.QuestionByte ∷ fault.QuestionLong ∷ fault.QuestionToken ∷ []
+
+-- the fault of a code
 abbrev pub fault_of : Code → Option Fault
 fault_of (P n) = slice_get input_faults (n - 1)
 fault_of (E n) = slice_get text_faults (n - 1)
@@ -32,4 +36,4 @@ fault_of (W n) = slice_get (fault.RunForm ∷ []) (n - 1)
 fault_of (S n) = slice_get script_faults (n - 1)
 fault_of (H n) = slice_get (fault.HistoryForm ∷ []) (n - 1)
 fault_of (F n) = if n == 5 then Some fault.NoRole else None
-fault_of (Q n) = None
+fault_of (Q n) = slice_get question_faults (n - 1)

@@ -31,6 +31,11 @@ sentences fault.ScriptForm = (refusals.SCRIPT_FORM.0.now, refusals.SCRIPT_FORM.1
 sentences fault.ScriptName = (refusals.SCRIPT_NAME.0.now, refusals.SCRIPT_NAME.1.now)
 sentences fault.HistoryForm = (refusals.HISTORY_FORM.0.now, refusals.HISTORY_FORM.1.now)
 sentences fault.NoRole = (refusals.NO_ROLE.0.now, refusals.NO_ROLE.1.now)
+sentences fault.NoRoleNamed = (refusals.NO_ROLE_NAMED.0.now, refusals.NO_ROLE_NAMED.1.now)
+sentences fault.NoParameter = (refusals.NO_PARAMETER.0.now, refusals.NO_PARAMETER.1.now)
+sentences fault.QuestionByte = (refusals.QUESTION_BYTE.0.now, refusals.QUESTION_BYTE.1.now)
+sentences fault.QuestionLong = (refusals.QUESTION_LONG.0.now, refusals.QUESTION_LONG.1.now)
+sentences fault.QuestionToken = (refusals.QUESTION_TOKEN.0.now, refusals.QUESTION_TOKEN.1.now)
 
 -- after the first name
 abbrev pub middle : Fault → List ℕ

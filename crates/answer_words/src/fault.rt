@@ -1,5 +1,5 @@
 ghost use Rattle.std.specs.Prelude.{◌≡◌, ◌-◌, slice_get};
-ghost use Rattle.tool_input.specs.declared.rejection.Code.TheVariants.{E};
+ghost use Rattle.tool_input.specs.declared.rejection.Code.TheVariants.{E, Q};
 ghost use Rattle.answer_words.specs.Fault.{fault_of};
 
 use tool_input::Code;
@@ -55,6 +55,16 @@ pub enum Fault {
     HistoryForm,
     /// A part does not begin with the line of a role.
     NoRole,
+    /// No role has the name that is asked for.
+    NoRoleNamed,
+    /// No parameter has the name that is asked for.
+    NoParameter,
+    /// No word of a question begins with a byte.
+    QuestionByte,
+    /// A question has too many tokens.
+    QuestionLong,
+    /// No question has a token there, or it ends too early.
+    QuestionToken,
 }
 
 /// What the code stands for.
@@ -69,8 +79,7 @@ pub(crate) fn fault_of(code: Code) -> Option<Fault>
         Code::S(n) => nth(&[Fault::ScriptForm, Fault::ScriptName], n),
         Code::H(n) => nth(&[Fault::HistoryForm], n),
         Code::F(n) => { if n == 5 { Some(Fault::NoRole) } else { None } }
-        // no task of the tool asks a question
-        Code::Q(_) => None,
+        Code::Q(n) => question_fault(n),
     }
 }
 
@@ -94,6 +103,20 @@ fn text_fault(n: u8) -> Option<Fault>
         Fault::ToItself,
         Fault::ParameterTwice,
         Fault::NoMessage,
+        Fault::NoRoleNamed,
+        Fault::NoParameter,
+    ];
+    nth(&faults, n)
+}
+
+/// What a code of a question stands for.
+fn question_fault(n: u8) -> Option<Fault>
+    ensures { result ≡ fault_of (Q n) }
+{
+    let faults = [
+        Fault::QuestionByte,
+        Fault::QuestionLong,
+        Fault::QuestionToken,
     ];
     nth(&faults, n)
 }

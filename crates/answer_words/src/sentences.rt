@@ -74,6 +74,11 @@ fn sentences(fault: Fault) -> Sentences
         Fault::ScriptName => refusals::SCRIPT_NAME,
         Fault::HistoryForm => refusals::HISTORY_FORM,
         Fault::NoRole => refusals::NO_ROLE,
+        Fault::NoRoleNamed => refusals::NO_ROLE_NAMED,
+        Fault::NoParameter => refusals::NO_PARAMETER,
+        Fault::QuestionByte => refusals::QUESTION_BYTE,
+        Fault::QuestionLong => refusals::QUESTION_LONG,
+        Fault::QuestionToken => refusals::QUESTION_TOKEN,
     }
 }
 

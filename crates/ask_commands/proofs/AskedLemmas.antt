@@ -13,7 +13,7 @@ use Rattle.tool_input.specs.declared.rejection.Rejection.{Rejection}
 use Rattle.tool_input.specs.Error.{RejectsFor}
 use Rattle.ask_commands.specs.AskAnswer.{IsAskRefused}
 use Rattle.ask_commands.specs.RulesAnswer.{IsAskedOf, IsFirstRefused}
-use Rattle.ask_commands.specs.inner.Rules.{IsQuestionOf}
+use Rattle.ask_commands.specs.AskedRules.{IsQuestionOf}
 
 -- one pair more
 zip_push : {A B : Type 0} (R : A → B → Type 0) (xs : List A) (ys : List B) (x : A) (y : B) → AllZip R xs ys → R x y → AllZip R (xs ++ x ∷ []) (ys ++ y ∷ [])

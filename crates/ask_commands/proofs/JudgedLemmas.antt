@@ -18,7 +18,8 @@ use Rattle.ask_commands.specs.declared.options.AskOptions.{AskOptions}
 use Rattle.ask_commands.specs.AskAnswer.{asked_protocol_line}
 use Rattle.ask_commands.specs.Judgement.{IsRightlyJudged, JudgedRule, is_broken, is_judged_broken, is_left_open, is_unjudged, judged_rule_text, judgement_text, rules_status, said_of}
 use Rattle.ask_commands.specs.RulesAnswer.{AreJudged}
-use Rattle.ask_commands.specs.inner.Rules.{HasJudged, IsQuestionOf}
+use Rattle.ask_commands.specs.AskedRules.{IsQuestionOf}
+use Rattle.ask_commands.specs.inner.Rules.{HasJudged}
 
 -- before the first rule
 pub none_judged : (x : Expanded) (options : AskOptions) (rules : List Rule) (so_far : Judged) → so_far.text ≡ asked_protocol_line x → so_far.broken ≡ false → so_far.unjudged ≡ false → HasJudged x options rules 0 so_far

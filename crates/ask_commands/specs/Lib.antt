@@ -8,6 +8,7 @@ pub mod AskAnswer
 pub mod CheckAnswer
 pub mod Judgement
 pub mod RulesAnswer
+pub mod AskedRules
 pub mod AskRules
 pub mod Claims
 pub mod Laws

@@ -9,7 +9,7 @@ use protocol_rules::Sense;
 use question_answer::Answer;
 
 /// Whether the answer to its question breaks a rule of that sense.
-pub(crate) fn is_broken(sense: Sense, answer: &Answer) -> bool
+pub fn is_broken(sense: Sense, answer: &Answer) -> bool
     ensures { result ≡ is_broken sense answer.now }
 {
     match answer {
@@ -59,7 +59,7 @@ fn push_front(text: &mut Bytes, sense: Sense, answer: &Answer) -> Result<(), NoM
 }
 
 /// The word of the sense.
-fn sense_word(sense: Sense) -> &'static [u8]
+pub fn sense_word(sense: Sense) -> &'static [u8]
     ensures { result.now ≡ sense_word sense }
 {
     match sense {

@@ -1,5 +1,6 @@
 -- Arguments and what they request; what outputs of `ask`, `formula`, `page` and `explain` come to.
 pub mod FormulaLemmas
+pub mod AskLemmas
 pub mod RequestLemmas
 pub mod TruthLemmas
 pub mod FormulaOutput

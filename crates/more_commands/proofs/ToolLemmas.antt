@@ -1,5 +1,5 @@
 -- What is written for a command line is an output of the tool, and then words.
-use Rattle.std.proofs.Common.{◌≡◌, ℕ, ◌≤◌, List, [], ◌∷◌, ◌++◌, drop, get_or, length, Option, None, Some, refl, sym, ap, subst, ◌∙◌}
+use Rattle.std.proofs.Common.{◌≡◌, ℕ, ◌≤◌, List, [], ◌∷◌, ◌++◌, drop, get_or, length, Option, None, Some, inl, inr, refl, sym, ap, subst, ◌∙◌}
 use Rattle.std.proofs.lemmas.List.{append-nil}
 use Rattle.std.proofs.lemmas.Option.{none-some}
 use Rattle.answer_words.specs.declared.fault.Fault.{Fault}
@@ -23,9 +23,11 @@ use Rattle.tool_input.specs.Parts.{protocol_text}
 use Rattle.tool_input.specs.Rejection.{rejection_line}
 use Rattle.more_commands.specs.declared.word.CommandWord.TheVariants as word
 use Rattle.more_commands.specs.ExplainAnswer.{AnswersInWords, explain_rules}
+use Rattle.more_commands.specs.ExplainAsk.{NamesAsk}
 use Rattle.more_commands.specs.Laws.{AddsWords, AreWordsAfter, AreWordsFor}
 use Rattle.more_commands.specs.StatusWords.{status_words}
 use Rattle.more_commands.specs.Task.{AsksTask, Explain, IsMoreRefusal, MoreTask, RequestsMore, more_interface, more_own_text, more_refused_at_once, more_rules, task_word, word_text}
+use Rattle.more_commands.proofs.AskLemmas.{no_tool_ask}
 use Rattle.more_commands.proofs.RequestLemmas.{is_explain, one_command}
 
 -- the words of a fault come after the line of the refusal
@@ -49,16 +51,23 @@ tool_refuses task name input _ (no_part part lacks) = no_part part (record { is_
 tool_refuses task name input _ (text given refusal r has refuses is) = text given refusal r has refuses is
 tool_refuses task name input _ (command given x r has declared refuses) = command given x r has declared refuses
 
-module _ (args rest : List (List ℕ)) (bytes : List ℕ) (about : args ≡ word_text word.Explain ∷ rest) where
+module _ (args rest : List (List ℕ)) (bytes : List ℕ) (about : args ≡ word_text word.Explain ∷ rest) (has : HasTask tool_interface rest) where
   -- what such arguments request is a task of the tool
   tool_task : (task : MoreTask) (name : List ℕ) → RequestsMore args task name → (found : Task) × (task ≡ Explain found) × Requests rest found name
   tool_task task name requested =
       let both : word_text (task_word task) ∷ requested.rest ≡ word_text word.Explain ∷ rest = sym requested.arguments ∙ about in
       let word : task_word task ≡ word.Explain = one_command (task_word task) word.Explain (ap (λ (list : List (List ℕ)). get_or list 0 []) both) in
-      let (found, is) = is_explain task word in
       let after : requested.rest ≡ rest = ap (drop 1) both in
-      let asks : Requests requested.rest found name = subst (λ (t : MoreTask). AsksTask requested.rest t name) is requested.asks in
-      (found, is, subst (λ (list : List (List ℕ)). Requests list found name) after asks)
+      elim (is_explain task word) [
+        | inl found ↦ (
+            let asks : Requests requested.rest found.0 name = subst (λ (t : MoreTask). AsksTask requested.rest t name) found.1 requested.asks in
+            (found.0, found.1, subst (λ (list : List (List ℕ)). Requests list found.0 name) after asks)
+            )
+        | inr found ↦ (
+            let asks : NamesAsk requested.rest found.0 name = subst (λ (t : MoreTask). AsksTask requested.rest t name) found.1 requested.asks in
+            absurd (no_tool_ask rest has.0 has.1 found.0 name has.2 (subst (λ (list : List (List ℕ)). NamesAsk list found.0 name) after asks))
+            )
+      ]
 
   -- and a task of the tool is such a task
   more_requested : (task : Task) (name : List ℕ) → Requests rest task name → RequestsMore args (Explain task) name
@@ -124,7 +133,7 @@ module _ (args rest : List (List ℕ)) (bytes : List ℕ) (about : args ≡ word
       }
 
   -- what is written
-  pub words_added : HasTask tool_interface rest → (out : List ℕ) (status : Status) → Output more_interface args bytes out status → AddsWords rest bytes out status
-  words_added (task, name, requested) _ _ (usage none) = absurd (none (Explain task, name, more_requested task name requested))
-  words_added has out _ (refused _ r is) = refusal_added out r is
-  words_added has out status (done _ _ is) = answer_added out status is
+  pub words_added : (out : List ℕ) (status : Status) → Output more_interface args bytes out status → AddsWords rest bytes out status
+  words_added _ _ (usage none) = absurd (none (Explain has.0, has.1, more_requested has.0 has.1 has.2))
+  words_added out _ (refused _ r is) = refusal_added out r is
+  words_added out status (done _ _ is) = answer_added out status is

@@ -1,6 +1,7 @@
 -- What an output says is true, and which outputs are the only ones. Each statement is the contract
 -- of a function.
 use Rattle.std.specs.Prelude.{◌≡◌, ℕ, Bool, List, ◌∷◌, ◌++◌}
+use Rattle.std.specs.List.{All}
 use Rattle.answer_words.specs.Refusal.{IsRefusalText}
 use Rattle.answer_words.specs.VerdictText.{IsVerdictWords}
 use Rattle.ask_commands.specs.declared.options.AskOptions.{AskOptions}
@@ -14,6 +15,8 @@ use Rattle.bspl_tool.specs.Request.{Requests}
 use Rattle.bspl_types.specs.declared.expanded.Expanded.{Expanded}
 use Rattle.enactment_model.specs.Liveness.{LiveProtocol}
 use Rattle.enactment_model.specs.Safety.{SafeProtocol}
+use Rattle.page_sections.specs.Laws.{IsTrulyShown}
+use Rattle.protocol_rules.specs.declared.rule.Rule.{Rule}
 use Rattle.protocol_rules.specs.declared.rule.Sense.{Sense}
 use Rattle.question_text.specs.declared.tree.Tree.{Tree}
 use Rattle.question_text.specs.Meaning.{AsksQuestion}
@@ -92,11 +95,17 @@ OneFormulaOutput =
     Output more_interface args input out status →
     Output more_interface args input out' status' → (out ≡ out') × (status ≡ status')
 
+-- what a page says of a rule is true: that the protocol keeps it, or that it does not
+abbrev pub PageRulesAreTrue : Type 0
+PageRulesAreTrue =
+    (x : Expanded) (rules : List Rule) (given : Given) (out : List ℕ) (status : Status)
+    (page : IsPageAnswer x rules given out status) → All (IsTrulyShown x) page.judges.judged
+
 -- a page with the status 0 is given of a safe and live protocol alone
 abbrev pub DonePagesAreTrue : Type 0
 DonePagesAreTrue =
-    (x : Expanded) (given : Given) (out : List ℕ) → IsPageAnswer x given out Done →
-    SafeProtocol x × LiveProtocol x
+    (x : Expanded) (rules : List Rule) (given : Given) (out : List ℕ) →
+    IsPageAnswer x rules given out Done → SafeProtocol x × LiveProtocol x
 
 -- so is an answer of `verify` in words
 abbrev pub DoneAnswersAreTrue : Type 0

@@ -9,5 +9,7 @@ pub mod PageAnswer
 pub mod Given
 pub mod StatusWords
 pub mod ExplainAnswer
+pub mod AskWords
+pub mod ExplainAsk
 pub mod Laws
 pub mod inner

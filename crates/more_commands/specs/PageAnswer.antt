@@ -1,17 +1,22 @@
--- What `page` answers on an admitted protocol, and on what is given with it.
+-- What `page` answers on an admitted protocol, its rules, and what is given with it.
 use Rattle.std.specs.Prelude.{◌≡◌, ◌⊎◌, ℕ, List, [], ◌++◌}
 use Rattle.adapter.specs.Desk.{DeskState}
 use Rattle.agent_scripts.specs.Job.{Job}
+use Rattle.ask_commands.specs.RulesAnswer.{IsRulesRefused}
 use Rattle.bspl_types.specs.declared.event.Event.{Event}
 use Rattle.bspl_types.specs.declared.expanded.Expanded.{Expanded}
 use Rattle.html.specs.Fragment.{Fragment, as_html}
 use Rattle.message_fates.specs.declared.fate.Fate.{Fate}
+use Rattle.page_sections.specs.RulesSection.{ShowsRules}
 use Rattle.page_sections.specs.RunSection.{ShowsRun}
 use Rattle.page_sections.specs.Page.{page}
 use Rattle.page_sections.specs.VerdictSections.{played_part}
+use Rattle.protocol_rules.specs.declared.rule.Rule.{Rule}
+use Rattle.protocol_rules.specs.Rules.{AreRulesOf}
 use Rattle.report.specs.ExitStatus.{verdict_status}
 use Rattle.report.specs.ReplayText.{IsReplayText}
 use Rattle.tool_input.specs.declared.need.Need.TheVariants.{Input}
+use Rattle.tool_input.specs.Parts.{protocol_text}
 use Rattle.tool_input.specs.Rules.{CommandRules}
 use Rattle.tool_input.specs.declared.rejection.Rejection.{Rejection}
 use Rattle.tool_input.specs.declared.status.Status.{Status}
@@ -54,28 +59,33 @@ ShowsGiven x s (Run run) shown = ShowsReplay x run shown
 ShowsGiven x s (Agents script plan) shown =
     ShowsAgents (record { protocol = x; script = script; plan = plan }) s shown
 
--- the page of right verdicts, whose searches may meet 10000 conflicts each, of right fates and of
--- what is given; the status is that of the verdicts
-pub record IsPageAnswer (x : Expanded) (given : Given) (out : List ℕ) (status : Status)
-    : Type 0 where
+-- the page of right verdicts, of the rules, of right fates and of what is given; each search may
+-- meet 10000 conflicts; the status is that of the verdicts
+pub record IsPageAnswer (x : Expanded) (rules : List Rule) (given : Given) (out : List ℕ)
+    (status : Status) : Type 0 where
   pub verdicts : Verdicts
   pub right : AreRightAnswers x 10000 verdicts
   pub fates : List Fate
   pub fated : AreFates x 10000 fates
+  pub ruled : List Fragment
+  pub judges : ShowsRules x 10000 rules ruled
   pub shown : List Fragment
   pub shows : ShowsGiven x verdicts.safety given shown
-  pub text : out ≡ as_html (page x verdicts fates shown)
+  pub text : out ≡ as_html (page x verdicts fates (ruled ++ shown))
   pub ends : status ≡ verdict_status verdicts.safety verdicts.liveness
 
--- the page of the protocol, and of what the input gives beside it
+-- the page of the protocol, of the rules in its text, and of what the input gives beside it
 pub record ShowsInput (x : Expanded) (input out : List ℕ) (status : Status) : Type 0 where
+  pub rules : List Rule
+  pub of_text : AreRulesOf (protocol_text input) x.name rules
   pub given : Given
   pub gives : Gives x input given
-  pub answer : IsPageAnswer x given out status
+  pub answer : IsPageAnswer x rules given out status
 
--- what the input is to give has a bad line
+-- the text has a bad rule, or what the input is to give a bad line
 abbrev pub IsPageRefused : Expanded → List ℕ → Rejection → Type 0
-IsPageRefused x input r = RefusesRun x input r ⊎ RefusesAgents x input r
+IsPageRefused x input r =
+    IsRulesRefused x input r ⊎ (RefusesRun x input r ⊎ RefusesAgents x input r)
 
 -- it looks at the whole input; its evidence may be another
 abbrev pub page_rules : CommandRules

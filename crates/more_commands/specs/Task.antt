@@ -15,19 +15,21 @@ use Rattle.more_commands.specs.declared.wording.TheConstants as wording
 use Rattle.more_commands.specs.declared.word.CommandWord.{CommandWord}
 use Rattle.more_commands.specs.declared.word.CommandWord.TheVariants as word
 use Rattle.more_commands.specs.ExplainAnswer.{explain_rules}
+use Rattle.more_commands.specs.ExplainAsk.{IsAskRefusal, NamesAsk, explain_ask_rules}
 use Rattle.more_commands.specs.FormulaAnswer.{formula_rules}
 use Rattle.more_commands.specs.FormulaArguments.{AsksFormula, FormulaSubject, formula_refused_at_once}
 use Rattle.more_commands.specs.LratAnswer.{lrat_rules}
 use Rattle.more_commands.specs.PageAnswer.{page_rules}
 
--- a question is asked, a formula is printed, a log becomes a proof in LRAT form, a page is made, or a
--- task of the tool is done in words
+-- a question is asked, a formula is printed, a log becomes a proof in LRAT form, a page is made, a
+-- task of the tool is done in words, or a question is asked in words
 pub data MoreTask : Type 0 where
   Ask : (task : AskTask) → MoreTask
   Formula : (subject : FormulaSubject) → MoreTask
   Lrat : MoreTask
   Page : MoreTask
   Explain : (task : Task) → MoreTask
+  ExplainAsk : (task : AskTask) → MoreTask
 
 -- the text of the word of a command
 abbrev pub word_text : CommandWord → List ℕ
@@ -44,6 +46,7 @@ task_word (Formula subject) = word.Formula
 task_word Lrat = word.Lrat
 task_word Page = word.Page
 task_word (Explain task) = word.Explain
+task_word (ExplainAsk task) = word.Explain
 
 -- the only argument is the name of a protocol
 pub record IsNameAlone (args : List (List ℕ)) (name : List ℕ) : Type 0 where
@@ -57,6 +60,7 @@ AsksTask args (Formula subject) name = AsksFormula args name subject
 AsksTask args Lrat name = IsNameAlone args name
 AsksTask args Page name = IsNameAlone args name
 AsksTask args (Explain task) name = Requests args task name
+AsksTask args (ExplainAsk task) name = NamesAsk args task name
 
 -- the arguments request the task on the protocol of the name
 pub record RequestsMore (args : List (List ℕ)) (task : MoreTask) (name : List ℕ) : Type 0 where
@@ -71,6 +75,7 @@ more_rules (Formula subject) = formula_rules subject
 more_rules Lrat = lrat_rules
 more_rules Page = page_rules
 more_rules (Explain task) = explain_rules task
+more_rules (ExplainAsk task) = explain_ask_rules task
 
 -- the text that a task makes for itself: that of the tool's task
 abbrev pub more_own_text : MoreTask → Option (List ℕ)
@@ -81,11 +86,13 @@ more_own_text task = None
 abbrev pub more_refused_at_once : MoreTask → Option Rejection
 more_refused_at_once (Ask task) = ask_refused_at_once task
 more_refused_at_once (Formula subject) = formula_refused_at_once subject
+more_refused_at_once (ExplainAsk task) = ask_refused_at_once task
 more_refused_at_once task = None
 
 -- how a refusal is written: in words, or in its line
 abbrev pub IsMoreRefusal : MoreTask → List ℕ → Rejection → List ℕ → Type 0
 IsMoreRefusal (Explain task) input r out = IsRefusalText input r out
+IsMoreRefusal (ExplainAsk task) input r out = IsAskRefusal task input r out
 IsMoreRefusal task input r out = out ≡ rejection_line r
 
 -- the commands together

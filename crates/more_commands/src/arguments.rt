@@ -1,12 +1,13 @@
 ghost use Rattle.std.specs.Prelude.{List, ℕ, map, string_bytes, IfOk, MatchOption};
 ghost use Rattle.more_commands.specs.declared.word.CommandWord.TheVariants as word;
 ghost use Rattle.more_commands.specs.Task.{IsNameAlone};
-ghost use Rattle.more_commands.specs.inner.Question.{IsAskedBy};
+ghost use Rattle.more_commands.specs.inner.Question.{AskNoTask, IsAskedAfterWord, IsAskedBy};
 
 use super::command::MoreCommand;
 use super::formula_arguments::formula_question;
 use super::question::MoreQuestion;
 use super::word::CommandWord;
+use super::wording::ASK;
 use ask_commands::{AskRequest, ask_request};
 use bspl_tool::ToolQuestion;
 use bspl_types::is_name;
@@ -76,7 +77,8 @@ fn name_alone(args: &[String]) -> Option<&[u8]>
     }
 }
 
-/// What the arguments of `explain` ask: what they ask of the tool.
+/// What the arguments of `explain` ask: what they ask of the tool or, after the word `ask`, of that
+/// command.
 fn explain_question<'a>(
     alloc: Global,
     args: &'a [String],
@@ -88,7 +90,41 @@ fn explain_question<'a>(
             name,
             command: MoreCommand::Explain(task),
         })),
-        Ok(None) => Ok(None),
+        Ok(None) => explain_ask_question(alloc, args),
         Err(_) => Err(NoMemory),
+    }
+}
+
+/// What they ask if they ask nothing of the tool.
+fn explain_ask_question<'a>(
+    alloc: Global,
+    args: &'a [String],
+) -> Result<Option<MoreQuestion<'a>>, NoMemory>
+    requires { AskNoTask (map string_bytes args.now) }
+    ensures { IfOk result (IsAskedBy word.Explain (map string_bytes args.now)) }
+{
+    match asked_after_word(alloc, args)? {
+        Some(AskRequest { name, command }) => Ok(Some(MoreQuestion {
+            name,
+            command: MoreCommand::ExplainAsk(command),
+        })),
+        None => Ok(None),
+    }
+}
+
+/// What the arguments after the word `ask` request of that command.
+fn asked_after_word<'a>(
+    alloc: Global,
+    args: &'a [String],
+) -> Result<Option<AskRequest<'a>>, NoMemory>
+    ensures { IfOk result (IsAskedAfterWord (map string_bytes args.now)) }
+{
+    let Some((word, rest)) = args.split_first() else {
+        return Ok(None);
+    };
+    if word.as_bytes() == ASK {
+        ask_request(alloc, rest)
+    } else {
+        Ok(None)
     }
 }

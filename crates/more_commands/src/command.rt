@@ -1,12 +1,15 @@
 ghost use Rattle.std.specs.Prelude.{◌≡◌, ◌↔◌, ◌≤◌, None, length, IfErr, IfOk, IfSome, IsTrue};
 ghost use Rattle.answer_words.specs.Refusal.{IsRefusalText};
+ghost use Rattle.ask_commands.specs.AskCommand.{ask_task};
 ghost use Rattle.bspl_types.specs.Limits.{input_limit};
 ghost use Rattle.tool_input.specs.Error.{RejectsFor};
 ghost use Rattle.tool_input.specs.declared.status.Status.TheVariants.{Refused};
+ghost use Rattle.more_commands.specs.ExplainAsk.{IsAskRefusal};
 ghost use Rattle.more_commands.specs.Task.{IsMoreRefusal, more_own_text, more_refused_at_once};
 ghost use Rattle.more_commands.specs.Task.{more_rules};
 ghost use Rattle.more_commands.specs.inner.Question.{more_task};
 
+use super::explain_ask::explain_asked;
 use super::explain_command::explain;
 use super::formula_arguments::FormulaArgs;
 use super::formula_command::formula;
@@ -34,6 +37,8 @@ pub enum MoreCommand<'a> {
     Page,
     /// A task of the tool is done on it, in words.
     Explain(Task),
+    /// A question on it, a log on one, or its rules, in words.
+    ExplainAsk(AskCommand),
 }
 
 impl MoreCommand<'_> {
@@ -47,6 +52,7 @@ impl MoreCommand<'_> {
             MoreCommand::Lrat => Need::Part(Part::Log),
             MoreCommand::Page => Need::Input,
             MoreCommand::Explain(task) => task.needs(),
+            MoreCommand::ExplainAsk(command) => command.needs(),
         }
     }
 
@@ -57,6 +63,7 @@ impl MoreCommand<'_> {
         match self {
             MoreCommand::Ask(command) => command.refused_at_once(),
             MoreCommand::Formula(args) => args.refused_at_once(),
+            MoreCommand::ExplainAsk(command) => command.refused_at_once(),
             _ => None,
         }
     }
@@ -102,6 +109,7 @@ impl MoreCommand<'_> {
             MoreCommand::Lrat => lrat(alloc, &protocol, given),
             MoreCommand::Page => page(alloc, protocol, given),
             MoreCommand::Explain(task) => explain(alloc, *task, protocol, given),
+            MoreCommand::ExplainAsk(command) => explain_asked(alloc, command, &protocol, given),
         }
     }
 
@@ -118,7 +126,27 @@ impl MoreCommand<'_> {
     {
         match self {
             MoreCommand::Explain(_) => explained_refusal(alloc, input, rejection),
+            MoreCommand::ExplainAsk(command) => asked_refusal(alloc, command, input, rejection),
             _ => tool_input::refused(alloc, rejection),
+        }
+    }
+}
+
+/// The reply that explains why what is asked is refused. What is refused at once has no input.
+fn asked_refusal(
+    alloc: Global,
+    command: &AskCommand,
+    input: &[u8],
+    rejection: &Rejection,
+) -> Result<Reply<Status>, NoMemory>
+    ensures text { IfOk result (λ reply.
+        IsAskRefusal (ask_task command.now) input.now rejection.now reply.text) }
+    ensures ends { IfOk result (λ reply. reply.status ≡ Refused) }
+{
+    match command {
+        AskCommand::Misread(_) => explained_refusal(alloc, b"", rejection),
+        AskCommand::Put { .. } | AskCommand::Check | AskCommand::Judge(_) => {
+            explained_refusal(alloc, input, rejection)
         }
     }
 }

@@ -65,7 +65,7 @@ fn with_status_words(task: Task, reply: Reply<Status>) -> Result<Reply<Status>, 
 }
 
 /// The reply, after whose text come the words.
-fn with_words(reply: Reply<Status>, words: &[u8]) -> Result<Reply<Status>, NoMemory>
+pub(crate) fn with_words(reply: Reply<Status>, words: &[u8]) -> Result<Reply<Status>, NoMemory>
     ensures { IfOk result (λ explained. (explained.text ≡ reply.text ++ words.now)
         × (explained.status ≡ reply.status)) }
 {

@@ -1,10 +1,12 @@
 ghost use Rattle.more_commands.specs.Laws.{AcceptedIsTrue, AnswersAddWords, BrokenIsTrue};
 ghost use Rattle.more_commands.specs.Laws.{DoneAnswersAreTrue, DonePagesAreTrue, ImpossibleIsTrue};
-ghost use Rattle.more_commands.specs.Laws.{KeptIsTrue, OneFormulaOutput, PossibleIsTrue};
+ghost use Rattle.more_commands.specs.Laws.{KeptIsTrue, OneFormulaOutput, PageRulesAreTrue};
+ghost use Rattle.more_commands.specs.Laws.{PossibleIsTrue};
 
 use super::question::MoreQuestion;
 use ask_commands::{possibilities_are_true, rules_are_judged_truly};
 use formula_text::{one_question_text, one_text, same_has_same_formula};
+use page_sections::rules_are_shown_truly;
 use question_text::means_once;
 use tool_input::{Question, messages_are_named_once, texts_are_judged_once};
 
@@ -54,10 +56,15 @@ pub fn one_output()
     same_has_same_formula();
 }
 
-/// A law: the status 0 is that of a page on a safe and live protocol.
+/// A law: the status 0 is that of a page on a safe and live protocol, and a rule is shown as kept
+/// only if the protocol keeps it, as broken only if it does not.
 pub fn done_pages_are_true()
-    ensures { DonePagesAreTrue }
-{}
+    ensures verdicts { DonePagesAreTrue }
+    ensures rules { PageRulesAreTrue }
+{
+    // law: what the section of the rules says is true
+    rules_are_shown_truly();
+}
 
 /// A law: so it is with an answer of `verify` in words.
 pub fn done_answers_are_true()

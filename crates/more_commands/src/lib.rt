@@ -1,10 +1,12 @@
 //! More commands on a protocol: questions and rules on one enactment, its formula, a proof in LRAT
-//! form, a page of it, and the tool's answers in words.
+//! form, a page of it, and answers in words.
 #![tactic(auto)]
 
 mod arguments;
+mod ask_words;
 mod call;
 mod command;
+mod explain_ask;
 mod explain_command;
 mod formula_arguments;
 mod formula_command;
@@ -20,6 +22,7 @@ mod wording;
 
 pub use call::bspl_more;
 pub use command::MoreCommand;
+pub use explain_ask::explain_asked;
 pub use explain_command::{explain, explained_verdicts};
 pub use formula_arguments::FormulaArgs;
 pub use formula_command::formula;

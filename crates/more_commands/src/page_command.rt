@@ -4,6 +4,7 @@ ghost use Rattle.more_commands.specs.PageAnswer.{IsPageRefused, ShowsInput};
 
 use super::pages::{page_answer, page_with_agents, page_with_run};
 use agent_scripts::Job;
+use ask_commands::asked_rules;
 use bspl_types::Admitted;
 use program_frame::Reply;
 use rejections::{run_rejection, script_rejection};
@@ -12,23 +13,25 @@ use script_text::read_scripts;
 use std::alloc::Global;
 use tool_input::{AnswerError, Part, Status, error_for, needed_part};
 
-/// Answers `page` on the whole input, which may give a run or agents beside the protocol.
+/// Answers `page` on the whole input, which may give rules in the protocol's text, and a run or
+/// agents beside it.
 pub fn page(alloc: Global, protocol: Admitted, input: &[u8]) -> Result<Reply<Status>, AnswerError>
     ensures ok { IfOk result (λ reply.
         ShowsInput protocol input.now reply.text reply.status) }
     ensures refused { IfErr result (RejectsFor (IsPageRefused protocol input.now)) }
 {
+    let rules = asked_rules(alloc, &protocol, input)?;
     if let Ok(part) = needed_part(Some(Part::Run), input) {
         let run = read_run(alloc, &protocol, part).map_err(|refusal| error_for(run_rejection(
             refusal,
         )))?;
-        return Ok(page_with_run(alloc, &protocol, run.as_slice())?);
+        return Ok(page_with_run(alloc, &protocol, &rules, run.as_slice())?);
     }
     if let Ok(part) = needed_part(Some(Part::Agents), input) {
         let agents = read_scripts(alloc, part, &protocol).map_err(|refusal| error_for(
             script_rejection(refusal),
         ))?;
-        return Ok(page_with_agents(alloc, &Job::of(protocol, agents))?);
+        return Ok(page_with_agents(alloc, &Job::of(protocol, agents), &rules)?);
     }
-    Ok(page_answer(alloc, &protocol)?)
+    Ok(page_answer(alloc, &protocol, &rules)?)
 }

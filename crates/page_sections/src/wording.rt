@@ -18,7 +18,7 @@ pub(crate) const UNSAFE: &[u8] = b"unsafe";
 pub(crate) const LIVE: &[u8] = b"live";
 /// Of one that is not live.
 pub(crate) const NOT_LIVE: &[u8] = b"not live";
-/// Of one whose search came to no answer.
+/// Of a verdict, or a rule, whose search came to no answer.
 pub(crate) const UNDECIDED: &[u8] = b"undecided";
 
 // The sections of the verdicts.
@@ -49,6 +49,19 @@ pub(crate) const SAFETY: &[u8] = b"Safety";
 pub(crate) const LIVENESS: &[u8] = b"Liveness";
 /// The text of a run.
 pub(crate) const RUN_TEXT: &[u8] = b"<pre>$</pre>\n";
+
+// The section of the rules in the protocol's text.
+/// What a kept rule is.
+pub(crate) const RULES_START: &[u8] =
+    b"<h2>Rules</h2>\n<p>A rule <code>never</code> is kept if no legal run \
+    answers its question with yes, and a rule <code>some</code> if one does. Such a run is shown. \
+    Of an undecided rule this is not known.</p>\n";
+/// What is found of a rule, the word of the rule, and its question.
+pub(crate) const RULE: &[u8] = b"<p><b>$</b>: <code>$ $</code></p>\n";
+/// Of a rule that the protocol keeps.
+pub(crate) const KEPT: &[u8] = b"kept";
+/// Of one that it does not keep.
+pub(crate) const BROKEN: &[u8] = b"broken";
 
 // The section of a run that was given.
 /// The position of the first bad event of an illegal run. What is wrong with it follows.

@@ -127,6 +127,35 @@ pub(crate) const NO_ROLE: Sentences = (
     b"begin it with `role ROLE`, and end that line with LF alone",
 );
 
+pub(crate) const NO_ROLE_NAMED: Sentences = (
+    b"the protocol has no role ",
+    b"name a role that `bspl expand` prints; after `knows` comes a role and then a parameter",
+);
+
+pub(crate) const NO_PARAMETER: Sentences = (
+    b"the protocol has no parameter ",
+    b"name a parameter that `bspl expand` prints",
+);
+
+pub(crate) const QUESTION_BYTE: Sentences = (
+    b"no word and no bracket begins at the byte of that offset, counted from 0 in the question, or \
+for a rule in the whole text",
+    b"write words, names and round brackets alone, as in `sent bill and not ( received pay )`",
+);
+
+pub(crate) const QUESTION_LONG: Sentences = (
+    b"the question has that many tokens, and may have 256, brackets counted",
+    b"put its parts one by one: the terms of an `or` are questions of their own",
+);
+
+pub(crate) const QUESTION_TOKEN: Sentences = (
+    b"no question has the word or the sign that begins at the byte of that offset, counted from 0 in \
+the question, or for a rule in the whole text; or it ends there too early",
+    b"write `sent M`, `received M`, `knows R P`, `bound P`, one of these `before` or `after` another, \
+`can M`, `rest` or `rest but M`, joined by `not`, `and`, `or` and round brackets; a rule begins with \
+`never` or `some`",
+);
+
 // What is wrong, after the first name and after the second.
 pub(crate) const NO_PART_THERE: &[u8] = b"`, and it is not there, or another part comes first";
 

@@ -13,8 +13,8 @@ public parameter that is to have a value.\n\
 Whether a certain role knows it is another question: let that role answer with a \
 public `out` parameter.\n\
 A message that nobody has to send, as a reminder or a cancellation, keeps its \
-enactment from rest while it can still be sent: take it away and verify again, to see \
-whether the verdict hangs on it.\n";
+enactment from rest while it can still be sent: ask `rest but M and not bound P` of such a \
+message M and each public parameter P, to see whether the verdict hangs on it.\n";
 
 // What two messages of an unsafe protocol do, event by event.
 pub(crate) const NOT_SAFE: &[u8] =

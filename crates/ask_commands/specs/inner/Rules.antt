@@ -4,20 +4,11 @@ use Rattle.std.specs.List.{All, flat_map, list_any}
 use Rattle.bspl_types.specs.declared.expanded.Expanded.{Expanded}
 use Rattle.protocol_rules.specs.declared.rule.Rule.{Rule}
 use Rattle.protocol_rules.specs.Laws.{said_by}
-use Rattle.question_text.specs.Meaning.{MeansQuestion}
-use Rattle.question_text.specs.Tree.{phrase_of}
-use Rattle.questions.specs.declared.question.Question.{Question}
-use Rattle.questions.specs.Subject.{IsAbout}
 use Rattle.ask_commands.specs.declared.judged.Judged.{Judged}
 use Rattle.ask_commands.specs.declared.options.AskOptions.{AskOptions}
 use Rattle.ask_commands.specs.AskAnswer.{asked_protocol_line}
 use Rattle.ask_commands.specs.Judgement.{IsRightlyJudged, JudgedRule, is_judged_broken, is_left_open}
 use Rattle.ask_commands.specs.Judgement.{judged_rule_text, said_of}
-
--- the rule asks this of the protocol
-pub record IsQuestionOf (x : Expanded) (rule : Rule) (q : Question) : Type 0 where
-  pub means : MeansQuestion x (phrase_of rule.question) q
-  pub about : IsAbout x q
 
 -- the first so many of the rules are judged
 pub record HasJudged (x : Expanded) (options : AskOptions) (rules : List Rule) (count : ℕ)

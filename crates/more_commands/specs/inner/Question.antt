@@ -1,7 +1,11 @@
 -- What the arguments request, as the code keeps it.
 use Rattle.std.specs.Prelude.{◌≡◌, ℕ, List, Option, None, Some}
 use Rattle.ask_commands.specs.AskCommand.{ask_task}
+use Rattle.ask_commands.specs.AskTask.{AskTask}
 use Rattle.ask_commands.specs.Misread.{misread_rejection}
+use Rattle.ask_commands.specs.declared.command.AskRequest.{AskRequest}
+use Rattle.bspl_tool.specs.Request.{Requests}
+use Rattle.bspl_tool.specs.declared.task.Task.{Task}
 use Rattle.question_text.specs.Tree.{phrase_of}
 use Rattle.more_commands.specs.declared.command.MoreCommand.{MoreCommand}
 use Rattle.more_commands.specs.declared.command.MoreCommand.TheVariants as command
@@ -9,8 +13,10 @@ use Rattle.more_commands.specs.declared.formula_arguments.FormulaArgs.{FormulaAr
 use Rattle.more_commands.specs.declared.formula_arguments.FormulaArgs.TheVariants as formula
 use Rattle.more_commands.specs.declared.question.MoreQuestion.{MoreQuestion}
 use Rattle.more_commands.specs.declared.word.CommandWord.{CommandWord}
+use Rattle.more_commands.specs.ExplainAsk.{NamesAsk}
 use Rattle.more_commands.specs.FormulaArguments.{Asked, Dead, FormulaSubject, Misput, NamesFormula, Whole}
-use Rattle.more_commands.specs.Task.{Ask, AsksTask, Explain, Formula, Lrat, MoreTask, Page, task_word}
+use Rattle.more_commands.specs.Task.{Ask, AsksTask, Explain, ExplainAsk, Formula, Lrat, MoreTask}
+use Rattle.more_commands.specs.Task.{Page, task_word}
 
 -- the formula that is asked for
 abbrev pub subject_of : FormulaArgs → FormulaSubject
@@ -31,6 +37,7 @@ more_task (command.Formula args) = Formula (subject_of args)
 more_task command.Lrat = Lrat
 more_task command.Page = Page
 more_task (command.Explain task) = Explain task
+more_task (command.ExplainAsk asked) = ExplainAsk (ask_task asked)
 
 -- the arguments after the word of a command ask this, or nothing
 abbrev pub IsAskedBy : CommandWord → List (List ℕ) → Option MoreQuestion → Type 0
@@ -39,3 +46,12 @@ IsAskedBy word args None =
 IsAskedBy word args (Some question) =
     (task_word (more_task question.command) ≡ word) ×
     AsksTask args (more_task question.command) question.name.now
+
+-- the arguments request nothing of the tool
+abbrev pub AskNoTask : List (List ℕ) → Type 0
+AskNoTask args = (task : Task) (name : List ℕ) → ¬ Requests args task name
+
+-- they are the word `ask`, and then request what is asked, or nothing
+abbrev pub IsAskedAfterWord : List (List ℕ) → Option AskRequest → Type 0
+IsAskedAfterWord args None = (task : AskTask) (name : List ℕ) → ¬ NamesAsk args task name
+IsAskedAfterWord args (Some request) = NamesAsk args (ask_task request.command) request.name.now

@@ -4,7 +4,7 @@ use Rattle.std.proofs.lemmas.Slice.Zip.{AllZip-long}
 use Rattle.questions.specs.Subject.{IsAbout}
 use Rattle.bspl_types.specs.declared.expanded.Expanded.{Expanded}
 use Rattle.ask_commands.specs.AskAnswer.{asked_protocol_line}
-use Rattle.ask_commands.specs.inner.Rules.{IsQuestionOf}
+use Rattle.ask_commands.specs.AskedRules.{IsQuestionOf}
 use Rattle.ask_commands.proofs.AskedLemmas.{question_about, question_at}
 use Rattle.ask_commands.proofs.JudgedLemmas.{all_judged, none_judged, one_judged}
 use Rattle.ask_commands.proofs.rules_command.judge_rules.Goals as goal

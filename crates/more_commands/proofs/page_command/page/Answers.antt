@@ -9,4 +9,4 @@ of-requires c = record { text = c.in-Ok-needed_part.part.now; plan = c.in_ok-age
 pub returns-in-Ok-needed_part-clause-ok : goal.returns-in-Ok-needed_part-clause-ok
 returns-in-Ok-needed_part-clause-ok c =
     let agents = c.in_ok-agents.agents in
-    agents_shown c.args.protocol c.args.input.now c.in-Ok-needed_part.part.now agents.script agents.plan c.in_ok-page_with_agents.field-0 c.in-Ok-needed_part.ensures.ok (search rules) (rw c.of.ensures at c.in_ok-page_with_agents.ensures)
+    agents_shown c.args.protocol c.args.input.now c.in-Ok-needed_part.part.now c.in_ok-rules.rules.rules agents.script agents.plan c.in_ok-page_with_agents.field-0 c.in_ok-rules.ensures.ok.of_text c.in-Ok-needed_part.ensures.ok (search rules) (rw c.of.ensures at c.in_ok-page_with_agents.ensures)

@@ -11,5 +11,5 @@ use Rattle.more_commands.proofs.pages.page_answer.Goals as goal
 pub returns : goal.returns
 returns c =
     let x = c.args.protocol.now in
-    IfOk-weaker c.page_of.result (PageOf x c.in_ok-verdicts.verdicts []) (λ (reply : Reply Status). IsPageAnswer x Nothing reply.text reply.status)
+    IfOk-weaker c.page_of.result (PageOf x c.in_ok-verdicts.verdicts c.args.rules.now.rules []) (λ (reply : Reply Status). IsPageAnswer x c.args.rules.now.rules Nothing reply.text reply.status)
     (λ reply made. made Nothing [] refl refl) c.page_of.ensures

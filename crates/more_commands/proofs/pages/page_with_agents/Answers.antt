@@ -12,5 +12,5 @@ returns c =
     let job = c.args.job.now in
     let given = Agents job.script job.plan in
     let section = c.in_ok-section.ensures in
-    IfOk-weaker c.page_of.result (PageOf job.protocol c.in_ok-verdicts.verdicts c.in_ok-section.section) (λ (reply : Reply Status). IsPageAnswer job.protocol given reply.text reply.status)
+    IfOk-weaker c.page_of.result (PageOf job.protocol c.in_ok-verdicts.verdicts c.args.rules.now.rules c.in_ok-section.section) (λ (reply : Reply Status). IsPageAnswer job.protocol c.args.rules.now.rules given reply.text reply.status)
     (λ reply made. made given section.shown section.shows section.text_is) (rw (c.as_slice.ensures, c.admitted-protocol.ensures) at c.page_of.ensures)

@@ -11,5 +11,5 @@ pub returns : goal.returns
 returns c =
     let x = c.args.protocol.now in
     let section = c.in_ok-section.ensures in
-    IfOk-weaker c.page_of.result (PageOf x c.in_ok-verdicts.verdicts c.in_ok-section.section) (λ (reply : Reply Status). IsPageAnswer x (Run c.args.run.now) reply.text reply.status)
+    IfOk-weaker c.page_of.result (PageOf x c.in_ok-verdicts.verdicts c.args.rules.now.rules c.in_ok-section.section) (λ (reply : Reply Status). IsPageAnswer x c.args.rules.now.rules (Run c.args.run.now) reply.text reply.status)
     (λ reply made. made (Run c.args.run.now) section.shown section.shows section.text_is) (rw c.as_slice.ensures at c.page_of.ensures)

@@ -27,3 +27,9 @@ returns-in-Explain-clause-ok c = rw c.in-Explain.is c.explain.ensures.ok
 
 pub returns-in-Explain-clause-refused : goal.returns-in-Explain-clause-refused
 returns-in-Explain-clause-refused c = rw c.in-Explain.is c.explain.ensures.refused
+
+pub returns-in-ExplainAsk-clause-ok : goal.returns-in-ExplainAsk-clause-ok
+returns-in-ExplainAsk-clause-ok c = rw c.in-ExplainAsk.is c.explain_asked.ensures.ok
+
+pub returns-in-ExplainAsk-clause-refused : goal.returns-in-ExplainAsk-clause-refused
+returns-in-ExplainAsk-clause-refused c = rw c.in-ExplainAsk.is c.explain_asked.ensures.refused

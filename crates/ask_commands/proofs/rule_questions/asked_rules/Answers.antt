@@ -1,7 +1,7 @@
--- The rules are judged, or one is refused.
+-- The rules have their questions, or one is refused.
 use Rattle.std.proofs.lemmas.Result.{err_from_is_err_and}
 use Rattle.ask_commands.proofs.JudgeLemmas.{no_rule_refused, rules_refused}
-use Rattle.ask_commands.proofs.rules_command.judge.Goals as goal
+use Rattle.ask_commands.proofs.rule_questions.asked_rules.Goals as goal
 
 pub returns-in-Err-clause-refused : goal.returns-in-Err-clause-refused
 returns-in-Err-clause-refused c =

@@ -5,9 +5,9 @@ use Rattle.protocol_rules.specs.declared.rule.Rule.{Rule}
 use Rattle.question_text.specs.Tree.{phrase_of}
 use Rattle.tool_input.specs.Error.{RejectsFor}
 use Rattle.ask_commands.specs.AskAnswer.{IsAskRefused}
-use Rattle.ask_commands.specs.inner.Rules.{IsQuestionOf}
+use Rattle.ask_commands.specs.AskedRules.{IsQuestionOf}
 use Rattle.ask_commands.proofs.AskedLemmas.{question_more, rule_refused}
-use Rattle.ask_commands.proofs.rules_command.questions_of.Goals as goal
+use Rattle.ask_commands.proofs.rule_questions.questions_of.Goals as goal
 
 pub returns-in_err-question-clause-refused : goal.returns-in_err-question-clause-refused
 returns-in_err-question-clause-refused c =
