@@ -1,12 +1,12 @@
 -- Which arguments are picked, and what they set.
-use Rattle.std.proofs.Common.{◌≡◌, ℕ, ◌≤◌, Bool, true, false, Bor, List, [], ◌∷◌, length, map, drop, get_or, Err, refl, sym, ap, ◌∙◌, arith, subst}
+use Rattle.std.proofs.Common.{◌≡◌, ℕ, ◌≤◌, Bool, Bor, List, [], ◌∷◌, length, map, drop, get_or, Err, refl, sym, ap, ◌∙◌, arith}
 use Rattle.list_base.specs.Numeral.{numeral}
 use Rattle.list_base.proofs.Numerals.{same_from_numeral}
 use Rattle.text_lines.specs.Decimal.{IsReadUpTo}
 use Rattle.text_lines.specs.declared.decimal.DecimalError.{DecimalError}
 use Rattle.text_lines.specs.declared.decimal.DecimalError.TheVariants.{Form, TooLarge}
 use Rattle.ask_commands.specs.declared.arguments.Flags.{Flags}
-use Rattle.ask_commands.specs.AskArguments.{AreByKind, ByKind, IsSwitch, SetsConflicts, SetsFlags, WritesBudget, of_kind}
+use Rattle.ask_commands.specs.AskArguments.{AreByKind, ByKind, IsSwitch, SetsConflicts, SetsFlags, WritesBudget}
 
 -- a text that is not read is no budget
 pub not_read : (text : List ℕ) (e : DecimalError) → IsReadUpTo 20000 text (Err e) → (n : ℕ) → ¬ WritesBudget text n

@@ -1,9 +1,7 @@
 -- What `--check` answers, from what is read and checked.
-use Rattle.std.proofs.Common.{◌≡◌, ◌≢◌, ℕ, ◌≤◌, List, [], ◌∷◌, ◌++◌, codes, length, length-append, inl, inr, refl, sym, ap, subst, ◌∙◌, arith}
+use Rattle.std.proofs.Common.{◌≡◌, ◌≢◌, ℕ, ◌≤◌, List, ◌++◌, codes, length, length-append, inl, inr, refl, sym, ap, subst, ◌∙◌, arith}
 use Rattle.bspl_types.specs.declared.expanded.Expanded.{Expanded}
 use Rattle.bspl_types.specs.Limits.{input_limit}
-use Rattle.log_checker.specs.declared.refusal.Reject.{Reject}
-use Rattle.question_answer.specs.Check.{AcceptsImpossible, FailsImpossible}
 use Rattle.question_answer.specs.Laws.{BytesAreTitledOnce}
 use Rattle.question_answer.specs.QuestionLog.{IsRefusedRest, IsRestOfLog, IsTitled, question_title}
 use Rattle.question_text.specs.declared.fault.QuestionFault.{QuestionFault}
@@ -18,20 +16,16 @@ use Rattle.question_text.specs.QuestionText.{IsMisread, IsQuestionText, tree_spe
 use Rattle.question_text.specs.Tree.{Phrase, phrase_of}
 use Rattle.question_text.specs.Unknown.{IsFirstUnknownName, IsUnknownIn, names_in}
 use Rattle.questions.specs.declared.question.Question.{Question}
-use Rattle.questions.specs.Answer.{IsPossible}
 use Rattle.refutation_log.specs.declared.refusal.LogRefusal.{LogRefusal}
 use Rattle.refutation_log.specs.declared.refusal.LogRefusal.TheVariants.{Form, NoMemory, Number}
 use Rattle.refutation_log.specs.declared.refutation.Log.{Log}
 use Rattle.refutation_log.specs.declared.refutation.Version.{Version}
 use Rattle.refutation_log.specs.declared.refutation.Version.TheVariants.{One, Two}
-use Rattle.rejections.specs.FailureLine.{reject_line}
 use Rattle.rejections.specs.PartRejection.{log_rejection}
-use Rattle.tool_input.specs.declared.status.Status.TheVariants.{Done, Refuted}
 use Rattle.tool_input.specs.Error.{RejectsFor, error_for}
-use Rattle.tool_input.specs.Lines.{line}
-use Rattle.ask_commands.specs.declared.wording.TheConstants as wording
 use Rattle.ask_commands.specs.AskAnswer.{phrase_spelling}
-use Rattle.ask_commands.specs.CheckAnswer.{HasQuestionTitle, IsCheckAskRefused, IsLogOnQuestion, IsSpelledQuestion}
+use Rattle.ask_commands.specs.CheckAnswer.{IsCheckAskRefused, IsLogOnQuestion}
+use Rattle.ask_commands.specs.TitledQuestion.{HasQuestionTitle, IsSpelledQuestion}
 
 -- a first line that is none
 pub not_titled : (x : Expanded) (part : List ℕ) → ¬ HasQuestionTitle x part → RejectsFor (IsCheckAskRefused x part) (error_for (log_rejection (Form 1)))

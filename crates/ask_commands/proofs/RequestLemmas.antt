@@ -1,11 +1,8 @@
 -- Arguments request one task at most.
-use Rattle.std.proofs.Common.{◌≡◌, ◌≢◌, ℕ, Bool, true, false, List, [], ◌∷◌, length, drop, get_or, Option, None, Some, refl, sym, ap, subst, ◌∙◌, arith}
+use Rattle.std.proofs.Common.{◌≡◌, ℕ, true, false, List, [], ◌∷◌, get_or, Option, None, Some, refl, sym, ap, subst, ◌∙◌, arith}
 use Rattle.std.specs.Prelude.{if◌then◌else◌}
 use Rattle.std.proofs.lemmas.Option.{none-some}
-use Rattle.question_text.specs.declared.fault.QuestionFault.{QuestionFault}
-use Rattle.question_text.specs.declared.fault.QuestionFault.TheVariants as faults
 use Rattle.question_text.specs.Laws.{HasOneFault, HasOneTree, HasTreeOrFault, IsFaultOf}
-use Rattle.question_text.specs.QuestionText.{IsMisread}
 use Rattle.question_text.specs.Tree.{Phrase}
 use Rattle.tool_input.specs.declared.rejection.Rejection.{Rejection}
 use Rattle.ask_commands.specs.declared.arguments.Flags.{Flags}
@@ -13,8 +10,8 @@ use Rattle.ask_commands.specs.declared.options.AskOptions.{AskOptions}
 use Rattle.ask_commands.specs.declared.command.AskRequest.{AskRequest}
 use Rattle.ask_commands.specs.AskCommand.{IsAskRequest}
 use Rattle.ask_commands.specs.inner.Request.{IsRequestByKind}
-use Rattle.ask_commands.specs.AskArguments.{AreByKind, ByKind, IsNameOnly, IsNameWithText}
-use Rattle.ask_commands.specs.AskTask.{AskTask, AsksByKind, AsksCheck, RequestsQuestion, AsksRules, Check, IsMisputText, IsTextOfPhrase, Judge, Misput, Put, PutsText, RequestsAsk, question_rejection}
+use Rattle.ask_commands.specs.AskArguments.{AreByKind, ByKind, IsNameOnly}
+use Rattle.ask_commands.specs.AskTask.{AskTask, AsksByKind, RequestsQuestion, AsksRules, Check, IsMisputText, IsTextOfPhrase, Judge, Misput, Put, PutsText, RequestsAsk, question_rejection}
 use Rattle.ask_commands.proofs.ArgumentLemmas.{one_budget, one_sorting}
 
 -- which of the three forms the flags give, and which one a task has

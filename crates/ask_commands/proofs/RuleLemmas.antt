@@ -1,6 +1,6 @@
 -- What the status of judged rules says is true.
 use Rattle.std.proofs.Common.{◌≡◌, ℕ, ◌<◌, Bool, true, false, List, [], ◌∷◌, length, map, get_or, refl, sym, ap, subst, ◌∙◌, arith}
-use Rattle.std.specs.List.{All, Contains, list_any}
+use Rattle.std.specs.List.{Contains, list_any}
 use Rattle.std.proofs.lemmas.Bool.{both_ways}
 use Rattle.std.proofs.lemmas.List.{get_or-map, length-map}
 use Rattle.std.proofs.lemmas.List.Elements.{All-contains, Contains-get_or}
@@ -14,10 +14,8 @@ use Rattle.question_answer.specs.declared.answer.Answer.{Answer}
 use Rattle.question_answer.specs.declared.answer.Answer.TheVariants.{Impossible, Possible, Undecided}
 use Rattle.question_answer.specs.Answer.{HasEvidence}
 use Rattle.question_text.specs.Meaning.{AsksQuestion, MeansQuestion}
-use Rattle.question_text.specs.Tree.{Phrase, phrase_of}
+use Rattle.question_text.specs.Tree.{Phrase}
 use Rattle.questions.specs.declared.question.Question.{Question}
-use Rattle.questions.specs.Answer.{IsPossible}
-use Rattle.tool_input.specs.declared.status.Status.{Status}
 use Rattle.tool_input.specs.declared.status.Status.TheVariants as status
 use Rattle.tool_input.specs.Parts.{protocol_text}
 use Rattle.ask_commands.specs.declared.options.AskOptions.{AskOptions}

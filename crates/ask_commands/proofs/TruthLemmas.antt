@@ -23,7 +23,8 @@ use Rattle.tool_input.specs.Lines.{line}
 use Rattle.ask_commands.specs.declared.options.AskOptions.{AskOptions}
 use Rattle.ask_commands.specs.declared.wording.TheConstants as wording
 use Rattle.ask_commands.specs.AskAnswer.{IsAskAnswer, ask_text, asked_protocol_line, possibility_evidence, possibility_line}
-use Rattle.ask_commands.specs.CheckAnswer.{IsCheckAskAnswer, IsSpelledQuestion}
+use Rattle.ask_commands.specs.CheckAnswer.{IsCheckAskAnswer}
+use Rattle.ask_commands.specs.TitledQuestion.{IsSpelledQuestion}
 use Rattle.ask_commands.specs.Claims.{SaysAcceptedQuestion, SaysImpossible, SaysOfQuestion, SaysPossible}
 
 -- a question means one of the protocol at most, and that has one answer

@@ -4,7 +4,6 @@ use Rattle.bspl_types.specs.declared.expanded.Expanded.{Expanded}
 use Rattle.log_checker.specs.declared.refusal.Reject.{Reject}
 use Rattle.question_answer.specs.Check.{AcceptsImpossible, FailsImpossible}
 use Rattle.question_answer.specs.QuestionLog.{IsRefusedRest, IsRestOfLog, IsTitled}
-use Rattle.question_text.specs.Meaning.{MeansQuestion}
 use Rattle.question_text.specs.Tree.{Phrase}
 use Rattle.questions.specs.declared.question.Question.{Question}
 use Rattle.questions.specs.Answer.{IsPossible}
@@ -22,25 +21,7 @@ use Rattle.tool_input.specs.declared.status.Status.TheVariants.{Done, Refuted}
 use Rattle.tool_input.specs.Lines.{line}
 use Rattle.tool_input.specs.Rules.{CommandRules}
 use Rattle.ask_commands.specs.declared.wording.TheConstants as wording
-use Rattle.ask_commands.specs.AskAnswer.{phrase_spelling}
-use Rattle.ask_commands.specs.AskTask.{IsTextOfPhrase}
-
--- the text is that of the phrase, spelled as in answers, and asks this question of the protocol
-pub record IsSpelledQuestion (x : Expanded) (text : List ℕ) (phrase : Phrase) (q : Question)
-    : Type 0 where
-  pub read : IsTextOfPhrase text phrase
-  pub spelled : text ≡ phrase_spelling phrase
-  pub means : MeansQuestion x phrase q
-
--- the bytes begin with the first line of a log on a question so spelled
-pub record HasQuestionTitle (x : Expanded) (bytes : List ℕ) : Type 0 where
-  pub version : Version
-  pub spelling : List ℕ
-  pub rest : List ℕ
-  pub titled : IsTitled bytes version spelling rest
-  pub phrase : Phrase
-  pub question : Question
-  pub asks : IsSpelledQuestion x spelling phrase question
+use Rattle.ask_commands.specs.TitledQuestion.{HasQuestionTitle, IsSpelledQuestion}
 
 -- the bytes are the text of the log on this question, which is so spelled
 pub record IsLogOnQuestion (x : Expanded) (bytes spelling : List ℕ) (q : Question) (log : Log)

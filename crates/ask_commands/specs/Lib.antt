@@ -5,6 +5,7 @@ pub mod AskTask
 pub mod Misread
 pub mod AskCommand
 pub mod AskAnswer
+pub mod TitledQuestion
 pub mod CheckAnswer
 pub mod Judgement
 pub mod RulesAnswer

@@ -5,7 +5,7 @@ ghost use Rattle.tool_input.specs.Lines.{line};
 ghost use Rattle.ask_commands.specs.CheckAnswer.{IsCheckAskAnswer, IsCheckAskRefused};
 ghost use Rattle.ask_commands.specs.declared.wording.TheConstants as wording;
 
-use super::question_log::{QuestionLog, read_question_log};
+use super::question_log::read_question_log;
 use super::wording::ACCEPTED;
 use bspl_types::Admitted;
 use list_base::{Bytes, NoMemory};
@@ -23,17 +23,11 @@ pub fn check(alloc: Global, protocol: &Admitted, part: &[u8]) -> Result<Reply<St
         IsCheckAskAnswer protocol.now part.now reply.text reply.status) }
     ensures refused { IfErr result (RejectsFor (IsCheckAskRefused protocol.now part.now)) }
 {
-    let QuestionLog {
-        spelling,
-        question,
-        log,
-    } = read_question_log(alloc, protocol.expanded(), part)?;
-    let checked = check_question(alloc, protocol, &question, &log);
-    drop(log);
-    match checked {
+    let read = read_question_log(alloc, protocol.expanded(), part)?;
+    match check_question(alloc, protocol, &read.question, &read.log) {
         Ok(()) => Ok(Reply {
             status: Status::Done,
-            text: accepted_text(alloc, spelling)?,
+            text: accepted_text(alloc, read.spelling)?,
         }),
         Err(Reject::NoMemory) => Err(AnswerError::NoMemory),
         Err(reject) => Ok(Reply {

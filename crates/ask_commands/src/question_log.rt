@@ -7,7 +7,7 @@ ghost use Rattle.questions.specs.declared.question.Question.{Question as SpecQue
 ghost use Rattle.rejections.specs.PartRejection.{log_rejection};
 ghost use Rattle.tool_input.specs.Error.{RejectsFor, error_for};
 ghost use Rattle.ask_commands.specs.CheckAnswer.{IsCheckAskRefused, IsLogOnQuestion};
-ghost use Rattle.ask_commands.specs.CheckAnswer.{IsSpelledQuestion};
+ghost use Rattle.ask_commands.specs.TitledQuestion.{IsSpelledQuestion};
 
 use bspl_types::Expanded;
 use list_base::NoMemory;

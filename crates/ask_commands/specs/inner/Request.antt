@@ -1,6 +1,5 @@
 -- What arguments by their kinds request, as the code keeps it.
 use Rattle.std.specs.Prelude.{ℕ, List, Option, None, Some, map}
-use Rattle.ask_commands.specs.declared.arguments.Flags.{Flags}
 use Rattle.ask_commands.specs.declared.arguments.Sorted.{Sorted}
 use Rattle.ask_commands.specs.declared.command.AskRequest.{AskRequest}
 use Rattle.ask_commands.specs.AskArguments.{AreByKind, ByKind}

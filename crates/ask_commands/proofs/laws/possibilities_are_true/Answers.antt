@@ -1,5 +1,5 @@
 -- The lines of an answer are true of the question that is asked.
-use Rattle.ask_commands.proofs.TruthLemmas.{OneMeaning, accepted_impossible, said_impossible, said_possible}
+use Rattle.ask_commands.proofs.TruthLemmas.{accepted_impossible, said_impossible, said_possible}
 use Rattle.ask_commands.proofs.laws.possibilities_are_true.Goals as goal
 
 pub returns-clause-possible : goal.returns-clause-possible

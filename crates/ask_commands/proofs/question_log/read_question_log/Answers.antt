@@ -1,5 +1,5 @@
 -- The log follows its first line, or what is there is refused.
-use Rattle.std.proofs.Common.{◌≡◌, arith}
+use Rattle.std.proofs.Common.{arith}
 use Rattle.ask_commands.proofs.CheckLemmas.{log_on, not_asked, not_titled, rest_is_short, rest_refused, spelling_is_short, title_of}
 use Rattle.ask_commands.proofs.question_log.read_question_log.Goals as goal
 
@@ -29,8 +29,8 @@ returns-in-Ok-clause-few c =
     let rest = rest_is_short c.args.part.now c.in-Some.spelling.now c.in-Some.rest.now c.in-Some.version c.in-Some.ensures in
     omega (arith, steps, rest, c.requires)
 
-pub returns-clause-refused : goal.returns-clause-refused
-returns-clause-refused c =
+pub returns-in-Err-clause-refused : goal.returns-in-Err-clause-refused
+returns-in-Err-clause-refused c =
     let asks = rw c.in-Some-2.is at c.in_ok-question.ensures.exact in
     let title = title_of c.args.x.now c.args.part.now c.in-Some.spelling.now c.in-Some.rest.now c.in-Some.version c.in-Some-2.question c.in-Some.ensures asks in
     rw (c.error_for.ensures, c.log_rejection.ensures) (rest_refused c.args.x.now c.args.part.now title c.in-Err.refusal c.in-Err.ensures.refused)

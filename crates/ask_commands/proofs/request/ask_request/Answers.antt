@@ -2,7 +2,7 @@
 use Rattle.std.proofs.Common.{map, string_bytes}
 use Rattle.std.proofs.lemmas.Result.{IfOk-weaker}
 use Rattle.ask_commands.specs.AskCommand.{IsAskRequest}
-use Rattle.ask_commands.specs.inner.Request.{IsRequestByKind, IsSorted, by_kind_of}
+use Rattle.ask_commands.specs.inner.Request.{IsRequestByKind, by_kind_of}
 use Rattle.ask_commands.proofs.RequestLemmas.{by_kind_requested}
 use Rattle.ask_commands.proofs.request.ask_request.Goals as goal
 

@@ -1,5 +1,5 @@
 -- With another option they request nothing.
-use Rattle.std.proofs.Common.{◌≡◌, true, false, [], sym, ap, ◌∙◌, length, arith}
+use Rattle.std.proofs.Common.{◌≡◌, true, false}
 use Rattle.ask_commands.specs.inner.Request.{by_kind_of}
 use Rattle.ask_commands.proofs.ArgumentLemmas.{no_value}
 use Rattle.ask_commands.proofs.RequestLemmas.{check_alone}
