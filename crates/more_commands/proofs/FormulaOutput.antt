@@ -28,7 +28,8 @@ use Rattle.tool_input.specs.Parts.{protocol_text}
 use Rattle.tool_input.specs.Rejection.{over_limit, rejection_line, text_rejection}
 use Rattle.more_commands.specs.FormulaAnswer.{IsAskedText, IsFormulaRefused, IsTextOfSubject, formula_rules}
 use Rattle.more_commands.specs.FormulaArguments.{Asked, AsksFormula, Dead, FormulaSubject, Misput, PutText, Whole, formula_refused_at_once}
-use Rattle.more_commands.specs.Task.{Formula, IsMoreRefusal, MoreTask, RequestsMore, more_interface, more_refused_at_once, more_rules}
+use Rattle.more_commands.specs.Interface.{IsMoreRefusal, more_interface}
+use Rattle.more_commands.specs.Task.{Formula, MoreTask, RequestsMore, more_refused_at_once, more_rules}
 
 -- what the crates below have once
 pub record OneEach : Type 0 where

@@ -11,7 +11,8 @@ use Rattle.more_commands.specs.declared.word.CommandWord.{CommandWord}
 use Rattle.more_commands.specs.declared.word.CommandWord.TheVariants as word
 use Rattle.more_commands.specs.ExplainAsk.{NamesAsk}
 use Rattle.more_commands.specs.FormulaArguments.{FormulaSubject}
-use Rattle.more_commands.specs.Task.{Ask, AsksTask, Explain, ExplainAsk, Formula, IsNameAlone, Lrat, MoreTask, Page, more_interface, task_word, word_text}
+use Rattle.more_commands.specs.Interface.{more_interface}
+use Rattle.more_commands.specs.Task.{Ask, AsksTask, Explain, ExplainAsk, Formula, IsNameAlone, Lrat, MoreTask, Page, task_word, word_text}
 use Rattle.more_commands.proofs.AskLemmas.{no_tool_ask}
 use Rattle.more_commands.proofs.FormulaLemmas.{OneReading, one_formula}
 

@@ -26,7 +26,8 @@ use Rattle.more_commands.specs.ExplainAnswer.{AnswersInWords, explain_rules}
 use Rattle.more_commands.specs.ExplainAsk.{NamesAsk}
 use Rattle.more_commands.specs.Laws.{AddsWords, AreWordsAfter, AreWordsFor}
 use Rattle.more_commands.specs.StatusWords.{status_words}
-use Rattle.more_commands.specs.Task.{AsksTask, Explain, IsMoreRefusal, MoreTask, RequestsMore, more_interface, more_own_text, more_refused_at_once, more_rules, task_word, word_text}
+use Rattle.more_commands.specs.Interface.{IsMoreRefusal, more_interface}
+use Rattle.more_commands.specs.Task.{AsksTask, Explain, MoreTask, RequestsMore, more_own_text, more_refused_at_once, more_rules, task_word, word_text}
 use Rattle.more_commands.proofs.AskLemmas.{no_tool_ask}
 use Rattle.more_commands.proofs.RequestLemmas.{is_explain, one_command}
 

@@ -25,7 +25,8 @@ use Rattle.tool_input.specs.Parts.{protocol_text}
 use Rattle.tool_input.specs.Rejection.{rejection_line}
 use Rattle.tool_input.specs.TaskLaws.{OneTask}
 use Rattle.more_commands.specs.Laws.{AreAskedOf}
-use Rattle.more_commands.specs.Task.{Ask, IsMoreRefusal, MoreTask, more_interface, more_rules}
+use Rattle.more_commands.specs.Interface.{IsMoreRefusal, more_interface}
+use Rattle.more_commands.specs.Task.{Ask, MoreTask, more_rules}
 
 -- the first byte of a text
 first : List ℕ → ℕ

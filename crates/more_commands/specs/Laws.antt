@@ -40,7 +40,8 @@ use Rattle.more_commands.specs.FormulaArguments.{FormulaSubject}
 use Rattle.more_commands.specs.Given.{Given}
 use Rattle.more_commands.specs.PageAnswer.{IsPageAnswer}
 use Rattle.more_commands.specs.StatusWords.{status_words}
-use Rattle.more_commands.specs.Task.{Ask, Formula, RequestsMore, more_interface, word_text}
+use Rattle.more_commands.specs.Interface.{more_interface}
+use Rattle.more_commands.specs.Task.{Ask, Formula, RequestsMore, word_text}
 
 -- the arguments ask for the task on the protocol that the input declares
 pub record AreAskedOf (args : List (List ℕ)) (input : List ℕ) (x : Expanded) (task : AskTask)

@@ -1,6 +1,7 @@
 -- What one call promises: the commands and their arguments; then what each answers, and the laws.
 -- What private functions cite is last.
 pub mod Call
+pub mod Interface
 pub mod Task
 pub mod FormulaArguments
 pub mod FormulaAnswer

@@ -1,21 +1,18 @@
 -- The commands: what each is asked, by which arguments, and by which rules it answers.
 use Rattle.std.specs.Prelude.{◌≡◌, ℕ, List, [], ◌∷◌, Option, None, IsTrue}
-use Rattle.answer_words.specs.Refusal.{IsRefusalText}
 use Rattle.ask_commands.specs.AskRules.{ask_rules}
 use Rattle.ask_commands.specs.AskTask.{AskTask, RequestsAsk, ask_refused_at_once}
 use Rattle.bspl_tool.specs.declared.task.Task.{Task}
 use Rattle.bspl_tool.specs.Request.{Requests}
 use Rattle.bspl_tool.specs.Task.{own_text}
 use Rattle.bspl_types.specs.Name.{is_name}
-use Rattle.tool_input.specs.Interface.{Interface}
 use Rattle.tool_input.specs.Rules.{CommandRules}
 use Rattle.tool_input.specs.declared.rejection.Rejection.{Rejection}
-use Rattle.tool_input.specs.Rejection.{rejection_line}
 use Rattle.more_commands.specs.declared.wording.TheConstants as wording
 use Rattle.more_commands.specs.declared.word.CommandWord.{CommandWord}
 use Rattle.more_commands.specs.declared.word.CommandWord.TheVariants as word
 use Rattle.more_commands.specs.ExplainAnswer.{explain_rules}
-use Rattle.more_commands.specs.ExplainAsk.{IsAskRefusal, NamesAsk, explain_ask_rules}
+use Rattle.more_commands.specs.ExplainAsk.{NamesAsk, explain_ask_rules}
 use Rattle.more_commands.specs.FormulaAnswer.{formula_rules}
 use Rattle.more_commands.specs.FormulaArguments.{AsksFormula, FormulaSubject, formula_refused_at_once}
 use Rattle.more_commands.specs.LratAnswer.{lrat_rules}
@@ -88,20 +85,3 @@ more_refused_at_once (Ask task) = ask_refused_at_once task
 more_refused_at_once (Formula subject) = formula_refused_at_once subject
 more_refused_at_once (ExplainAsk task) = ask_refused_at_once task
 more_refused_at_once task = None
-
--- how a refusal is written: in words, or in its line
-abbrev pub IsMoreRefusal : MoreTask → List ℕ → Rejection → List ℕ → Type 0
-IsMoreRefusal (Explain task) input r out = IsRefusalText input r out
-IsMoreRefusal (ExplainAsk task) input r out = IsAskRefusal task input r out
-IsMoreRefusal task input r out = out ≡ rejection_line r
-
--- the commands together
-abbrev pub more_interface : Interface MoreTask
-more_interface = record {
-  usage = wording.USAGE.now;
-  requests = RequestsMore;
-  rules = more_rules;
-  own_text = more_own_text;
-  refused_at_once = more_refused_at_once;
-  refusal_text = IsMoreRefusal;
-}

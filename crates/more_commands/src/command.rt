@@ -5,7 +5,8 @@ ghost use Rattle.bspl_types.specs.Limits.{input_limit};
 ghost use Rattle.tool_input.specs.Error.{RejectsFor};
 ghost use Rattle.tool_input.specs.declared.status.Status.TheVariants.{Refused};
 ghost use Rattle.more_commands.specs.ExplainAsk.{IsAskRefusal};
-ghost use Rattle.more_commands.specs.Task.{IsMoreRefusal, more_own_text, more_refused_at_once};
+ghost use Rattle.more_commands.specs.Interface.{IsMoreRefusal};
+ghost use Rattle.more_commands.specs.Task.{more_own_text, more_refused_at_once};
 ghost use Rattle.more_commands.specs.Task.{more_rules};
 ghost use Rattle.more_commands.specs.inner.Question.{more_task};
 

@@ -1,7 +1,7 @@
 ghost use Rattle.std.specs.Prelude.{◌≡◌, ⊤, IfOk};
 ghost use Rattle.tool_input.specs.Answer.{IsRightAnswer, RepliesWith};
 ghost use Rattle.tool_input.specs.TaskLaws.{AtOnceIsRefusedAlike, LongIsRefusedAlike, OneTask};
-ghost use Rattle.more_commands.specs.Task.{more_interface};
+ghost use Rattle.more_commands.specs.Interface.{more_interface};
 
 use super::arguments::question_of;
 use super::command::MoreCommand;
@@ -26,7 +26,8 @@ pub struct MoreQuestion<'a> {
 impl<'a> Question<'a> for MoreQuestion<'a> {
     ghost use Rattle.std.specs.Prelude.{⊤};
     ghost use Rattle.tool_input.specs.Answer.{RepliesWith};
-    ghost use Rattle.more_commands.specs.Task.{MoreTask, more_interface};
+    ghost use Rattle.more_commands.specs.Interface.{more_interface};
+    ghost use Rattle.more_commands.specs.Task.{MoreTask};
     ghost use Rattle.more_commands.specs.inner.Question.{more_task};
 
     type Answer = Reply<Status>;
