@@ -10,8 +10,8 @@ returns-in-Ok c = inl (record {
   done = refl;
 })
 
-pub returns : goal.returns
-returns c = inr (record {
+pub returns-in_ok-reject_line-in-Err : goal.returns-in_ok-reject_line-in-Err
+returns-in_ok-reject_line-in-Err c = inr (record {
   reject = c.in-Err.reject;
   fails = (c.in-Err.ensures.rejects (search rules) c.in-Err.reject).0 refl;
   text = c.in_ok-reject_line-in-Err.ensures;
