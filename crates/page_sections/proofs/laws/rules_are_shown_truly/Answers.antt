@@ -1,6 +1,5 @@
 -- The word for a rule is that of a right answer.
 use Rattle.std.proofs.Common.{◌≡◌, ℕ, List, get_or, ap, arith}
-use Rattle.std.specs.List.{All}
 use Rattle.ask_commands.specs.Claims.{KeepsRule}
 use Rattle.ask_commands.specs.Judgement.{IsRightlyJudged, JudgedRule}
 use Rattle.bspl_types.specs.declared.expanded.Expanded.{Expanded}

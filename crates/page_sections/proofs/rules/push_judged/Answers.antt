@@ -1,5 +1,5 @@
 -- One rule more is shown.
-use Rattle.std.proofs.Common.{◌≡◌, sym, subst, arith}
+use Rattle.std.proofs.Common.{sym, subst, arith}
 use Rattle.std.proofs.lemmas.Slice.Zip.{AllZip-long}
 use Rattle.ask_commands.specs.AskedRules.{IsQuestionOf}
 use Rattle.bspl_types.specs.declared.expanded.Expanded.{Expanded}
