@@ -2,7 +2,7 @@ ghost use Rattle.std.specs.Prelude.{◌≡◌};
 ghost use Rattle.ask_commands.specs.AskCommand.{ask_task};
 ghost use Rattle.more_commands.specs.AskWords.{ask_done, ask_refuted, ask_undecided, ask_words};
 
-use super::wording::questions;
+use super::wording::question_words;
 use ask_commands::AskCommand;
 use tool_input::Status;
 
@@ -23,10 +23,10 @@ fn ask_done(command: &AskCommand) -> &'static [u8]
     ensures { result.now ≡ ask_done (ask_task command.now) }
 {
     match command {
-        AskCommand::Put { .. } => questions::POSSIBLE,
+        AskCommand::Put { .. } => question_words::POSSIBLE,
         AskCommand::Misread(_) => b"",
-        AskCommand::Check => questions::ACCEPTED,
-        AskCommand::Judge(_) => questions::KEPT,
+        AskCommand::Check => question_words::ACCEPTED,
+        AskCommand::Judge(_) => question_words::KEPT,
     }
 }
 
@@ -35,10 +35,10 @@ fn ask_refuted(command: &AskCommand) -> &'static [u8]
     ensures { result.now ≡ ask_refuted (ask_task command.now) }
 {
     match command {
-        AskCommand::Put { .. } => questions::IMPOSSIBLE,
+        AskCommand::Put { .. } => question_words::IMPOSSIBLE,
         AskCommand::Misread(_) => b"",
-        AskCommand::Check => questions::NOT_ACCEPTED,
-        AskCommand::Judge(_) => questions::BROKEN,
+        AskCommand::Check => question_words::NOT_ACCEPTED,
+        AskCommand::Judge(_) => question_words::BROKEN,
     }
 }
 
@@ -47,8 +47,8 @@ fn ask_undecided(command: &AskCommand) -> &'static [u8]
     ensures { result.now ≡ ask_undecided (ask_task command.now) }
 {
     match command {
-        AskCommand::Put { .. } => questions::UNDECIDED,
+        AskCommand::Put { .. } => question_words::UNDECIDED,
         AskCommand::Misread(_) | AskCommand::Check => b"",
-        AskCommand::Judge(_) => questions::SOME_UNDECIDED,
+        AskCommand::Judge(_) => question_words::SOME_UNDECIDED,
     }
 }

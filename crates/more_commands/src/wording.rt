@@ -1,7 +1,7 @@
 //! What a user writes and reads of these commands, word for word.
 
 pub(crate) mod answers;
-pub(crate) mod questions;
+pub(crate) mod question_words;
 
 /// The line for arguments that request nothing.
 pub(crate) const USAGE: &[u8] =
