@@ -1,18 +1,22 @@
 -- The commands by their words, and that arguments request one task on one name.
-use Rattle.std.proofs.Common.{◌≡◌, ◌==◌, ℕ, List, [], cond, drop, get_or, None, Some, inl, inr, ◌⊎◌, refl, sym, ap, subst, ◌∙◌}
+use Rattle.std.proofs.Common.{◌≡◌, ◌==◌, ℕ, List, [], ◌∷◌, Option, cond, drop, get_or, None, Some, inl, inr, ◌⊎◌, refl, sym, ap, subst, ◌∙◌}
 use Rattle.std.proofs.lemmas.Option.{none-some}
+use Rattle.ask_commands.specs.AskCommand.{IsAskRequest}
+use Rattle.ask_commands.specs.declared.command.AskRequest.{AskRequest}
 use Rattle.ask_commands.specs.AskTask.{AskTask, Check, Judge, Misput, Put, RequestsAsk}
 use Rattle.ask_commands.specs.Laws.{OneAsk}
 use Rattle.bspl_tool.specs.declared.task.Task.{Task}
 use Rattle.bspl_tool.specs.Interface.{tool_interface}
 use Rattle.bspl_tool.specs.Request.{Requests}
 use Rattle.tool_input.specs.TaskLaws.{AtOnceIsRefusedAlike, LongIsRefusedAlike, OneTask}
+use Rattle.more_commands.specs.declared.wording.TheConstants as wording
 use Rattle.more_commands.specs.declared.word.CommandWord.{CommandWord}
 use Rattle.more_commands.specs.declared.word.CommandWord.TheVariants as word
 use Rattle.more_commands.specs.ExplainAsk.{NamesAsk}
 use Rattle.more_commands.specs.FormulaArguments.{FormulaSubject}
 use Rattle.more_commands.specs.Interface.{more_interface}
 use Rattle.more_commands.specs.Task.{Ask, AsksTask, Explain, ExplainAsk, Formula, IsNameAlone, Lrat, MoreTask, Page, task_word, word_text}
+use Rattle.more_commands.specs.inner.Question.{IsAskedAfterWord}
 use Rattle.more_commands.proofs.AskLemmas.{no_tool_ask}
 use Rattle.more_commands.proofs.FormulaLemmas.{OneReading, one_formula}
 
@@ -173,3 +177,8 @@ at_once_is_refused_alike (ExplainAsk (Put phrase options)) r input other out at_
 at_once_is_refused_alike (ExplainAsk (Misput misput)) r input other out at_once is = is
 at_once_is_refused_alike (ExplainAsk Check) r input other out at_once is = absurd (let no : None ≡ Some r = at_once in none-some r no)
 at_once_is_refused_alike (ExplainAsk (Judge options)) r input other out at_once is = absurd (let no : None ≡ Some r = at_once in none-some r no)
+
+-- what is requested after the word `ask`, or nothing
+pub asked_after : (args rest : List (List ℕ)) (found : Option AskRequest) → args ≡ wording.ASK.now ∷ rest → IsAskRequest rest found → IsAskedAfterWord args found
+asked_after args rest None same none = λ task name asks. none task name (subst (λ (list : List (List ℕ)). RequestsAsk list task name) (ap (drop 1) (sym asks.arguments ∙ same)) asks.requested)
+asked_after args rest (Some request) same is = record { rest = rest; arguments = same; requested = is }

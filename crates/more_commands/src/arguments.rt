@@ -1,4 +1,5 @@
-ghost use Rattle.std.specs.Prelude.{List, ℕ, map, string_bytes, IfOk, MatchOption};
+ghost use Rattle.std.specs.Prelude.{◌≡◌, ◌↔◌, List, ℕ, map, string_bytes, IfOk, IsTrue, MatchOption};
+ghost use Rattle.more_commands.specs.declared.wording.TheConstants as wording;
 ghost use Rattle.more_commands.specs.declared.word.CommandWord.TheVariants as word;
 ghost use Rattle.more_commands.specs.Task.{IsNameAlone};
 ghost use Rattle.more_commands.specs.inner.Question.{AskNoTask, IsAskedAfterWord, IsAskedBy};
@@ -122,9 +123,16 @@ fn asked_after_word<'a>(
     let Some((word, rest)) = args.split_first() else {
         return Ok(None);
     };
-    if word.as_bytes() == ASK {
+    if is_ask(word.as_bytes()) {
         ask_request(alloc, rest)
     } else {
         Ok(None)
     }
+}
+
+/// Whether the word is that of `ask`.
+fn is_ask(word: &[u8]) -> bool
+    ensures { IsTrue result ↔ (word.now ≡ wording.ASK.now) }
+{
+    word == ASK
 }
