@@ -26,12 +26,12 @@ leaves_prefix written [] zeros half room = (0, zeros_are_empty zeros room)
 leaves_prefix [] (other ∷ left) zeros half room = absurd half
 leaves_prefix (byte ∷ written) (other ∷ left) zeros half room =
     (elim (cases_eq other 0) as (λ _. (count : ℕ) × (before_zero (other ∷ (left ++ zeros)) ≡ take count (byte ∷ written))) [
-        inl is_zero ↦ (0, zero_ends other (left ++ zeros) is_zero)
+      | inl is_zero ↦ (0, zero_ends other (left ++ zeros) is_zero)
       | inr is_other ↦
           let more = leaves_prefix written left zeros half.1 room in
           let same = is_as_written byte other half.0 is_other in
           (suc more.0, other_stays other (left ++ zeros) is_other ∙ ap (λ (b : ℕ). b ∷ before_zero (left ++ zeros)) same ∙ ap (λ (rest : List ℕ). byte ∷ rest) more.1)
-      ])
+    ])
 
 -- the text is what was kept, and then the first of the begun lines
 pub leaves_lines : CrashLeavesLines

@@ -26,7 +26,8 @@ pub record IsKeptCall (old new : KeptLines) (lines : List ℕ) : Type 0 where
 -- the call failed: no call was to succeed, or the bytes are no lines; each later call fails
 pub record IsFailedCall (old new : KeptLines) (lines : List ℕ) : Type 0 where
   pub cause : (old.calls ≡ 0) ⊎ (AreTextLines lines → ⊥)
-  pub after : new ≡ record old { begun = old.begun ++ lines; calls = 0; faults = count_after old.faults }
+  pub after : new ≡
+      record old { begun = old.begun ++ lines; calls = 0; faults = count_after old.faults }
 
 -- what a call made of the journal
 abbrev pub KeepsOrBegins : KeptLines → KeptLines → List ℕ → Result (Unit {0}) Trouble → Type 0

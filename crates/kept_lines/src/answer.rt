@@ -51,9 +51,12 @@ pub fn keep_and_write<J: Journal, W: Sink>(
     lines: &[u8],
     replies: &[u8],
 ) -> Result<(), AnswerRefusal>
-    ensures order { KeepsFirst (record { kept = J.kept journal.old;
-        kept_after = J.kept journal.new; contents = W.contents output.old;
-        contents_after = W.contents output.new }) lines.now replies.now result }
+    ensures order { KeepsFirst (record {
+      kept = J.kept journal.old;
+      kept_after = J.kept journal.new;
+      contents = W.contents output.old;
+      contents_after = W.contents output.new;
+    }) lines.now replies.now result }
     ensures keep_counted { IsErrOf result AnswerRefusal.JournalFault →
         HasCounted (J.faults journal.old) (J.faults journal.new) }
     ensures keep_still { ¬ IsErrOf result AnswerRefusal.JournalFault →

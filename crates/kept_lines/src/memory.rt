@@ -28,7 +28,12 @@ impl Model for MemJournal {
 
     ghost Value = { KeptLines };
 
-    ghost view = { λ j. record { kept = j.kept; begun = j.begun; calls = j.calls; faults = j.faults } };
+    ghost view = { λ j. record {
+      kept = j.kept;
+      begun = j.begun;
+      calls = j.calls;
+      faults = j.faults;
+    } };
 
     ghost invariant = { λ j. AreTextLines j.kept };
 }

@@ -12,7 +12,7 @@ loop-index-preserved c =
     let index = c.loop-index.index in
     let of_its_own : IsLeftOf (get_or written index 0) (get_or left index 0) =
     (elim c.else-byte-written.branch as (λ _. IsLeftOf (get_or written index 0) (get_or left index 0)) [
-        else-byte-written-via-then-byte-written+else-byte-ne0 w ↦ inr (omega (arith, w.if-byte-ne0.false))
+      | else-byte-written-via-then-byte-written+else-byte-ne0 w ↦ inr (omega (arith, w.if-byte-ne0.false))
       | else-byte-written-via-else-byte-written w ↦ inl (omega (arith, w.if-byte-written.false))
-      ]) in
+    ]) in
     half_take_more written left index (omega (arith, c.loop-index-test.true, c.if-left-written.false)) (omega (arith, c.loop-index-test.true)) c.loop-index.invariant of_its_own

@@ -14,9 +14,9 @@ loop-index-preserved c =
     let so_far = c.loop-index.invariant in
     let of_its_own : IsLeftOf (get_or written index 0) next =
     (elim c.if-reached-index.branch as (λ _. IsLeftOf (get_or written index 0) next) [
-        then-reached-index w ↦ inl (omega (arith, w.push-is))
+      | then-reached-index w ↦ inl (omega (arith, w.push-is))
       | else-reached-index w ↦ inr (omega (arith, w.push-is))
-      ]) in (
+    ]) in (
       so_far.0 ++ next ∷ [],
       c.in_ok-push.ensures.ok ∙ ap (λ (bytes : List ℕ). bytes ++ next ∷ []) so_far.1 ∙ append_assoc c.args.image.now so_far.0 (next ∷ []),
       half_more written so_far.0 index next (omega (arith, c.loop-index-test.true, c.min-index-end.ensures)) so_far.2 of_its_own,

@@ -13,14 +13,14 @@ loop-index-preserved c =
     let before = c.loop-index.invariant in
     record {
       within = (elim c.if-byte-eq10.branch as (λ _. c.if-byte-eq10.len ≤ index + 1) [
-          then-byte-eq10 w ↦ omega (arith, w.len-is)
+        | then-byte-eq10 w ↦ omega (arith, w.len-is)
         | else-byte-eq10 w ↦ omega (arith, w.len-is, before.within)
-        ]);
+      ]);
       lines = (elim c.if-byte-eq10.branch as (λ _. take c.if-byte-eq10.len image ≡ whole_lines (take (index + 1) image)) [
-          then-byte-eq10 w ↦
+        | then-byte-eq10 w ↦
             rw w.len-is (whole_at_lf image index (omega (arith, c.loop-index-test.true)) (omega (arith, w.if-byte-eq10.true)))
         | else-byte-eq10 w ↦
             rw w.len-is (whole_at_other image index (omega (arith, c.loop-index-test.true)) c.loop-index.len (λ is_lf. w.if-byte-eq10.false is_lf) before.lines)
-        ]);
+      ]);
       before = before_at_other image index (omega (arith, c.loop-index-test.true)) (λ is_zero. c.if-byte-eq0.false is_zero) before.before;
     }
