@@ -2,3 +2,4 @@
 pub mod Question
 pub mod Proof
 pub mod Section
+pub mod Beside
