@@ -13,7 +13,7 @@ use Rattle.role_server.specs.declared.refusal.ServeRefusal.TheVariants.{TooLong}
 use Rattle.role_server.specs.Served.{Served}
 use Rattle.role_server.specs.Stream.{ServesAll, Stops}
 use Rattle.run_text.specs.Names.{NamesAreFields}
-use Rattle.tool_input.specs.RoleName.{IsRoleNamed}
+use Rattle.bspl_types.specs.NamedParts.{IsRoleNamed}
 use Rattle.agent_commands.specs.declared.wording.TheConstants.{ROLE}
 use Rattle.agent_commands.specs.ServeAnswer.{AreReplies, OpensRole}
 use Rattle.agent_commands.specs.inner.Serve.{IsRoleOf}

@@ -16,7 +16,7 @@ use role_server::{ServeRefusal, serve_from, store_with_room};
 use run_text::names_are_fields;
 use std::alloc::Global;
 use text_lines::split_once;
-use tool_input::{AnswerError, Status, role_named, unknown_role};
+use tool_input::{AnswerError, Status, unknown_role};
 
 /// Answers `serve`: the first line of the part names a role, and each line after it gets its reply.
 pub fn serve(alloc: Global, protocol: &Admitted, part: &[u8]) -> Result<Reply<Status>, AnswerError>
@@ -55,7 +55,7 @@ fn role_of_line(x: &Expanded, first: &[u8]) -> Option<u32>
         ((role : ℕ) → ¬ IsRoleOf x.now first.now role) (IsRoleOf x.now first.now) }
 {
     let name = first.strip_prefix(ROLE)?;
-    let role = role_named(x, name)?;
+    let role = x.role_named(name)?;
     Some(role)
 }
 

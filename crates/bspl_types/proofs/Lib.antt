@@ -6,3 +6,4 @@ mod Pieces
 mod NumberLemmas
 mod ReadingLemmas
 mod SpellingLemmas
+mod LookupLemmas

@@ -8,6 +8,7 @@ pub mod Text
 pub mod Value
 pub mod ValueSpelling
 pub mod Expansion
+pub mod NamedParts
 pub mod KeyAgrees
 pub mod Instance
 pub mod Choice

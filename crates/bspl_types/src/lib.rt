@@ -10,6 +10,7 @@ mod field;
 mod key;
 mod laws;
 mod limits;
+mod lookup;
 mod named;
 mod names;
 mod pairs;
@@ -26,7 +27,10 @@ pub use envelope::{Envelope, Stamped};
 pub use event::{Event, Instance, Run};
 pub use expanded::Expanded;
 pub use key::{Key, Values};
-pub use laws::{equal_values_are_one, spells_once};
+pub use laws::{
+    equal_values_are_one, messages_are_named_once, params_are_named_once, roles_are_named_once,
+    spells_once,
+};
 pub use limits::{CARRIED_LIMIT, KEY_LIMIT, MESSAGE_LIMIT, PARAM_LIMIT, ROLE_LIMIT};
 pub use list_base::{Bytes, NoMemory, NumberList, Seq, TryClone};
 pub use named::{Named, are_named, index_of};

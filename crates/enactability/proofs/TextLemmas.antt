@@ -21,7 +21,7 @@ use Rattle.refutation_log.specs.Entries.{entries}
 use Rattle.refutation_log.specs.LogText.{IsTextOf, LogInRange, entry_line, header_line, least_version}
 use Rattle.refutation_log.specs.Refusal.{IsRefusedLog}
 use Rattle.refutation_log.specs.TextLaws.{LogIsNotRefused, StepsAreFewerThanLineBytes, TextHasOneLog, TextHasOneRefusal}
-use Rattle.named_parts.specs.Laws.{OneMessageOfAName}
+use Rattle.bspl_types.specs.NamedParts.{OneMessageOfAName}
 use Rattle.run_text.specs.Names.{NamesAreFields}
 use Rattle.enactability.specs.DeadText.{IsDeadText, dead_text, dead_title}
 use Rattle.enactability.specs.Laws.{DeadLogIsNotRefused, DeadStepsAreFewerThanBytes, TextHasOneDeadLog, TextHasOneDeadRefusal, WrittenIsDeadText}

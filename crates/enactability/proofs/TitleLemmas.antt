@@ -6,7 +6,7 @@ use Rattle.std.proofs.lemmas.List.Elements.{All-append, All-cons, All-nil}
 use Rattle.bspl_types.specs.declared.expanded.Expanded.{Expanded}
 use Rattle.bspl_types.specs.Expansion.{message_name, no_message}
 use Rattle.list_base.proofs.Separators.{Lacks}
-use Rattle.named_parts.specs.NamedParts.{IsMessageNamed}
+use Rattle.bspl_types.specs.NamedParts.{IsMessageNamed}
 use Rattle.refutation_log.specs.declared.refutation.Version.{Version}
 use Rattle.refutation_log.specs.declared.refutation.Version.TheVariants.{One, Two}
 use Rattle.run_text.specs.Names.{NamesAreFields}

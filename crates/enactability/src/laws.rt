@@ -6,12 +6,11 @@ ghost use Rattle.enactability.specs.Laws.{TextHasOneDeadLog, TextHasOneDeadRefus
 ghost use Rattle.enactability.specs.Laws.{WrittenIsDeadText};
 ghost use Rattle.enactability.specs.inner.Search.{CutEnacts};
 
-use bspl_types::equal_values_are_one;
+use bspl_types::{equal_values_are_one, messages_are_named_once};
 use clause_encoding::{clauses_are_determined, safety_clauses_are_few, written_is_satisfied};
 use enactment_model::prefix_is_legal;
 use first_occurrences::{assignment_exists, shared_clauses_hold};
 use log_checker::{clauses_decide, fails_once};
-use named_parts::messages_are_named_once;
 use refutation_log::{reads_once, steps_have_lines};
 use run_text::names_are_fields;
 use witness_replay::shared_model_has_run;

@@ -3,7 +3,6 @@ ghost use Rattle.refutation_log.specs.declared.refutation.Version.{Version};
 ghost use Rattle.enactability.specs.inner.Title.{IsTitle, dead_front};
 
 use bspl_types::Expanded;
-use named_parts::message_named;
 use refutation_log::Version;
 
 /// How many bytes of the first line come before the name of the message.
@@ -16,7 +15,7 @@ pub(crate) fn title_of(x: &Expanded, line: &[u8]) -> Option<(Version, u32)>
         (λ title. IsTitle x.now line.now title.0 title.1) }
 {
     let (version, name) = front_of(line)?;
-    let message = message_named(x, name)?;
+    let message = x.message_named(name)?;
     Some((version, message))
 }
 

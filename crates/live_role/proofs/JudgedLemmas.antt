@@ -13,7 +13,7 @@ use Rattle.tool_input.specs.declared.status.Status.TheVariants.{Refused}
 use Rattle.tool_input.specs.Input.{Declares}
 use Rattle.tool_input.specs.declared.parts.Part.TheVariants.{Wire}
 use Rattle.tool_input.specs.Rejection.{lacks_part, over_limit, rejection_line}
-use Rattle.tool_input.specs.RoleName.{IsRoleNamed}
+use Rattle.bspl_types.specs.NamedParts.{IsRoleNamed}
 use Rattle.live_role.specs.declared.judged.Judged.{Judged}
 use Rattle.live_role.specs.declared.judged.Judged.TheVariants.{Served}
 use Rattle.live_role.specs.Call.{BeginsRole, no_line, too_long}

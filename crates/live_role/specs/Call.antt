@@ -19,7 +19,7 @@ use Rattle.tool_input.specs.declared.status.Status.TheVariants.{Done, Refused, U
 use Rattle.tool_input.specs.declared.parts.Part.TheVariants.{Wire}
 use Rattle.tool_input.specs.Input.{Declares}
 use Rattle.tool_input.specs.Rejection.{lacks_part, over_limit, rejection_line}
-use Rattle.tool_input.specs.RoleName.{IsRoleNamed}
+use Rattle.bspl_types.specs.NamedParts.{IsRoleNamed}
 use Rattle.live_role.specs.Judgement.{Declines}
 use Rattle.live_role.specs.Opening.{EndsUnopened, IsUnopenedTooLong, TakesOpening, TakesUnopened}
 use Rattle.live_role.specs.Request.{RequestsNothing, RequestsRole}

@@ -10,7 +10,8 @@ use Rattle.tool_input.specs.declared.status.Status.{Status}
 use Rattle.tool_input.specs.declared.status.Status.TheVariants.{Refused}
 use Rattle.tool_input.specs.Input.{Declares}
 use Rattle.tool_input.specs.Rejection.{rejection_line, text_rejection}
-use Rattle.tool_input.specs.RoleName.{IsRoleNamed, unknown_role}
+use Rattle.bspl_types.specs.NamedParts.{IsRoleNamed}
+use Rattle.tool_input.specs.RoleName.{unknown_role}
 use Rattle.tool_input.specs.TextRefusal.{RefusesText}
 use Rattle.verdict.specs.declared.outcome.Safety.TheVariants as safety
 use Rattle.verdict.specs.declared.outcome.Verdicts.{Verdicts}

@@ -13,7 +13,7 @@ use program_frame::Reply;
 use report::{right_runs_fit, verdict_status, verdict_text};
 use role_server::store_with_room;
 use std::alloc::Global;
-use tool_input::{Status, declared_protocol, refused, role_named, text_rejection, unknown_role};
+use tool_input::{Status, declared_protocol, refused, text_rejection, unknown_role};
 use verdict::{Safety, verify};
 
 /// How many conflicts the search for each verdict may meet.
@@ -48,7 +48,7 @@ fn judge_role(alloc: Global, request: &Request<'_>, protocol: &Admitted) -> Resu
         IfOk result (IsJudged request.now.name.now request.now.role.now request.now.checked
         text) }
 {
-    let Some(role) = role_named(protocol.expanded(), request.role) else {
+    let Some(role) = protocol.expanded().role_named(request.role) else {
         return Ok(Judged::Declined(refused(alloc, &unknown_role())?));
     };
     if !request.checked {

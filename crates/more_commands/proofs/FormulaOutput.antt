@@ -23,7 +23,7 @@ use Rattle.tool_input.specs.declared.rejection.Rejection.{Rejection}
 use Rattle.tool_input.specs.declared.status.Status.{Status}
 use Rattle.tool_input.specs.declared.status.Status.TheVariants.{Refused}
 use Rattle.tool_input.specs.Laws.{DeclaredIsNotRefused, OneDeclaration, OneTextRefusal}
-use Rattle.tool_input.specs.MessageName.{OneMessageOfAName}
+use Rattle.bspl_types.specs.NamedParts.{OneMessageOfAName}
 use Rattle.tool_input.specs.Parts.{protocol_text}
 use Rattle.tool_input.specs.Rejection.{over_limit, rejection_line, text_rejection}
 use Rattle.more_commands.specs.FormulaAnswer.{IsAskedText, IsFormulaRefused, IsTextOfSubject, formula_rules}

@@ -12,7 +12,8 @@ use Rattle.tool_input.specs.Rules.{CommandRules}
 use Rattle.tool_input.specs.declared.rejection.Rejection.{Rejection}
 use Rattle.tool_input.specs.declared.status.Status.{Status}
 use Rattle.tool_input.specs.declared.status.Status.TheVariants.{Done}
-use Rattle.tool_input.specs.MessageName.{IsMessageNamed, unknown_message}
+use Rattle.bspl_types.specs.NamedParts.{IsMessageNamed}
+use Rattle.tool_input.specs.MessageName.{unknown_message}
 use Rattle.more_commands.specs.FormulaArguments.{Asked, Dead, FormulaSubject, Misput, Whole}
 
 -- the text is that of the formula in which the message of the name is sent

@@ -15,7 +15,7 @@ use list_base::Bytes;
 use program_frame::Reply;
 use question_text::{Tree, write_spelling};
 use std::alloc::Global;
-use tool_input::{AnswerError, Status, message_named, unknown_message};
+use tool_input::{AnswerError, Status, unknown_message};
 
 /// Answers `formula`.
 pub fn formula(
@@ -41,7 +41,7 @@ fn message_text(alloc: Global, protocol: &Admitted, name: &[u8]) -> Result<Bytes
     ensures ok { IfOk result (IsNamedText protocol.now name.now) }
     ensures refused { IfErr result (RejectsFor (HasNoMessage protocol.now name.now)) }
 {
-    match message_named(protocol.expanded(), name) {
+    match protocol.expanded().message_named(name) {
         Some(message) => Ok(enact_formula_text(alloc, protocol, message)?),
         None => Err(AnswerError::Rejected(unknown_message(alloc, name)?)),
     }

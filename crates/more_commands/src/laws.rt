@@ -5,10 +5,11 @@ ghost use Rattle.more_commands.specs.Laws.{PossibleIsTrue};
 
 use super::question::MoreQuestion;
 use ask_commands::{possibilities_are_true, rules_are_judged_truly};
+use bspl_types::messages_are_named_once;
 use formula_text::{one_question_text, one_text, same_has_same_formula};
 use page_sections::rules_are_shown_truly;
 use question_text::means_once;
-use tool_input::{Question, messages_are_named_once, texts_are_judged_once};
+use tool_input::{Question, texts_are_judged_once};
 
 /// A law: what an output of `ask` says of a question is true of the protocol that the input
 /// declares.

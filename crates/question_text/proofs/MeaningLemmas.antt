@@ -4,8 +4,8 @@ use Rattle.std.specs.List.{All}
 use Rattle.std.proofs.lemmas.List.Elements.{All-append, All-cons, All-head, All-map, All-nil, All-tail, All-weaker}
 use Rattle.bspl_types.specs.declared.expanded.Expanded.{Expanded}
 use Rattle.bspl_types.specs.Expansion.{message_name}
-use Rattle.named_parts.specs.NamedParts.{IsRoleNamed}
-use Rattle.named_parts.specs.Laws.{OneMessageOfAName, OneParamOfAName, OneRoleOfAName}
+use Rattle.bspl_types.specs.NamedParts.{IsRoleNamed}
+use Rattle.bspl_types.specs.NamedParts.{OneMessageOfAName, OneParamOfAName, OneRoleOfAName}
 use Rattle.questions.specs.declared.question.Happening.{Happening}
 use Rattle.questions.specs.declared.question.Happening.TheVariants as happenings
 use Rattle.questions.specs.declared.question.Question.{Question}

@@ -3,7 +3,7 @@ use Rattle.std.specs.Prelude.{◌≡◌, ℕ, ◌<◌, List, length, map}
 use Rattle.std.specs.List.{All}
 use Rattle.bspl_types.specs.declared.expanded.Expanded.{Expanded}
 use Rattle.bspl_types.specs.Expansion.{message_name}
-use Rattle.named_parts.specs.NamedParts.{IsMessageNamed, IsParamNamed, IsRoleNamed}
+use Rattle.bspl_types.specs.NamedParts.{IsMessageNamed, IsParamNamed, IsRoleNamed}
 use Rattle.questions.specs.declared.question.Happening.{Happening}
 use Rattle.questions.specs.declared.question.Happening.TheVariants as happenings
 use Rattle.questions.specs.declared.question.Question.{Question}
@@ -44,7 +44,8 @@ AsksBefore x one other q = ⊥
 abbrev pub MeansQuestion : Expanded → Phrase → Question → Type 0
 MeansQuestion x (Happened one) q = AsksHappened x one q
 MeansQuestion x (Before one other) q = AsksBefore x one other q
-MeansQuestion x (After one other) (asks.And' _ q _ r) = AsksHappened x one q × AsksBefore x other one r
+MeansQuestion x (After one other) (asks.And' _ q _ r) =
+    AsksHappened x one q × AsksBefore x other one r
 MeansQuestion x (Can message) (asks.Can m) = IsMessageNamed x message m
 MeansQuestion x (Rest names) (asks.Rest excused) = AreMessagesNamed x names excused
 MeansQuestion x (Not p) (asks.Not' _ q) = MeansQuestion x p q

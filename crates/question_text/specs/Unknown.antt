@@ -2,7 +2,7 @@
 use Rattle.std.specs.Prelude.{◌≡◌, ℕ, List, [], ◌∷◌, ◌++◌, map}
 use Rattle.std.specs.List.{All}
 use Rattle.bspl_types.specs.declared.expanded.Expanded.{Expanded}
-use Rattle.named_parts.specs.NamedParts.{IsMessageNamed, IsParamNamed, IsRoleNamed}
+use Rattle.bspl_types.specs.NamedParts.{IsMessageNamed, IsParamNamed, IsRoleNamed}
 use Rattle.question_text.specs.declared.tree.Said.{Said}
 use Rattle.question_text.specs.declared.tree.Said.TheVariants as said
 use Rattle.question_text.specs.declared.tree.Tree.{Tree}

@@ -1,5 +1,5 @@
 ghost use Rattle.std.specs.Prelude.{[], ◌∷◌, IfErr, IfOk, map};
-ghost use Rattle.named_parts.specs.NamedParts.{IsMessageNamed, IsParamNamed, IsRoleNamed};
+ghost use Rattle.bspl_types.specs.NamedParts.{IsMessageNamed, IsParamNamed, IsRoleNamed};
 ghost use Rattle.questions.specs.Subject.{IsAbout};
 ghost use Rattle.question_text.specs.declared.unknown.UnknownName.TheVariants as unknown;
 ghost use Rattle.question_text.specs.Meaning.{AreMessagesNamed, AsksQuestion, Says};
@@ -10,7 +10,6 @@ use super::tree::{Said, Tree};
 use super::unknown::UnknownName;
 use bspl_types::{Expanded, Name, NumberList};
 use list_base::{Seq, TryClone};
-use named_parts::{message_named, param_named, role_named};
 use questions::{Happening, Question};
 use std::alloc::Global;
 
@@ -100,7 +99,7 @@ fn message_number(x: &Expanded, name: &Name) -> Result<u32, UnknownName>
     ensures named { IfOk result (IsMessageNamed x.now name.now) }
     ensures refused { IfErr result (IsUnknownIn x.now (unknown.Message name.now ∷ [])) }
 {
-    match message_named(x, name.as_slice()) {
+    match x.message_named(name.as_slice()) {
         Some(message) => Ok(message),
         None => Err(UnknownName::Message(name.try_clone()?)),
     }
@@ -111,7 +110,7 @@ fn role_number(x: &Expanded, name: &Name) -> Result<u32, UnknownName>
     ensures named { IfOk result (IsRoleNamed x.now name.now) }
     ensures refused { IfErr result (IsUnknownIn x.now (unknown.Role name.now ∷ [])) }
 {
-    match role_named(x, name.as_slice()) {
+    match x.role_named(name.as_slice()) {
         Some(role) => Ok(role),
         None => Err(UnknownName::Role(name.try_clone()?)),
     }
@@ -122,7 +121,7 @@ fn param_number(x: &Expanded, name: &Name) -> Result<u32, UnknownName>
     ensures named { IfOk result (IsParamNamed x.now name.now) }
     ensures refused { IfErr result (IsUnknownIn x.now (unknown.Parameter name.now ∷ [])) }
 {
-    match param_named(x, name.as_slice()) {
+    match x.param_named(name.as_slice()) {
         Some(param) => Ok(param),
         None => Err(UnknownName::Parameter(name.try_clone()?)),
     }

@@ -1,7 +1,7 @@
 ghost use Rattle.question_text.specs.MeaningLaws.{AskedIsAbout, AskedOrUnknown};
 ghost use Rattle.question_text.specs.MeaningLaws.{HasOneUnknownName, MeansOneQuestion};
 
-use named_parts::{messages_are_named_once, params_are_named_once, roles_are_named_once};
+use bspl_types::{messages_are_named_once, params_are_named_once, roles_are_named_once};
 
 /// A law: a tree asks one question of a protocol at most and has one first unknown name at most,
 /// and not both.

@@ -24,7 +24,6 @@ pub use input_protocol::{declared_protocol, protocol_of};
 pub use laws::texts_are_judged_once;
 pub use limits::{INPUT_LIMIT, TEXT_LIMIT};
 pub use message_name::unknown_message;
-pub use named_parts::{message_named, messages_are_named_once, role_named, roles_are_named_once};
 pub use need::{Need, given};
 pub use parts::{Part, first_part, protocol_text};
 pub use question::Question;

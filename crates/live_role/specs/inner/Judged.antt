@@ -7,7 +7,7 @@ use Rattle.program_frame.specs.declared.reply.Reply.{Reply}
 use Rattle.role_server.specs.Served.{first_store}
 use Rattle.tool_input.specs.declared.status.Status.{Status}
 use Rattle.tool_input.specs.Input.{Declares}
-use Rattle.tool_input.specs.RoleName.{IsRoleNamed}
+use Rattle.bspl_types.specs.NamedParts.{IsRoleNamed}
 use Rattle.live_role.specs.declared.judged.Judged.{Judged}
 use Rattle.live_role.specs.declared.judged.Judged.TheVariants.{Declined, Served}
 use Rattle.live_role.specs.Judgement.{Declines}

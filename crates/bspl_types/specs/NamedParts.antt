@@ -1,4 +1,5 @@
--- The messages, roles and parameters of a protocol by their names.
+-- The messages, roles and parameters of a protocol by their names. Names are distinct: each of the
+-- statements at the end is the contract of a public function.
 use Rattle.std.specs.Prelude.{◌≡◌, ℕ, ◌<◌, List, length}
 use Rattle.bspl_types.specs.declared.expanded.Expanded.{Expanded}
 use Rattle.bspl_types.specs.Expansion.{message_name, param_name, role_name}
@@ -17,3 +18,21 @@ pub record IsRoleNamed (x : Expanded) (name : List ℕ) (role : ℕ) : Type 0 wh
 pub record IsParamNamed (x : Expanded) (name : List ℕ) (p : ℕ) : Type 0 where
   pub known : p < length x.params
   pub named : param_name x p ≡ name
+
+-- a name is that of one message at most
+abbrev pub OneMessageOfAName : Type 0
+OneMessageOfAName =
+    (x : Expanded) (name : List ℕ) (m n : ℕ) → IsMessageNamed x name m →
+    IsMessageNamed x name n → m ≡ n
+
+-- a name is that of one role at most
+abbrev pub OneRoleOfAName : Type 0
+OneRoleOfAName =
+    (x : Expanded) (name : List ℕ) (one other : ℕ) → IsRoleNamed x name one →
+    IsRoleNamed x name other → one ≡ other
+
+-- a name is that of one parameter at most
+abbrev pub OneParamOfAName : Type 0
+OneParamOfAName =
+    (x : Expanded) (name : List ℕ) (p q : ℕ) → IsParamNamed x name p →
+    IsParamNamed x name q → p ≡ q

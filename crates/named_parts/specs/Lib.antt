@@ -1,3 +1,0 @@
--- What has a name, and that no two have one.
-pub mod NamedParts
-pub mod Laws
