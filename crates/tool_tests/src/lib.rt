@@ -1,4 +1,5 @@
-//! Tests of the tool's crates by their public calls.
+//! Tests of the tool's crates by their public calls, and tests that run threads: workers that meet at
+//! gates, and what goes through the mailboxes.
 #![tactic(auto)]
 
 #[cfg(test)]
@@ -10,7 +11,11 @@ mod call_tests;
 #[cfg(test)]
 mod command_line_tests;
 #[cfg(test)]
+mod gates;
+#[cfg(test)]
 mod long_line_tests;
+#[cfg(test)]
+mod mailbox_tests;
 #[cfg(test)]
 mod refusal_words_tests;
 #[cfg(test)]
@@ -19,3 +24,5 @@ mod rejection_tests;
 mod role_rows;
 #[cfg(test)]
 mod role_tests;
+#[cfg(test)]
+mod thread_call_tests;
