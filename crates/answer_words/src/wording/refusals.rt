@@ -144,7 +144,7 @@ for a rule in the whole text",
 );
 
 pub(crate) const QUESTION_LONG: Sentences = (
-    b"the question has that many tokens, and may have 256, brackets counted",
+    b"the number is that of the tokens in the question, brackets counted; it may have 256",
     b"put its parts one by one: the terms of an `or` are questions of their own",
 );
 

@@ -16,6 +16,7 @@ pub record HasJudged (x : Expanded) (options : AskOptions) (rules : List Rule) (
   pub judged : List JudgedRule
   pub one_each : map said_of judged ≡ map said_by (take count rules)
   pub right : All (IsRightlyJudged x options.conflicts) judged
-  pub text : so_far.text ≡ asked_protocol_line x ++ flat_map (judged_rule_text x options.brief) judged
+  pub text : so_far.text ≡
+      asked_protocol_line x ++ flat_map (judged_rule_text x options.brief) judged
   pub broken : so_far.broken ≡ list_any is_judged_broken judged
   pub unjudged : so_far.unjudged ≡ list_any is_left_open judged
