@@ -1,5 +1,6 @@
 """What benches and checks share: where the programs are, and what one run of a command prints and takes."""
 import os
+import shutil
 import subprocess
 import tempfile
 import threading
@@ -19,6 +20,27 @@ def program(name):
 def missing(*programs):
     """Those of the programs that are not there."""
     return [path for path in programs if not Path(path).exists()]
+
+
+def lacks(programs, tools=()):
+    """Whether one of the programs or of the system's tools is not there; those are printed."""
+    lacking = missing(*programs) + [tool for tool in tools if not shutil.which(tool)]
+    if lacking:
+        print("missing: " + ", ".join(lacking))
+    return bool(lacking)
+
+
+def given_protocols(folders):
+    """The name and the text of each .bspl file of these folders, or of examples/ if there are none."""
+    chosen = [Path(folder) for folder in folders] or [TOP / "examples"]
+    return [(path.stem, path.read_bytes()) for path in sorted(p for folder in chosen for p in folder.glob("*.bspl"))]
+
+
+def status_after(faults):
+    """Prints the faults; the exit status."""
+    for fault in faults:
+        print(fault)
+    return 1 if faults else 0
 
 
 class Run(NamedTuple):

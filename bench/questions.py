@@ -15,13 +15,12 @@ and its ratio to one `ask`, which should be at most 20. The least of RUNS (3) ru
 status is 1. BSPL and BSPL_MORE name the programs (crates/bspl/out/bspl, crates/bspl_more/out/bspl_more).
 """
 import os
-import shutil
 import sys
 import tempfile
 from pathlib import Path
 
-from measure import TOP, least, missing, program
-from verify import choices, deals, randomly, waiting
+from measure import TOP, given_protocols, lacks, least, program, status_after
+from verify import long_protocols
 
 sys.path.insert(0, str(TOP / "checks"))
 from ask import by_formula, protocol, rules  # noqa: E402
@@ -123,23 +122,16 @@ def row(name, text, folder):
 
 
 def main():
-    lacking = missing(MORE, BSPL) + ([] if shutil.which("minisat") else ["minisat"])
-    if lacking:
-        print("missing: " + ", ".join(lacking))
+    if lacks([MORE, BSPL], ["minisat"]):
         return 1
-    folders = [Path(f) for f in sys.argv[1:]] or [TOP / "examples"]
-    files = sorted(path for folder in folders for path in folder.glob("*.bspl"))
-    texts = [(path.stem, path.read_bytes().decode("latin-1")) for path in files]
-    long = [("Choices", choices()), ("Deals", deals()), ("Random", randomly()), ("Waiting", waiting())]
+    long = long_protocols()
+    texts = [(name, text.decode("latin-1")) for name, text in given_protocols(sys.argv[1:])]
     texts += [(name, with_rules(text, RULES[name])) for name, text in long]
     print(HEAD)
     with tempfile.TemporaryDirectory() as folder:
         faults = [fault for name, text in texts for fault in row(name, text, folder)]
     print(HEAD_OF_HUNDRED)
-    faults += [fault for name, text in long for fault in row_of_hundred(name, text)]
-    for fault in faults:
-        print(fault)
-    return 1 if faults else 0
+    return status_after(faults + [fault for name, text in long for fault in row_of_hundred(name, text)])
 
 
 if __name__ == "__main__":

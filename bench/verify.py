@@ -15,13 +15,12 @@ crates/bspl_more/out/bspl_more).
 """
 import os
 import random
-import shutil
 import subprocess
 import sys
 import tempfile
 from pathlib import Path
 
-from measure import TOP, least, missing, program
+from measure import given_protocols, lacks, least, program, status_after
 
 BSPL, MORE = program("bspl"), program("bspl_more")
 OLD = os.environ.get("OLD")
@@ -84,6 +83,11 @@ def waiting(messages=63):
     lines = [f"  {'AB'[i % 2]} -> {'BA'[i % 2]}: m{i}[{'out' if i == 0 else 'in'} ID, in q{i - 1 if i else messages - 1},"
              f" out q{i}]" for i in range(messages)]
     return protocol("Waiting", ["A", "B"], ["ID", *(f"q{i}" for i in range(messages))], lines)
+
+
+def long_protocols():
+    """The names and the texts of the four protocols of 63 or 64 messages."""
+    return [("Choices", choices()), ("Deals", deals()), ("Random", randomly()), ("Waiting", waiting())]
 
 
 def solved(name, text, folder):
@@ -152,21 +156,13 @@ def row(name, text, folder):
 
 
 def main():
-    lacking = missing(MORE, BSPL) + ([] if shutil.which("minisat") else ["minisat"])
-    if lacking:
-        print("missing: " + ", ".join(lacking))
+    if lacks([MORE, BSPL], ["minisat"]):
         return 1
     print(f"{'protocol':24}{'messages':>9}{'clauses':>9}{'minisat':>9}{'verify':>9}{'MB':>6}{'ratio':>8}"
           + (f"{'old':>9}{'ratio':>8}" if OLD else ""))
-    folders = [Path(f) for f in sys.argv[1:]] or [TOP / "examples"]
-    texts = [(p.stem, p.read_bytes()) for p in sorted(p for folder in folders for p in folder.glob("*.bspl"))]
-    texts += [("Choices", choices().encode()), ("Deals", deals().encode()), ("Random", randomly().encode()),
-              ("Waiting", waiting().encode())]
+    texts = given_protocols(sys.argv[1:]) + [(name, text.encode()) for name, text in long_protocols()]
     with tempfile.TemporaryDirectory() as folder:
-        faults = [fault for name, text in texts for fault in row(name, text, folder)]
-    for fault in faults:
-        print(fault)
-    return 1 if faults else 0
+        return status_after([fault for name, text in texts for fault in row(name, text, folder)])
 
 
 if __name__ == "__main__":
