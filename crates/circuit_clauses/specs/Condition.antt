@@ -1,5 +1,5 @@
 -- Conditions on literals: conjunctions and disjunctions, with negation at literals alone.
-use Rattle.std.specs.Prelude.{ℕ, ◌<◌, Bool, ◌⊎◌}
+use Rattle.std.specs.Prelude.{ℕ, ◌<◌, ◌≤◌, Bool, ◌⊎◌}
 use Rattle.clause_core.specs.declared.literal.Lit.{Lit}
 use Rattle.clause_core.specs.Literal.{MakesTrue, negated}
 use Rattle.circuit_clauses.specs.declared.circuit.Circuit.{Circuit}
@@ -36,6 +36,14 @@ IsBelow n (Both c d) = IsBelow n c × IsBelow n d
 IsBelow n (Either c d) = IsBelow n c × IsBelow n d
 IsBelow n Always = Unit {0}
 IsBelow n Never = Unit {0}
+
+-- each variable of the condition is one of those from 1 to the number
+abbrev pub IsOver : ℕ → Condition → Type 0
+IsOver n (Literal l) = (0 < l.var) × (l.var ≤ n)
+IsOver n (Both c d) = IsOver n c × IsOver n d
+IsOver n (Either c d) = IsOver n c × IsOver n d
+IsOver n Always = Unit {0}
+IsOver n Never = Unit {0}
 
 -- the condition that the circuit stands for
 abbrev pub condition_of : Circuit → Condition

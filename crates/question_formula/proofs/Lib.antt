@@ -11,4 +11,5 @@ pub mod BeforeLemmas
 pub mod RestLemmas
 pub mod AnswerLemmas
 pub mod ModelLemmas
+pub mod ExtensionLemmas
 pub mod LivenessLemmas

@@ -11,7 +11,7 @@ use Rattle.bspl_types.specs.declared.protocol.Adornment.{Adornment}
 use Rattle.bspl_types.specs.declared.protocol.Adornment.TheVariants.{In, Out, Nil}
 use Rattle.bspl_types.specs.declared.protocol.Carried.{Carried}
 use Rattle.bspl_types.specs.Expansion.{message_of}
-use Rattle.circuit_clauses.specs.Condition.{Condition, Literal, Both, Either, Always, Never, denied}
+use Rattle.circuit_clauses.specs.Condition.{Condition, Literal, Both, Either, Always, Never, IsOver, denied}
 use Rattle.clause_encoding.specs.declared.variables.Variables.{Variables}
 use Rattle.clause_encoding.specs.Carriers.{binds, carriers}
 use Rattle.clause_encoding.specs.Formula.{plain_variables}
@@ -24,7 +24,6 @@ use Rattle.questions.specs.declared.question.Question.TheVariants as asks
 use Rattle.questions.specs.Subject.{IsAbout, IsAboutHappening}
 use Rattle.question_formula.specs.Conditions.{all_of, arrives_if_sent, asked, demanded, occurs_before, rests_at, sendable, some_before, some_occurs, some_of}
 use Rattle.question_formula.specs.Happenings.{kinds_of}
-use Rattle.question_formula.specs.inner.Shared.{IsOver}
 
 -- what is denied has the same variables
 denied_over : (n : ℕ) (c : Condition) → IsOver n c → IsOver n (denied c)

@@ -3,14 +3,13 @@ use Rattle.std.proofs.Common.{◌≡◌, ℕ, ◌+◌, ◌<◌, ◌≤◌, List,
 use Rattle.std.specs.List.{All}
 use Rattle.std.proofs.lemmas.List.Elements.{All-append, All-cons, All-contains, All-contains_itself, All-head, All-nil, All-tail, All-weaker}
 use Rattle.circuit_clauses.specs.Asserted.{asserted, asserted_count, part_clauses, part_count, part_lits}
-use Rattle.circuit_clauses.specs.Condition.{Condition, Literal, Both, Either, Always, Never, IsBelow}
+use Rattle.circuit_clauses.specs.Condition.{Condition, Literal, Both, Either, Always, Never, IsBelow, IsOver}
 use Rattle.circuit_clauses.specs.Laws.{VariablesAreFurther}
 use Rattle.clause_core.specs.declared.formula.Formula.{Formula}
 use Rattle.clause_core.specs.declared.literal.Lit.{Lit}
 use Rattle.clause_core.specs.Clause.{IsClauseOf, VariablesExist}
 use Rattle.clause_core.specs.Literal.{negated, positive}
 use Rattle.clause_core.specs.Written.{AppendsClauses, Written, AreClausesOf}
-use Rattle.question_formula.specs.inner.Shared.{IsOver}
 
 -- a condition whose variables are up to a number is below the next one
 pub over_below : (n : ℕ) (c : Condition) → IsOver n c → IsBelow (n + 1) c

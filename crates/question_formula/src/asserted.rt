@@ -1,7 +1,7 @@
 ghost use Rattle.std.specs.Prelude.{◌≡◌, ◌+◌, ◌≤◌, IfOk, IfSome};
 ghost use Rattle.circuit_clauses.specs.Asserted.{asserted_count};
-ghost use Rattle.circuit_clauses.specs.Condition.{condition_of};
-ghost use Rattle.question_formula.specs.inner.Shared.{AssertsToo, IsOver};
+ghost use Rattle.circuit_clauses.specs.Condition.{IsOver, condition_of};
+ghost use Rattle.question_formula.specs.inner.Shared.{AssertsToo};
 
 use circuit_clauses::{Circuit, further_variables, push_asserted, variables_are_further};
 use clause_core::Formula;

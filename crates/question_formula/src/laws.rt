@@ -1,5 +1,7 @@
-ghost use Rattle.question_formula.specs.Laws.{ImpossibleWithoutModel, ModelRunAnswersYes};
-ghost use Rattle.question_formula.specs.Laws.{PossibleExactlyIfModel, YesExactlyIfMet};
+ghost use Rattle.question_formula.specs.Laws.{ConditionVariablesExist, ImpossibleWithoutModel};
+ghost use Rattle.question_formula.specs.Laws.{MeetingModelExtends, ModelMeetsCondition};
+ghost use Rattle.question_formula.specs.Laws.{ModelRunAnswersYes, PossibleExactlyIfModel};
+ghost use Rattle.question_formula.specs.Laws.{YesExactlyIfMet};
 ghost use Rattle.question_formula.specs.Liveness.{LivenessIsAQuestion};
 
 use circuit_clauses::{asserted_is_met, denied_is_not_met, met_is_asserted};
@@ -29,6 +31,14 @@ pub fn yes_exactly_if_met()
     denied_is_not_met();
 }
 
+/// A model of a question's clauses meets its condition.
+pub fn model_meets_condition()
+    ensures { ModelMeetsCondition }
+{
+    // law: where its clauses hold, a condition is met
+    asserted_is_met();
+}
+
 /// The run of a model is legal, and answers the question with yes.
 pub fn model_run_answers_yes()
     ensures { ModelRunAnswersYes }
@@ -36,10 +46,18 @@ pub fn model_run_answers_yes()
     // laws: the runs of a model of the shared clauses are legal, and the model shows them
     shared_model_has_run();
     model_shows();
-    // law: where its clauses hold, a condition is met
-    asserted_is_met();
-    // law: the answer is yes exactly if the condition is met
+    // laws: it meets the condition, and the answer is yes exactly if the condition is met
+    model_meets_condition();
     yes_exactly_if_met();
+}
+
+/// The variables of a question's condition are among those that all questions share.
+pub fn condition_variables_exist()
+    ensures { ConditionVariablesExist }
+{
+    // laws: kinds and pairs of kinds have variables
+    carriers_are_kinds();
+    order_variables_exist();
 }
 
 /// A question is possible exactly if its clauses have a model: nothing is approximated, over any
@@ -47,8 +65,8 @@ pub fn model_run_answers_yes()
 pub fn possible_exactly_if_model()
     ensures { PossibleExactlyIfModel }
 {
-    // laws: kinds and pairs of kinds have variables
-    carriers_are_kinds();
+    // laws: the condition and pairs of kinds have variables
+    condition_variables_exist();
     order_variables_exist();
     // laws: a legal run has an assignment that reports it, shows it and satisfies what is shared
     assignment_exists();
@@ -60,6 +78,27 @@ pub fn possible_exactly_if_model()
     yes_exactly_if_met();
     shared_model_has_run();
     model_run_answers_yes();
+}
+
+/// A model of what all questions share that meets the condition of one gives a model of its clauses
+/// with the same runs: so its run answers that question too.
+pub fn meeting_model_extends()
+    ensures { MeetingModelExtends }
+{
+    // laws: the condition and pairs of kinds have variables
+    condition_variables_exist();
+    order_variables_exist();
+    // laws: a legal run has an assignment that reports it, shows it and satisfies what is shared
+    assignment_exists();
+    reports_show();
+    shared_clauses_hold();
+    // law: where a condition is met, its further variables have values
+    met_is_asserted();
+    // law: the answer is yes exactly if the condition is met
+    yes_exactly_if_met();
+    // laws: a model of the shared clauses has a legal run, and shows it
+    shared_model_has_run();
+    model_shows();
 }
 
 /// A formula without a model says that no legal run answers the question with yes.

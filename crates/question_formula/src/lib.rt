@@ -16,7 +16,8 @@ pub use circuits::question_circuit;
 pub use formula::{QuestionFormulas, question_formula};
 pub use kinds::kinds_of;
 pub use laws::{
-    impossible_without_model, liveness_is_a_question, model_run_answers_yes,
-    possible_exactly_if_model, yes_exactly_if_met,
+    condition_variables_exist, impossible_without_model, liveness_is_a_question,
+    meeting_model_extends, model_meets_condition, model_run_answers_yes, possible_exactly_if_model,
+    yes_exactly_if_met,
 };
 pub use plain::plain_question_formula;

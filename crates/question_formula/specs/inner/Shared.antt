@@ -1,8 +1,8 @@
 -- What the formulas of one protocol share, and what a question adds.
-use Rattle.std.specs.Prelude.{◌≡◌, ℕ, ◌+◌, ◌<◌, ◌≤◌, [], length}
+use Rattle.std.specs.Prelude.{◌≡◌, ◌+◌, ◌≤◌, [], length}
 use Rattle.bspl_types.specs.declared.expanded.Expanded.{Expanded}
 use Rattle.circuit_clauses.specs.Asserted.{asserted, asserted_count}
-use Rattle.circuit_clauses.specs.Condition.{Condition, Literal, Both, Either, Always, Never}
+use Rattle.circuit_clauses.specs.Condition.{Condition}
 use Rattle.clause_core.specs.declared.formula.Formula.{Formula}
 use Rattle.clause_core.specs.Written.{AppendsClauses}
 use Rattle.clause_encoding.specs.Formula.{plain_variables}
@@ -12,14 +12,6 @@ use Rattle.clause_encoding.specs.Ordered.{IsSharedFormula}
 pub record HasSharedFamilies (x : Expanded) (f : Formula) : Type 0 where
   pub is_shared : IsSharedFormula x (plain_variables x) f
   pub few : length f.clauses ≤ 8000000
-
--- each literal of the condition has a variable from 1 to the number
-abbrev pub IsOver : ℕ → Condition → Type 0
-IsOver n (Literal l) = (0 < l.var) × (l.var ≤ n)
-IsOver n (Both c d) = IsOver n c × IsOver n d
-IsOver n (Either c d) = IsOver n c × IsOver n d
-IsOver n Always = Unit {0}
-IsOver n Never = Unit {0}
 
 -- the new formula is the old one with the clauses that the condition is met, and both are few
 pub record AssertsToo (old new : Formula) (c : Condition) : Type 0 where
