@@ -8,7 +8,7 @@ of 63 or 64 messages that bench/verify.py makes, with rules that are put in here
 many of their questions are possible; the clauses of the largest formula; and seconds of processor time: of `minisat
 -no-pre` on the formulas of all questions together, from files that checks/ask/by_formula.py writes; of `ask NAME
 QUESTION --brief` for each question, and the ratio of that to minisat's; of `ask NAME --all --brief`, which makes the
-clauses that all questions share once, and its ratio; and of `verify NAME --brief`, with the ratio of one `ask` to it.
+clauses that all questions share once and tries earlier models first, and its ratio; and of `verify NAME --brief`, with the ratio of one `ask` to it.
 Then come the four long protocols again, with a hundred rules each, made of their messages: the seconds of one `ask`,
 the mean over all hundred questions; of `verify`, and the ratio to it, which should be at most 1.5; and of `ask --all`,
 and its ratio to one `ask`, which should be at most 20. The least of RUNS (3) runs counts. What differs is said, and the

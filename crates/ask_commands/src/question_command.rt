@@ -34,8 +34,8 @@ pub fn ask(
         (RejectsFor (IsAskRefused protocol.now (phrase_of question.now))) }
 {
     let asked = asked(alloc, protocol.expanded(), question)?;
-    let search = QuestionSearch::new(alloc, protocol)?;
-    let answer = search.answer(alloc, &asked, options.conflicts.conflicts())?;
+    let mut searches = QuestionSearch::new(alloc, protocol)?;
+    let answer = searches.answer(alloc, &asked, options.conflicts.conflicts())?;
     let spelling = write_spelling(alloc, question)?;
     Ok(Reply {
         status: status_of(&answer),

@@ -45,10 +45,10 @@ fn judge_rules(
     ensures { IfOk result (λ reply.
         AreJudged protocol.now options rules.now reply.text reply.status) }
 {
-    let search = QuestionSearch::new(alloc, protocol)?;
+    let mut searches = QuestionSearch::new(alloc, protocol)?;
     let mut so_far = Judged::none(alloc, protocol.expanded())?;
     for index in 0..rules.len() {
-        let answer = search.answer(alloc, &questions[index], options.conflicts.conflicts())?;
+        let answer = searches.answer(alloc, &questions[index], options.conflicts.conflicts())?;
         let taken = so_far.take(alloc, protocol, options.brief, &rules[index], &answer);
         drop(answer);
         taken?;

@@ -77,9 +77,9 @@ fn push_judged(
     requires few { conflicts ≤ 1000000 }
     ensures { OnOk result (AreShown a.now conflicts rules.now text.old text.new) }
 {
-    let search = QuestionSearch::new(alloc, a)?;
+    let mut searches = QuestionSearch::new(alloc, a)?;
     for index in 0..rules.len() {
-        let answer = search.answer(alloc, &questions[index], conflicts)?;
+        let answer = searches.answer(alloc, &questions[index], conflicts)?;
         let pushed = push_rule(alloc, text, a, &rules[index], &answer);
         drop(answer);
         pushed?;

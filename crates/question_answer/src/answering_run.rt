@@ -1,11 +1,7 @@
-ghost use Rattle.std.specs.Prelude.{◌≤◌, length, IfOk};
-ghost use Rattle.clause_core.specs.Assignment.{valuation};
-ghost use Rattle.clause_core.specs.Clause.{SatisfiesAll};
-ghost use Rattle.clause_encoding.specs.Formula.{plain_variables};
-ghost use Rattle.clause_encoding.specs.Variables.{variable_count};
-ghost use Rattle.question_formula.specs.Formula.{question_clauses};
+ghost use Rattle.std.specs.Prelude.{IfOk};
 ghost use Rattle.questions.specs.Subject.{IsAbout};
 ghost use Rattle.question_answer.specs.Answer.{IsShownPossible};
+ghost use Rattle.question_answer.specs.inner.Models.{IsSharedModel, MeetsQuestion};
 
 use super::first_yes::first_yes;
 use bspl_types::{Admitted, Run};
@@ -13,13 +9,13 @@ use clause_core::Assignment;
 use clause_encoding::plain_variables;
 use enactment_model::prefix_is_legal;
 use list_base::NoMemory;
-use question_formula::model_run_answers_yes;
+use question_formula::{meeting_model_extends, model_run_answers_yes};
 use questions::Question;
 use std::alloc::Global;
 use witness_replay::{first_events, key_of_ones, order_run, shared_model_has_run};
 
-/// The run of a model of the question's clauses, cut at the first moment at which the answer is
-/// yes.
+/// The run of a model of what all questions share that meets the condition of the question, cut at
+/// the first moment at which the answer is yes.
 pub(crate) fn answering_run(
     alloc: Global,
     a: &Admitted,
@@ -27,13 +23,14 @@ pub(crate) fn answering_run(
     assignment: &Assignment,
 ) -> Result<Run, NoMemory>
     requires about { IsAbout a.now q.now }
-    requires all { variable_count (plain_variables a.now) ≤ length assignment.now }
-    requires satisfied { SatisfiesAll (valuation assignment.now) (question_clauses a.now q.now) }
+    requires model { IsSharedModel a.now assignment.now }
+    requires meets { MeetsQuestion a.now q.now assignment.now }
     ensures { IfOk result (IsShownPossible a.now q.now) }
 {
     // law: the protocol is admitted, so it has a key
     a.is_admitted();
-    // law: the answer is yes at the end of the run of a model
+    // laws: the run is that of a model of the question's clauses, so the answer is yes at its end
+    meeting_model_extends();
     model_run_answers_yes();
     // law: such a run is under the key of ones
     shared_model_has_run();

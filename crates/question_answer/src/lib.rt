@@ -5,6 +5,7 @@ mod answer;
 mod answering_run;
 mod check;
 mod first_yes;
+mod known_run;
 mod laws;
 mod question_search;
 mod reader;

@@ -1,32 +1,39 @@
 use super::answer::Answer;
 use super::answering_run::answering_run;
+use super::known_run::known_run;
 use bspl_types::Admitted;
+use clause_core::Assignment;
 use clause_encoding::written_is_satisfied;
-use list_base::NoMemory;
-use question_formula::{QuestionFormulas, impossible_without_model};
+use list_base::{NoMemory, Seq};
+use question_formula::{QuestionFormulas, impossible_without_model, model_meets_condition};
 use questions::Question;
 use sat_solver::Outcome;
 use std::alloc::Global;
 use std::marker::Model;
 use verdict::{numbers_in_range, search_model};
 
-/// Searches of one protocol, which make the clauses that all questions share once. Contracts see
-/// the protocol.
+/// How many models are kept at most, since each of them is tried before a search.
+const MOST_MODELS: usize = 64;
+
+/// Searches of one protocol, which make the clauses that all questions share once, and keep the
+/// models that they find: one that meets the condition of a later question answers it with no
+/// search. Contracts see the protocol.
 #[derive(Drop)]
 pub struct QuestionSearch<'a> {
     protocol: &'a Admitted,
     formulas: QuestionFormulas<'a>,
+    models: Seq<Assignment>,
 }
 
 impl<'a> Model for QuestionSearch<'a> {
-    ghost use Rattle.std.specs.Prelude.{◌≡◌};
     ghost use Rattle.bspl_types.specs.declared.expanded.Expanded.{Expanded as SpecExpanded};
+    ghost use Rattle.question_answer.specs.inner.Models.{IsSearchOf};
 
     ghost Value = { SpecExpanded };
 
     ghost view = { λ s. s.protocol.now };
 
-    ghost invariant = { λ s. s.formulas ≡ s.protocol.now };
+    ghost invariant = { λ s. IsSearchOf s.protocol.now s.formulas s.models };
 }
 
 impl<'a> QuestionSearch<'a> {
@@ -34,40 +41,81 @@ impl<'a> QuestionSearch<'a> {
     ghost use Rattle.questions.specs.Subject.{IsAbout};
     ghost use Rattle.question_answer.specs.Answer.{HasAnswerLogInRange, HasEvidence};
     ghost use Rattle.question_answer.specs.Answer.{HasFittingEvents};
+    ghost use Rattle.question_answer.specs.inner.Models.{IsSharedModel};
 
     /// Makes the shared clauses.
     pub fn new(alloc: Global, protocol: &'a Admitted) -> Result<QuestionSearch<'a>, NoMemory>
         ensures { IfOk result (λ search. search ≡ protocol.now) }
     {
         let formulas = QuestionFormulas::new(alloc, protocol)?;
-        Ok(QuestionSearch { protocol, formulas })
+        let models = Seq::new(alloc);
+        Ok(QuestionSearch {
+            protocol,
+            formulas,
+            models,
+        })
     }
 
-    /// Decides whether some legal run gives the answer yes at some key, with no more than
-    /// `conflicts` conflicts in the search. Memory counts as run out where the formula is too large
-    /// for a log.
-    pub fn answer(&self, alloc: Global, q: &Question, conflicts: u32) -> Result<Answer, NoMemory>
-        requires about { IsAbout self.now q.now }
+    /// Decides whether some legal run gives the answer yes at some key, by the model of an earlier
+    /// question if one serves, and else with no more than `conflicts` conflicts in a search. Memory
+    /// counts as run out where the formula is too large for a log.
+    pub fn answer(
+        &mut self,
+        alloc: Global,
+        q: &Question,
+        conflicts: u32,
+    ) -> Result<Answer, NoMemory>
+        requires about { IsAbout self.old q.now }
         requires some { 1 ≤ conflicts }
         requires few { conflicts ≤ 1000000 }
-        ensures right { IfOk result (HasEvidence self.now q.now conflicts) }
+        ensures right { IfOk result (HasEvidence self.old q.now conflicts) }
         ensures numbers { IfOk result HasAnswerLogInRange }
-        ensures fits { IfOk result (HasFittingEvents self.now) }
+        ensures fits { IfOk result (HasFittingEvents self.old) }
+        ensures same { self.new ≡ self.old }
+    {
+        match known_run(alloc, self.protocol, self.models.as_slice(), q)? {
+            Some(run) => Ok(Answer::Possible(run)),
+            None => self.search(alloc, q, conflicts),
+        }
+    }
+
+    /// Decides it by a search, and keeps the model that it may find.
+    fn search(&mut self, alloc: Global, q: &Question, conflicts: u32) -> Result<Answer, NoMemory>
+        requires about { IsAbout self.old q.now }
+        requires some { 1 ≤ conflicts }
+        requires few { conflicts ≤ 1000000 }
+        ensures right { IfOk result (HasEvidence self.old q.now conflicts) }
+        ensures numbers { IfOk result HasAnswerLogInRange }
+        ensures fits { IfOk result (HasFittingEvents self.old) }
+        ensures same { self.new ≡ self.old }
     {
         // law: a formula without a model says that no legal run gives the answer yes
         impossible_without_model();
-        // law: a model satisfies what is written
+        // laws: a model satisfies what is written, and so meets the condition
         written_is_satisfied();
+        model_meets_condition();
         // law: the numbers of a log over few clauses and variables are in range
         numbers_in_range();
         let formula = self.formulas.with(alloc, q)?;
         match search_model(alloc, &formula, conflicts)? {
             Outcome::Sat(assignment) => {
                 let run = answering_run(alloc, self.protocol, q, &assignment)?;
+                self.keep(assignment)?;
                 Ok(Answer::Possible(run))
             }
             Outcome::Unsat(log) => Ok(Answer::Impossible(log)),
             Outcome::Budget(log) => Ok(Answer::Undecided(log)),
         }
+    }
+
+    /// Keeps the model for later questions, if there is room.
+    fn keep(&mut self, model: Assignment) -> Result<(), NoMemory>
+        requires { IsSharedModel self.old model }
+        ensures { self.new ≡ self.old }
+    {
+        if self.models.len() < MOST_MODELS {
+            self.models.push(model)?;
+        }
+        Ok(())
     }
 }

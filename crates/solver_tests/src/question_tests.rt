@@ -95,8 +95,8 @@ fn is_accepted(alloc: Global, a: &Admitted, q: &Question, log: &Log) -> bool
 fn is_impossible(alloc: Global, a: &Admitted, q: &Question) -> Result<bool, NoMemory>
     requires { IsAbout a.now q.now }
 {
-    let search = QuestionSearch::new(alloc, a)?;
-    match search.answer(alloc, q, 100)? {
+    let mut searches = QuestionSearch::new(alloc, a)?;
+    match searches.answer(alloc, q, 100)? {
         Answer::Impossible(log) => Ok(is_accepted(alloc, a, q, &log)),
         _ => Ok(false),
     }
@@ -106,8 +106,8 @@ fn is_impossible(alloc: Global, a: &Admitted, q: &Question) -> Result<bool, NoMe
 fn events_until(alloc: Global, a: &Admitted, q: &Question) -> Result<Option<usize>, NoMemory>
     requires { IsAbout a.now q.now }
 {
-    let search = QuestionSearch::new(alloc, a)?;
-    match search.answer(alloc, q, 100)? {
+    let mut searches = QuestionSearch::new(alloc, a)?;
+    match searches.answer(alloc, q, 100)? {
         Answer::Possible(run) => Ok(Some(run.len())),
         _ => Ok(None),
     }

@@ -1,0 +1,55 @@
+ghost use Rattle.std.specs.Prelude.{length, All, Contains, IfOk, MatchOption};
+ghost use Rattle.circuit_clauses.specs.Condition.{IsOver, Meets, condition_of};
+ghost use Rattle.clause_core.specs.Assignment.{valuation};
+ghost use Rattle.questions.specs.Subject.{IsAbout};
+ghost use Rattle.question_answer.specs.Answer.{IsShownPossible};
+ghost use Rattle.question_answer.specs.inner.Models.{IsSharedModel, MeetsQuestion};
+
+use super::answering_run::answering_run;
+use bspl_types::{Admitted, Run};
+use circuit_clauses::{Circuit, is_met};
+use clause_core::Assignment;
+use clause_encoding::plain_variables;
+use list_base::NoMemory;
+use question_formula::{condition_variables_exist, question_circuit};
+use questions::Question;
+use std::alloc::Global;
+
+/// The run of the first of the models that meets the condition of the question, if one does.
+pub(crate) fn known_run(
+    alloc: Global,
+    a: &Admitted,
+    models: &[Assignment],
+    q: &Question,
+) -> Result<Option<Run>, NoMemory>
+    requires about { IsAbout a.now q.now }
+    requires models { All (IsSharedModel a.now) models.now }
+    ensures { IfOk result (λ found. MatchOption found
+        (All (λ model. ¬ MeetsQuestion a.now q.now model) models.now)
+        (IsShownPossible a.now q.now)) }
+{
+    // law: the variables of the condition are among those that all questions share
+    condition_variables_exist();
+    let x = a.expanded();
+    let condition = question_circuit(alloc, x, plain_variables(x), q)?;
+    match first_met(models, &condition) {
+        Some(model) => Ok(Some(answering_run(alloc, a, q, model)?)),
+        None => Ok(None),
+    }
+}
+
+/// The first of the models that meets the condition.
+fn first_met<'m>(models: &'m [Assignment], c: &Circuit) -> Option<&'m Assignment>
+    requires { All (λ model. IsOver (length model) (condition_of c.now)) models.now }
+    ensures { MatchOption result
+        (All (λ model. ¬ Meets (valuation model) (condition_of c.now)) models.now)
+        (λ model. Contains models.now model.now ×
+        Meets (valuation model.now) (condition_of c.now)) }
+{
+    for model in models {
+        if is_met(c, model) {
+            return Some(model);
+        }
+    }
+    None
+}
