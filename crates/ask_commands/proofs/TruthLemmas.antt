@@ -1,5 +1,5 @@
 -- What an answer to a question says is true.
-use Rattle.std.proofs.Common.{◌≡◌, ℕ, Bool, List, [], ◌∷◌, ◌++◌, append_assoc, get_or, inl, inr, refl, sym, ap, subst, ◌∙◌, arith}
+use Rattle.std.proofs.Common.{◌≡◌, ℕ, Bool, List, [], ◌∷◌, ◌++◌, append_assoc, codes, get_or, inl, inr, refl, sym, ap, subst, ◌∙◌, arith}
 use Rattle.std.proofs.lemmas.List.{append_cancel_left, append_cancel_right}
 use Rattle.bspl_types.specs.declared.expanded.Expanded.{Expanded}
 use Rattle.list_base.specs.Lines.{line_of}
@@ -21,7 +21,6 @@ use Rattle.rejections.specs.FailureLine.{reject_line}
 use Rattle.tool_input.specs.declared.status.Status.{Status}
 use Rattle.tool_input.specs.Lines.{line}
 use Rattle.ask_commands.specs.declared.options.AskOptions.{AskOptions}
-use Rattle.ask_commands.specs.declared.wording.TheConstants as wording
 use Rattle.ask_commands.specs.AskAnswer.{IsAskAnswer, ask_text, asked_protocol_line, possibility_evidence, possibility_line}
 use Rattle.ask_commands.specs.CheckAnswer.{IsCheckAskAnswer}
 use Rattle.ask_commands.specs.TitledQuestion.{IsSpelledQuestion}
@@ -52,14 +51,14 @@ after_protocol x spelling brief answer word tree out is says =
     (sym (append_assoc (asked_protocol_line x) (possibility_line spelling answer) (possibility_evidence x spelling brief answer)) ∙ sym is ∙ says.text ∙ append_assoc (asked_protocol_line x) (line_of (word ∷ tree_spelling tree ∷ [])) says.rest)
 
 -- of a right answer with the line `possible` the question is possible
-possible_line : (x : Expanded) (q : Question) (budget : ℕ) (spelling evidence other rest : List ℕ) (answer : Answer) → HasEvidence x q budget answer → possibility_line spelling answer ++ evidence ≡ line_of (wording.POSSIBLE.now ∷ other ∷ []) ++ rest → IsPossible x q
+possible_line : (x : Expanded) (q : Question) (budget : ℕ) (spelling evidence other rest : List ℕ) (answer : Answer) → HasEvidence x q budget answer → possibility_line spelling answer ++ evidence ≡ line_of (codes "possible" ∷ other ∷ []) ++ rest → IsPossible x q
 unfolding first
 possible_line x q budget spelling evidence other rest (Possible run) right same = right.possible
 possible_line x q budget spelling evidence other rest (Impossible log) right same = absurd (let no : 105 ≡ 112 = ap first same in omega (arith, no))
 possible_line x q budget spelling evidence other rest (Undecided log) right same = absurd (let no : 117 ≡ 112 = ap first same in omega (arith, no))
 
 -- and of one with the line `impossible` it is not
-impossible_line : (x : Expanded) (q : Question) (budget : ℕ) (spelling evidence other rest : List ℕ) (answer : Answer) → HasEvidence x q budget answer → possibility_line spelling answer ++ evidence ≡ line_of (wording.IMPOSSIBLE.now ∷ other ∷ []) ++ rest → ¬ IsPossible x q
+impossible_line : (x : Expanded) (q : Question) (budget : ℕ) (spelling evidence other rest : List ℕ) (answer : Answer) → HasEvidence x q budget answer → possibility_line spelling answer ++ evidence ≡ line_of (codes "impossible" ∷ other ∷ []) ++ rest → ¬ IsPossible x q
 unfolding first
 impossible_line x q budget spelling evidence other rest (Possible run) right same = absurd (let no : 112 ≡ 105 = ap first same in omega (arith, no))
 impossible_line x q budget spelling evidence other rest (Impossible log) right same = right.impossible
@@ -67,17 +66,17 @@ impossible_line x q budget spelling evidence other rest (Undecided log) right sa
 
 pub said_possible : OneMeaning → (x : Expanded) (tree : Tree) (options : AskOptions) (out : List ℕ) (ends : Status) (q : Question) → IsAskAnswer x (phrase_of tree) options out ends → AsksQuestion x tree q → SaysPossible x tree out → IsPossible x q
 said_possible law x tree options out ends q is asks says =
-    let same = after_protocol x (tree_spelling tree) options.brief is.answer wording.POSSIBLE.now tree out is.text says in
+    let same = after_protocol x (tree_spelling tree) options.brief is.answer (codes "possible") tree out is.text says in
     same_possible law x tree tree is.question q refl is.means asks (possible_line x is.question options.conflicts (tree_spelling tree) (possibility_evidence x (tree_spelling tree) options.brief is.answer) (tree_spelling tree) says.rest is.answer is.right same)
 
 pub said_impossible : OneMeaning → (x : Expanded) (tree : Tree) (options : AskOptions) (out : List ℕ) (ends : Status) (q : Question) → IsAskAnswer x (phrase_of tree) options out ends → AsksQuestion x tree q → SaysImpossible x tree out → ¬ IsPossible x q
 said_impossible law x tree options out ends q is asks says = λ possible.
-    let same = after_protocol x (tree_spelling tree) options.brief is.answer wording.IMPOSSIBLE.now tree out is.text says in
+    let same = after_protocol x (tree_spelling tree) options.brief is.answer (codes "impossible") tree out is.text says in
     impossible_line x is.question options.conflicts (tree_spelling tree) (possibility_evidence x (tree_spelling tree) options.brief is.answer) (tree_spelling tree) says.rest is.answer is.right same
     (same_possible law x tree tree q is.question refl asks is.means possible)
 
 -- the line of a failure is not that of an accepted log
-not_rejected : (reject : Reject) (text : List ℕ) → reject_line reject ≡ line (wording.ACCEPTED.now ++ text) → ⊥
+not_rejected : (reject : Reject) (text : List ℕ) → reject_line reject ≡ line (codes "accepted impossible " ++ text) → ⊥
 unfolding first
 not_rejected (NoClause step) text same = let no : 114 ≡ 97 = ap first same in omega (arith, no)
 not_rejected (NoPivot step link) text same = let no : 114 ≡ 97 = ap first same in omega (arith, no)
@@ -86,9 +85,9 @@ not_rejected NotEmpty text same = let no : 114 ≡ 97 = ap first same in omega (
 not_rejected NoMemory text same = let no : 10 ≡ 97 = ap first same in omega (arith, no)
 
 -- the title of an accepted log is the text that is said
-titled_alike : (title text : List ℕ) → line (wording.ACCEPTED.now ++ title) ≡ line (wording.ACCEPTED.now ++ text) → title ≡ text
+titled_alike : (title text : List ℕ) → line (codes "accepted impossible " ++ title) ≡ line (codes "accepted impossible " ++ text) → title ≡ text
 titled_alike title text same =
-    append_cancel_left wording.ACCEPTED.now title text (append_cancel_right (wording.ACCEPTED.now ++ title) (wording.ACCEPTED.now ++ text) (10 ∷ []) same)
+    append_cancel_left (codes "accepted impossible ") title text (append_cancel_right (codes "accepted impossible " ++ title) (codes "accepted impossible " ++ text) (10 ∷ []) same)
 
 -- a question that is not possible, in the words of another text of it
 titled_impossible : OneMeaning → HasOneTree → (x : Expanded) (title text : List ℕ) (phrase : Phrase) (tree : Tree) (asked q : Question) → IsSpelledQuestion x title phrase asked → title ≡ text → IsQuestionText text tree → AsksQuestion x tree q → ¬ IsPossible x asked → ¬ IsPossible x q

@@ -24,7 +24,6 @@ use Rattle.tool_input.specs.Rules.{CommandRules}
 use Rattle.tool_input.specs.MessageName.{unknown_message}
 use Rattle.tool_input.specs.UndeclaredName.{undeclared_parameter, undeclared_role}
 use Rattle.ask_commands.specs.declared.options.AskOptions.{AskOptions}
-use Rattle.ask_commands.specs.declared.wording.TheConstants as wording
 
 -- a question as it is spelled in answers: its words, with one space between two
 abbrev pub phrase_spelling : Phrase → List ℕ
@@ -36,9 +35,9 @@ asked_protocol_line x = line_of (codes "protocol" ∷ x.name ∷ [])
 
 -- the words of the answer; of a search that came to its budget also how many steps its log has
 abbrev pub possibility_words : Answer → List (List ℕ)
-possibility_words (Possible run) = wording.POSSIBLE.now ∷ []
-possibility_words (Impossible log) = wording.IMPOSSIBLE.now ∷ []
-possibility_words (Undecided log) = wording.UNDECIDED.now ∷ numeral (length log.steps) ∷ []
+possibility_words (Possible run) = codes "possible" ∷ []
+possibility_words (Impossible log) = codes "impossible" ∷ []
+possibility_words (Undecided log) = codes "undecided" ∷ numeral (length log.steps) ∷ []
 
 -- its line: these words, and the question
 abbrev pub possibility_line : List ℕ → Answer → List ℕ

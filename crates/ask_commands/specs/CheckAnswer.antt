@@ -1,5 +1,5 @@
 -- What `ask` answers with `--check` on an admitted protocol and the text of a log on a question.
-use Rattle.std.specs.Prelude.{◌≡◌, ◌⊎◌, ℕ, List, ◌++◌, Some}
+use Rattle.std.specs.Prelude.{◌≡◌, ◌⊎◌, ℕ, List, ◌++◌, codes, Some}
 use Rattle.bspl_types.specs.declared.expanded.Expanded.{Expanded}
 use Rattle.log_checker.specs.declared.refusal.Reject.{Reject}
 use Rattle.question_answer.specs.Check.{AcceptsImpossible, FailsImpossible}
@@ -20,7 +20,6 @@ use Rattle.tool_input.specs.declared.status.Status.{Status}
 use Rattle.tool_input.specs.declared.status.Status.TheVariants.{Done, Refuted}
 use Rattle.tool_input.specs.Lines.{line}
 use Rattle.tool_input.specs.Rules.{CommandRules}
-use Rattle.ask_commands.specs.declared.wording.TheConstants as wording
 use Rattle.ask_commands.specs.TitledQuestion.{HasQuestionTitle, IsSpelledQuestion}
 
 -- the bytes are the text of the log on this question, which is so spelled
@@ -38,7 +37,7 @@ pub record SaysAcceptedImpossible (x : Expanded) (title : List ℕ) (q : Questio
     (out : List ℕ) (status : Status) : Type 0 where
   pub accepts : AcceptsImpossible x q log
   pub impossible : ¬ IsPossible x q
-  pub text : out ≡ line (wording.ACCEPTED.now ++ title)
+  pub text : out ≡ line (codes "accepted impossible " ++ title)
   pub done : status ≡ Done
 
 -- the log is not accepted, and the text names its first failure

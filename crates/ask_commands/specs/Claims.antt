@@ -1,5 +1,5 @@
 -- What the output of `ask` says of a question, and what it is to keep a rule.
-use Rattle.std.specs.Prelude.{◌≡◌, ℕ, List, [], ◌∷◌, ◌++◌}
+use Rattle.std.specs.Prelude.{◌≡◌, ℕ, List, [], ◌∷◌, ◌++◌, codes}
 use Rattle.std.specs.List.{Contains}
 use Rattle.bspl_types.specs.declared.expanded.Expanded.{Expanded}
 use Rattle.list_base.specs.Lines.{line_of}
@@ -14,7 +14,6 @@ use Rattle.questions.specs.declared.question.Question.{Question}
 use Rattle.questions.specs.Answer.{IsPossible}
 use Rattle.tool_input.specs.Lines.{line}
 use Rattle.tool_input.specs.Parts.{protocol_text}
-use Rattle.ask_commands.specs.declared.wording.TheConstants as wording
 use Rattle.ask_commands.specs.AskAnswer.{asked_protocol_line}
 
 -- after the line of the protocol comes that word on the question
@@ -25,14 +24,14 @@ pub record SaysOfQuestion (word : List ℕ) (x : Expanded) (tree : Tree) (out : 
 
 -- the line `possible`, and the line `impossible`
 abbrev pub SaysPossible : Expanded → Tree → List ℕ → Type 0
-SaysPossible x tree out = SaysOfQuestion wording.POSSIBLE.now x tree out
+SaysPossible x tree out = SaysOfQuestion (codes "possible") x tree out
 
 abbrev pub SaysImpossible : Expanded → Tree → List ℕ → Type 0
-SaysImpossible x tree out = SaysOfQuestion wording.IMPOSSIBLE.now x tree out
+SaysImpossible x tree out = SaysOfQuestion (codes "impossible") x tree out
 
 -- the line `accepted impossible` on the question of the text
 abbrev pub SaysAcceptedQuestion : List ℕ → List ℕ → Type 0
-SaysAcceptedQuestion text out = out ≡ line (wording.ACCEPTED.now ++ text)
+SaysAcceptedQuestion text out = out ≡ line (codes "accepted impossible " ++ text)
 
 -- what is never to be is impossible, and what is to be possible is
 abbrev pub KeepsRule : Expanded → Sense → Question → Type 0

@@ -1,5 +1,5 @@
 -- How the answer to the question of a rule judges the rule, and how that is written.
-use Rattle.std.specs.Prelude.{ℕ, Bool, true, false, if◌then◌else◌, List, [], ◌∷◌, ◌++◌, length}
+use Rattle.std.specs.Prelude.{ℕ, Bool, true, false, if◌then◌else◌, List, [], ◌∷◌, ◌++◌, length, codes}
 use Rattle.bspl_types.specs.declared.expanded.Expanded.{Expanded}
 use Rattle.list_base.specs.Lines.{line_of}
 use Rattle.list_base.specs.Numeral.{numeral}
@@ -13,7 +13,6 @@ use Rattle.question_text.specs.Tree.{Phrase}
 use Rattle.questions.specs.declared.question.Question.{Question}
 use Rattle.tool_input.specs.declared.status.Status.{Status}
 use Rattle.tool_input.specs.declared.status.Status.TheVariants as status
-use Rattle.ask_commands.specs.declared.wording.TheConstants as wording
 use Rattle.ask_commands.specs.AskAnswer.{phrase_spelling}
 use Rattle.ask_commands.specs.AskAnswer.{possibility_evidence}
 
@@ -42,14 +41,14 @@ is_unjudged answer = false
 
 -- the word of a sense
 abbrev pub sense_word : Sense → List ℕ
-sense_word sense.Never = wording.NEVER.now
-sense_word sense.Some = wording.SOME.now
+sense_word sense.Never = codes "never"
+sense_word sense.Some = codes "some"
 
 -- the words of a judgement; of a search that came to its budget also how many steps its log has
 abbrev pub judgement_words : Sense → Answer → List (List ℕ)
-judgement_words sense (Undecided log) = wording.UNDECIDED.now ∷ numeral (length log.steps) ∷ []
+judgement_words sense (Undecided log) = codes "undecided" ∷ numeral (length log.steps) ∷ []
 judgement_words sense answer =
-    (if is_broken sense answer then wording.BROKEN.now else wording.KEPT.now) ∷ []
+    (if is_broken sense answer then codes "broken" else codes "kept") ∷ []
 
 -- its line: these words, and the rule
 abbrev pub judgement_line : Sense → List ℕ → Answer → List ℕ

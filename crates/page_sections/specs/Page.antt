@@ -1,5 +1,5 @@
 -- The page of a protocol, of the verdicts on it, and of a section that is given.
-use Rattle.std.specs.Prelude.{ℕ, List, [], ◌∷◌, ◌++◌, map}
+use Rattle.std.specs.Prelude.{ℕ, List, [], ◌∷◌, ◌++◌, codes, map}
 use Rattle.bspl_types.specs.declared.expanded.Expanded.{Expanded}
 use Rattle.verdict.specs.declared.outcome.Liveness.{Liveness}
 use Rattle.verdict.specs.declared.outcome.Liveness.TheVariants as liveness
@@ -10,22 +10,21 @@ use Rattle.html.specs.declared.wording.TheConstants.{STYLE}
 use Rattle.html.specs.Fragment.{Fragment, Tag, Words, fitted}
 use Rattle.html.specs.Tables.{message_table, source_table}
 use Rattle.message_fates.specs.declared.fate.Fate.{Fate}
-use Rattle.page_sections.specs.declared.wording.TheConstants.{LIVE, NOT_LIVE, PAGE_END, PAGE_HEAD}
-use Rattle.page_sections.specs.declared.wording.TheConstants.{SAFE, UNDECIDED, UNSAFE}
+use Rattle.page_sections.specs.declared.wording.TheConstants.{PAGE_END, PAGE_HEAD}
 use Rattle.page_sections.specs.Fates.{fates_section, is_never_sent}
 use Rattle.page_sections.specs.VerdictSections.{liveness_section, safety_section}
 
 -- the verdict on safety in a word
 abbrev pub safety_word : Safety → List ℕ
-safety_word (safety.Safe log) = SAFE.now
-safety_word (safety.Unsafe run param first second) = UNSAFE.now
-safety_word (safety.Undecided log) = UNDECIDED.now
+safety_word (safety.Safe log) = codes "safe"
+safety_word (safety.Unsafe run param first second) = codes "unsafe"
+safety_word (safety.Undecided log) = codes "undecided"
 
 -- the verdict on liveness in a word or two
 abbrev pub liveness_word : Liveness → List ℕ
-liveness_word (liveness.Live log) = LIVE.now
-liveness_word (liveness.NotLive run param) = NOT_LIVE.now
-liveness_word (liveness.Undecided log) = UNDECIDED.now
+liveness_word (liveness.Live log) = codes "live"
+liveness_word (liveness.NotLive run param) = codes "not live"
+liveness_word (liveness.Undecided log) = codes "undecided"
 
 -- the title, which stands in the head and in the body: the protocol's name and both verdicts
 abbrev pub page_title : Expanded → Verdicts → List Fragment

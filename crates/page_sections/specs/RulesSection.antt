@@ -1,5 +1,5 @@
 -- The section of a page on the rules in a protocol's text.
-use Rattle.std.specs.Prelude.{◌≡◌, ℕ, if◌then◌else◌, List, [], ◌∷◌, ◌++◌, map}
+use Rattle.std.specs.Prelude.{◌≡◌, ℕ, if◌then◌else◌, List, [], ◌∷◌, ◌++◌, codes, map}
 use Rattle.std.specs.List.{All, flat_map}
 use Rattle.ask_commands.specs.AskAnswer.{phrase_spelling}
 use Rattle.ask_commands.specs.Judgement.{IsRightlyJudged, JudgedRule, is_broken, said_of, sense_word}
@@ -12,14 +12,13 @@ use Rattle.question_answer.specs.declared.answer.Answer.{Answer}
 use Rattle.question_answer.specs.declared.answer.Answer.TheVariants.{Impossible, Possible, Undecided}
 use Rattle.question_text.specs.Tree.{Phrase}
 use Rattle.run_chart.specs.declared.finding.Finding.TheVariants.{Plain}
-use Rattle.page_sections.specs.declared.wording.TheConstants.{BROKEN, KEPT, RULE, RULES_START}
-use Rattle.page_sections.specs.declared.wording.TheConstants.{UNDECIDED}
+use Rattle.page_sections.specs.declared.wording.TheConstants.{RULE, RULES_START}
 use Rattle.page_sections.specs.VerdictSections.{run_shown}
 
 -- the word that the answer to its question gives a rule
 abbrev pub rule_word : Sense → Answer → List ℕ
-rule_word sense (Undecided log) = UNDECIDED.now
-rule_word sense answer = if is_broken sense answer then BROKEN.now else KEPT.now
+rule_word sense (Undecided log) = codes "undecided"
+rule_word sense answer = if is_broken sense answer then codes "broken" else codes "kept"
 
 -- that word, and the rule as it is spelled
 abbrev pub rule_sentence : Sense → Phrase → Answer → List Fragment

@@ -1,5 +1,5 @@
 -- The word for a rule is that of a right answer.
-use Rattle.std.proofs.Common.{◌≡◌, ℕ, List, get_or, ap, arith}
+use Rattle.std.proofs.Common.{◌≡◌, ℕ, List, codes, get_or, ap, arith}
 use Rattle.ask_commands.specs.Claims.{KeepsRule}
 use Rattle.ask_commands.specs.Judgement.{IsRightlyJudged, JudgedRule}
 use Rattle.bspl_types.specs.declared.expanded.Expanded.{Expanded}
@@ -9,7 +9,6 @@ use Rattle.question_answer.specs.declared.answer.Answer.{Answer}
 use Rattle.question_answer.specs.declared.answer.Answer.TheVariants.{Impossible, Possible, Undecided}
 use Rattle.question_answer.specs.Answer.{HasEvidence}
 use Rattle.questions.specs.declared.question.Question.{Question}
-use Rattle.page_sections.specs.declared.wording.TheConstants.{BROKEN, KEPT}
 use Rattle.page_sections.specs.Laws.{IsTrulyShown}
 use Rattle.page_sections.specs.RulesSection.{rule_word}
 use Rattle.page_sections.proofs.laws.rules_are_shown_truly.Goals as goal
@@ -19,7 +18,7 @@ first : List ℕ → ℕ
 first text = get_or text 0 0
 
 -- a rule that is said to be kept
-kept_by : (x : Expanded) (sense : Sense) (q : Question) (budget : ℕ) (answer : Answer) → HasEvidence x q budget answer → rule_word sense answer ≡ KEPT.now → KeepsRule x sense q
+kept_by : (x : Expanded) (sense : Sense) (q : Question) (budget : ℕ) (answer : Answer) → HasEvidence x q budget answer → rule_word sense answer ≡ codes "kept" → KeepsRule x sense q
 unfolding first
 kept_by x senses.Never q budget (Possible run) right is = absurd (let no : 98 ≡ 107 = ap first is in omega (arith, no))
 kept_by x senses.Never q budget (Impossible log) right is = right.impossible
@@ -29,7 +28,7 @@ kept_by x senses.Some q budget (Impossible log) right is = absurd (let no : 98 �
 kept_by x senses.Some q budget (Undecided log) right is = absurd (let no : 117 ≡ 107 = ap first is in omega (arith, no))
 
 -- and one that is said to be broken
-broken_by : (x : Expanded) (sense : Sense) (q : Question) (budget : ℕ) (answer : Answer) → HasEvidence x q budget answer → rule_word sense answer ≡ BROKEN.now → ¬ KeepsRule x sense q
+broken_by : (x : Expanded) (sense : Sense) (q : Question) (budget : ℕ) (answer : Answer) → HasEvidence x q budget answer → rule_word sense answer ≡ codes "broken" → ¬ KeepsRule x sense q
 unfolding first
 broken_by x senses.Never q budget (Possible run) right is = λ kept. kept right.possible
 broken_by x senses.Never q budget (Impossible log) right is = absurd (let no : 107 ≡ 98 = ap first is in omega (arith, no))
