@@ -4,6 +4,8 @@ use Rattle.std.proofs.lemmas.Grind.{flat_map-append}
 use Rattle.agent_scripts.specs.declared.plan.Plan.{Plan}
 use Rattle.agent_scripts.specs.Refusal.{IsScriptText}
 use Rattle.agent_scripts.specs.Script.{Script}
+use Rattle.ask_commands.specs.declared.rule_list.AskedRules.{AskedRules}
+use Rattle.ask_commands.specs.AskedRules.{AreAskedRules}
 use Rattle.ask_commands.specs.RulesAnswer.{IsRulesRefused}
 use Rattle.bspl_types.specs.declared.expanded.Expanded.{Expanded}
 use Rattle.html.specs.Fragment.{Fragment, as_html, fragment_text}
@@ -40,10 +42,10 @@ pub refused_for_rules : (x : Expanded) (input : List ℕ) (e : AnswerError) → 
 refused_for_rules x input (error.Rejected r) is = inl is
 refused_for_rules x input error.NoMemory is = is
 
--- and so does a bad line of what is given beside them
-pub refused_beside : (x : Expanded) (input : List ℕ) (e : AnswerError) → RejectsFor (RefusesBeside x input) e → RejectsFor (IsPageRefused x input) e
-refused_beside x input (error.Rejected r) is = inr is
-refused_beside x input error.NoMemory is = is
+-- and so does a bad line of what is given beside good ones
+pub refused_beside : (x : Expanded) (input : List ℕ) (asked : AskedRules) → AreAskedRules x input asked → (e : AnswerError) → RejectsFor (RefusesBeside x input) e → RejectsFor (IsPageRefused x input) e
+refused_beside x input asked are (error.Rejected r) is = inr (record { asked = asked; are_asked = are; refused = is })
+refused_beside x input asked are error.NoMemory is = is
 
 -- two sections, one after the other, are one
 pub one_section : (ruled shown : List Fragment) (section both : List ℕ) → both ≡ as_html ruled ++ section → section ≡ as_html shown → both ≡ as_html (ruled ++ shown)

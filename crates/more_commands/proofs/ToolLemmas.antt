@@ -24,7 +24,7 @@ use Rattle.tool_input.specs.Rejection.{rejection_line}
 use Rattle.more_commands.specs.declared.word.CommandWord.TheVariants as word
 use Rattle.more_commands.specs.ExplainAnswer.{AnswersInWords, explain_rules}
 use Rattle.more_commands.specs.ExplainAsk.{NamesAsk}
-use Rattle.more_commands.specs.Laws.{AddsWords, AreWordsAfter, AreWordsFor}
+use Rattle.more_commands.specs.Laws.{AddsWords, AreWordsAfter}
 use Rattle.more_commands.specs.StatusWords.{status_words}
 use Rattle.more_commands.specs.Interface.{IsMoreRefusal, more_interface}
 use Rattle.more_commands.specs.Task.{AsksTask, Explain, MoreTask, RequestsMore, more_own_text, more_refused_at_once, more_rules, task_word, word_text}
@@ -106,13 +106,14 @@ module _ (args rest : List (List ℕ)) (bytes : List ℕ) (about : args ≡ word
       let input = task_bytes tool_interface found.0 bytes in
       let said : IsRefusalText input r out = subst (λ (t : MoreTask). IsMoreRefusal t (task_bytes more_interface t bytes) r out) found.1 is.text in
       let words = refusal_words input r out (fault_of r.code) said in
-      record {
+      AddsWords.to_refusal (record {
         answer = rejection_line r;
-        is_answer = Output.refused (rejection_line r) r (record { task = found.0; name = is.name; requested = found.2; reason = tool_reason r is.reason; text = refl });
+        rejection = r;
+        call = record { task = found.0; name = is.name; requested = found.2; reason = tool_reason r is.reason; text = refl };
         words = words.0;
-        are_words = AreWordsFor.refusal found.0 is.name r found.2 refl (subst (IsRefusalText input r) words.1 said);
+        explain = subst (IsRefusalText input r) words.1 said;
         is_out = words.1;
-      }
+      })
 
   -- and those of an answer after that of the tool
   answer_added : (out : List ℕ) (status : Status) → DoesTask more_interface args bytes out status → AddsWords rest bytes out status
@@ -120,18 +121,18 @@ module _ (args rest : List (List ℕ)) (bytes : List ℕ) (about : args ≡ word
       let found = tool_task is.task is.name is.read.requested in
       let answered : AnswersInput (explain_rules found.0) is.name (task_bytes tool_interface found.0 bytes) out status = subst (λ (t : MoreTask). AnswersInput (more_rules t) is.name (task_bytes more_interface t bytes) out status) found.1 is.answered in
       let words = answer_words found.0 is.name (task_bytes tool_interface found.0 bytes) answered.protocol answered.given out status answered.judged answered.answer in
-      record {
+      AddsWords.to_answer status (record {
         answer = words.0;
-        is_answer = Output.done words.0 status (record {
+        does = record {
           task = found.0;
           name = is.name;
           read = tool_read found.0 is.name found.2 is.read.short;
           answered = record { given = answered.given; has_given = answered.has_given; protocol = answered.protocol; judged = answered.judged; answer = words.1.1.1.0 };
-        });
+        };
         words = words.1.0;
-        are_words = AreWordsFor.task_answer found.0 is.name status found.2 words.1.1.1.1;
+        after = words.1.1.1.1;
         is_out = words.1.1.0;
-      }
+      })
 
   -- what is written
   pub words_added : (out : List ℕ) (status : Status) → Output more_interface args bytes out status → AddsWords rest bytes out status

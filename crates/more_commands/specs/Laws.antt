@@ -11,7 +11,6 @@ use Rattle.ask_commands.specs.Laws.{HasBrokenRule}
 use Rattle.bspl_tool.specs.declared.task.Task.{Task}
 use Rattle.bspl_tool.specs.declared.task.Task.TheVariants.{Verify}
 use Rattle.bspl_tool.specs.Interface.{tool_interface}
-use Rattle.bspl_tool.specs.Request.{Requests}
 use Rattle.bspl_types.specs.declared.expanded.Expanded.{Expanded}
 use Rattle.enactment_model.specs.Liveness.{LiveProtocol}
 use Rattle.enactment_model.specs.Safety.{SafeProtocol}
@@ -25,13 +24,12 @@ use Rattle.question_text.specs.Tree.{phrase_of}
 use Rattle.questions.specs.declared.question.Question.{Question}
 use Rattle.questions.specs.Answer.{IsPossible}
 use Rattle.tool_input.specs.Interface.{HasTask, task_bytes}
-use Rattle.tool_input.specs.Output.{Output}
+use Rattle.tool_input.specs.Output.{DoesTask, IsRefusedCall, Output}
 use Rattle.tool_input.specs.declared.rejection.Rejection.{Rejection}
 use Rattle.tool_input.specs.declared.status.Status.{Status}
 use Rattle.tool_input.specs.declared.status.Status.TheVariants.{Done, Refused, Refuted}
 use Rattle.tool_input.specs.Input.{Declares}
 use Rattle.tool_input.specs.Parts.{protocol_text}
-use Rattle.tool_input.specs.Rejection.{rejection_line}
 use Rattle.verdict.specs.declared.outcome.Verdicts.{Verdicts}
 use Rattle.verdict_commands.specs.VerifyAnswer.{IsVerdictAnswer}
 use Rattle.more_commands.specs.declared.word.CommandWord.TheVariants as word
@@ -129,23 +127,31 @@ AreWordsAfter (Verify brief budget) name input answer status words =
     AreVerifyWords brief budget name input answer words
 AreWordsAfter task name input answer status words = words ≡ status_words task status
 
--- the words after the line of a refusal, which explain it; or those after an answer
-pub data AreWordsFor (args : List (List ℕ)) (bytes answer words : List ℕ) : Status → Type 0 where
-  refusal : (task : Task) (name : List ℕ) (r : Rejection) → Requests args task name
-      → answer ≡ rejection_line r
-      → IsRefusalText (task_bytes tool_interface task bytes) r (answer ++ words)
-      → AreWordsFor args bytes answer words Refused
-  task_answer : (task : Task) (name : List ℕ) (status : Status) → Requests args task name
-      → AreWordsAfter task name (task_bytes tool_interface task bytes) answer status words
-      → AreWordsFor args bytes answer words status
+-- the tool refuses what these arguments request, and then come words that explain the refusal
+pub record ExplainsRefusal (args : List (List ℕ)) (bytes out : List ℕ) : Type 0 where
+  pub answer : List ℕ
+  pub rejection : Rejection
+  pub call : IsRefusedCall tool_interface args bytes answer rejection
+  pub words : List ℕ
+  pub explain : IsRefusalText (task_bytes tool_interface call.task bytes) rejection
+      (answer ++ words)
+  pub is_out : out ≡ answer ++ words
+
+-- the tool answers what they request, with this status, and then come the words after the answer
+pub record ExplainsAnswer (args : List (List ℕ)) (bytes out : List ℕ) (status : Status)
+    : Type 0 where
+  pub answer : List ℕ
+  pub does : DoesTask tool_interface args bytes answer status
+  pub words : List ℕ
+  pub after : AreWordsAfter does.task does.name (task_bytes tool_interface does.task bytes) answer
+      status words
+  pub is_out : out ≡ answer ++ words
 
 -- a right output of the tool for these arguments, with this status, and then the words for it
-pub record AddsWords (args : List (List ℕ)) (bytes out : List ℕ) (status : Status) : Type 0 where
-  pub answer : List ℕ
-  pub is_answer : Output tool_interface args bytes answer status
-  pub words : List ℕ
-  pub are_words : AreWordsFor args bytes answer words status
-  pub is_out : out ≡ answer ++ words
+pub data AddsWords (args : List (List ℕ)) (bytes out : List ℕ) : Status → Type 0 where
+  to_refusal : ExplainsRefusal args bytes out → AddsWords args bytes out Refused
+  to_answer : (status : Status) → ExplainsAnswer args bytes out status
+      → AddsWords args bytes out status
 
 -- what `explain` writes for a command line of the tool adds words to an output of the tool
 abbrev pub AnswersAddWords : Type 0

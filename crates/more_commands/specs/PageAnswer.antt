@@ -2,6 +2,8 @@
 use Rattle.std.specs.Prelude.{◌≡◌, ◌⊎◌, ℕ, List, [], ◌++◌}
 use Rattle.adapter.specs.Desk.{DeskState}
 use Rattle.agent_scripts.specs.Job.{Job}
+use Rattle.ask_commands.specs.declared.rule_list.AskedRules.{AskedRules}
+use Rattle.ask_commands.specs.AskedRules.{AreAskedRules}
 use Rattle.ask_commands.specs.RulesAnswer.{IsRulesRefused}
 use Rattle.bspl_types.specs.declared.event.Event.{Event}
 use Rattle.bspl_types.specs.declared.expanded.Expanded.{Expanded}
@@ -82,10 +84,15 @@ pub record ShowsInput (x : Expanded) (input out : List ℕ) (status : Status) : 
   pub gives : Gives x input given
   pub answer : IsPageAnswer x rules given out status
 
--- the text has a bad rule, or what the input is to give a bad line
+-- the rules can be asked, and what the input is to give beside them has a bad line
+pub record IsRefusedBeside (x : Expanded) (input : List ℕ) (r : Rejection) : Type 0 where
+  pub asked : AskedRules
+  pub are_asked : AreAskedRules x input asked
+  pub refused : RefusesRun x input r ⊎ RefusesAgents x input r
+
+-- the text has a bad rule; or it has none, and what the input is to give a bad line
 abbrev pub IsPageRefused : Expanded → List ℕ → Rejection → Type 0
-IsPageRefused x input r =
-    IsRulesRefused x input r ⊎ (RefusesRun x input r ⊎ RefusesAgents x input r)
+IsPageRefused x input r = IsRulesRefused x input r ⊎ IsRefusedBeside x input r
 
 -- it looks at the whole input; its evidence may be another
 abbrev pub page_rules : CommandRules

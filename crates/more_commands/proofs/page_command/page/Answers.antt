@@ -20,7 +20,7 @@ pub returns-in-Ok-clause-refused : goal.returns-in-Ok-clause-refused
 returns-in-Ok-clause-refused c =
     let x = c.args.protocol in
     let input = c.args.input.now in
-    IfErr-weaker c.page_beside.result (RejectsFor (RefusesBeside x input)) (RejectsFor (IsPageRefused x input)) (refused_beside x input) c.page_beside.ensures.refused
+    IfErr-weaker c.page_beside.result (RejectsFor (RefusesBeside x input)) (RejectsFor (IsPageRefused x input)) (refused_beside x input c.in-Ok.rules c.in-Ok.ensures.ok) c.page_beside.ensures.refused
 
 pub returns-in-Err-clause-refused : goal.returns-in-Err-clause-refused
 returns-in-Err-clause-refused c = refused_for_rules c.args.protocol c.args.input.now c.in-Err.error c.in-Err.ensures.refused
