@@ -1,5 +1,6 @@
 mod ListedLemmas
 mod KnownLemmas
+mod InsLemmas
 mod WithinLemmas
 mod EnabledLemmas
 mod LawLemmas

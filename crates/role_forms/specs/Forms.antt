@@ -1,12 +1,13 @@
 -- What a role may send now under a key, and what its sender still has to choose.
-use Rattle.std.specs.Prelude.{◌≡◌, ◌↔◌, ℕ, ◌<◌, List, map, IsTrue}
-use Rattle.std.specs.List.{All, AllPairs, Contains}
+use Rattle.std.specs.Prelude.{◌≡◌, ◌↔◌, ℕ, ◌<◌, Bool, ◌&&◌, not, List, map, IsTrue}
+use Rattle.std.specs.List.{All, AllPairs, Contains, filter}
 use Rattle.bspl_types.specs.declared.event.Event.{Event}
 use Rattle.bspl_types.specs.declared.expanded.Expanded.{Expanded}
 use Rattle.bspl_types.specs.declared.protocol.Adornment.TheVariants.{In}
 use Rattle.bspl_types.specs.declared.protocol.Carried.{Carried}
 use Rattle.bspl_types.specs.declared.value.Value.{Value}
-use Rattle.bspl_types.specs.Choice.{chosen_params}
+use Rattle.bspl_types.specs.Adornment.{has_value}
+use Rattle.bspl_types.specs.Choice.{chosen_params, is_out}
 use Rattle.bspl_types.specs.Expansion.{message_of}
 use Rattle.bspl_types.specs.Knowledge.{CanEmit, Knows}
 use Rattle.enactment_model.specs.Liveness.{IsEmitted}
@@ -31,12 +32,18 @@ abbrev pub ListsIns : Expanded → List Event → List Value → List Carried �
 ListsIns x history key carried list = (p : ℕ) (v : Value) → ListsValue list p v ↔
     (Contains carried (record { param = p; adornment = In }) × Knows x history key p v)
 
--- the form of a message that the role may send: whether it was emitted before, what is known of its
--- `in` parameters, and the parameters whose values its sender chooses
+-- adorned `in`
+abbrev pub is_adorned_in : Carried → Bool
+is_adorned_in c = has_value c.adornment && not (is_out c.adornment)
+
+-- the form of a message that the role may send: whether it was emitted before, the known values of
+-- its `in` parameters in the message's order, and the parameters whose values its sender chooses
 pub record IsForm (s : StoreState) (key : List Value) (f : Form) : Type 0 where
   pub may : MaySend s key f.message
   pub before : IsTrue f.sent ↔ IsEmitted (acts_of s) key f.message
   pub ins_are : ListsIns s.protocol (acts_of s) key (message_of s.protocol f.message).carried f.ins
+  pub ins_in_order : map (λ k. k.param) f.ins ≡
+      map (λ c. c.param) (filter is_adorned_in (message_of s.protocol f.message).carried)
   pub outs_are : f.outs ≡ map (λ c. c.param) (chosen_params s.protocol f.message)
 
 -- the forms of exactly the messages that the role may send, in the protocol's order

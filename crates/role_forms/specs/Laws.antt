@@ -18,7 +18,8 @@ pub record FillsIn (x : Expanded) (f : Form) (i : Instance) : Type 0 where
   pub message_is : i.message ≡ f.message
   pub ins_are : (p : ℕ) (v : Value) → Carries x i In p v → ListsValue f.ins p v
 
--- the role may emit an instance under the key exactly if it fills in one of the forms
+-- an instance under the key, of a message of the role, is enabled exactly if it fills in one of the
+-- forms; so the role may emit it if it fits
 abbrev pub FormsAreEnabled : Type 0
 FormsAreEnabled = (s : StoreState) (key : List Value) (forms : List Form) → AreForms s key forms →
     (i : Instance) → i.key ≡ key → (message_of s.protocol i.message).sender ≡ s.role →

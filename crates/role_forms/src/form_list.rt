@@ -1,9 +1,10 @@
 ghost use Rattle.std.specs.Prelude.{◌≡◌, ◌==◌, ◌↔◌, ◌<◌, length, map, IfOk, IsTrue};
-ghost use Rattle.std.specs.List.{filter, list_any};
+ghost use Rattle.std.specs.List.{All, filter, list_any};
 ghost use Rattle.bspl_types.specs.declared.protocol.Adornment.TheVariants.{In};
 ghost use Rattle.bspl_types.specs.Choice.{is_chosen};
 ghost use Rattle.local_store.specs.State.{acts_of};
-ghost use Rattle.role_forms.specs.Forms.{AreForms, MaySend, ListsIns};
+ghost use Rattle.role_forms.specs.Forms.{AreForms, MaySend, ListsIns, is_adorned_in};
+ghost use Rattle.role_knowledge.specs.Blocked.{IsPermitted};
 ghost use Rattle.role_forms.specs.inner.FormOf.{IsFormOf};
 
 use super::form::{Form, FormList, KnownValueList};
@@ -15,8 +16,10 @@ use local_store::Store;
 use std::alloc::Global;
 
 /// The forms of exactly the messages that the role may send now under the key, in the protocol's
-/// order. The key need not be held.
+/// order. The key need not be held. It has a value for each key parameter: under another one no
+/// instance fits the protocol, so a form could not be filled in there.
 pub fn forms(alloc: Global, store: &Store, key: &Key) -> Result<FormList, NoMemory>
+    requires { length key.now ≡ length store.now.protocol.keys }
     ensures { IfOk result (AreForms store.now key.now) }
 {
     let count = store.admitted().expanded().messages.len();
@@ -54,8 +57,11 @@ fn known_ins(
     key: &Key,
     carried: &[Carried],
 ) -> Result<KnownValueList, NoMemory>
-    ensures { IfOk result
+    requires { All (IsPermitted store.now.protocol (acts_of store.now) key.now) carried.now }
+    ensures known { IfOk result
         (ListsIns store.now.protocol (acts_of store.now) key.now carried.now) }
+    ensures in_order { IfOk result (λ ins.
+        map (λ k. k.param) ins ≡ map (λ c. c.param) (filter is_adorned_in carried.now)) }
 {
     // law: the store is consistent
     store.is_consistent();
@@ -70,7 +76,8 @@ fn known_ins(
 
 /// Whether the parameter is adorned `in`.
 fn is_in(c: Carried) -> bool
-    ensures { IsTrue result ↔ (c.adornment ≡ In) }
+    ensures exact { IsTrue result ↔ (c.adornment ≡ In) }
+    ensures test { result ≡ is_adorned_in c }
 {
     matches!(c.adornment, Adornment::In)
 }
