@@ -1,10 +1,12 @@
 -- Bytes that may be left where a crash came while others were written.
-use Rattle.std.proofs.Common.{◌≡◌, ◌<◌, ◌≤◌, ◌+◌, ℕ, List, [], ◌∷◌, ◌++◌, length, take, refl, sym, ap, subst, ◌∙◌, length-take, length-take-le, take_all, arith}
+use Rattle.std.proofs.Common.{◌≡◌, ◌<◌, ◌≤◌, ◌+◌, ℕ, Bool, true, false, cond, min, List, [], ◌∷◌, ◌++◌, length, replicate, take, refl, sym, ap, subst, ◌∙◌, append_assoc, inl, inr, length-take, length-take-le, arith}
 use Rattle.std.specs.Prelude.{◌⊎◌, slice_index_or as get_or}
-use Rattle.std.specs.List.{AllZip}
-use Rattle.std.proofs.lemmas.List.{take_more, get_or-take, get_or_default}
-use Rattle.std.proofs.lemmas.List.Elements.{all_zip_more, length_all_zip, AllZip-get_or}
-use Rattle.kept_lines.specs.CrashImage.{IsHalfWritten}
+use Rattle.std.specs.List.{AllZip, zip}
+use Rattle.std.proofs.lemmas.List.{length-map, take_more, get_or-map, get_or-take, get_or_default}
+use Rattle.std.proofs.lemmas.List.Elements.{All-replicate, all_zip_more, length_all_zip, AllZip-get_or}
+use Rattle.std.proofs.lemmas.Slice.Zip.{get_or-zip, length-zip}
+use Rattle.kept_lines.specs.CrashImage.{IsCrashImage, IsHalfWritten}
+use Rattle.kept_lines.specs.Memory.{half_left}
 
 -- a byte that was written, and what is left of it
 abbrev pub IsLeftOf : ℕ → ℕ → Type 0
@@ -54,3 +56,48 @@ half_within written left half =
     let same = length_all_zip IsLeftOf (take (length left) written) left half in
     let cut = length-take (length left) written in
     omega (arith, same, cut)
+
+-- one byte that is left for each that was written and is spoken of
+pub left_length : (written : List ℕ) (reached : List Bool)
+    → length (half_left written reached) ≡ min (length written) (length reached)
+left_length written reached =
+    length-map (zip written reached) (λ (byte : ℕ × Bool). cond byte.1 byte.0 0) ∙ length-zip written reached
+
+-- the next byte that is left
+pub left_more : (written : List ℕ) (reached : List Bool) (index next : ℕ) → index < length written
+    → index < length reached → next ≡ cond (get_or reached index false) (get_or written index 0) 0
+    → take (index + 1) (half_left written reached) ≡ take index (half_left written reached) ++ next ∷ []
+left_more written reached index next within spoken is =
+    let left = half_left written reached in
+    let whole = left_length written reached in
+    let pairs = zip written reached in
+    let pair = get_or-zip written reached index (0, false) within spoken in
+    let inside : index < length pairs = omega (arith, length-zip written reached, within, spoken) in
+    let f : ℕ × Bool → ℕ = λ byte. cond byte.1 byte.0 0 in
+    let here = get_or-map f pairs index (0, false) 0 inside in
+    take_more left index 0 (omega (arith, whole, within, spoken))
+    ∙ ap (λ (byte : ℕ). take index left ++ byte ∷ []) (here ∙ ap f pair ∙ sym is)
+
+-- what is left of each byte is that byte or a 0
+left_of_byte : (byte : ℕ) (arrived : Bool) → IsLeftOf byte (cond arrived byte 0)
+left_of_byte byte true = inl refl
+left_of_byte byte false = inr refl
+
+-- so these bytes may be left where a crash came
+pub left_is_half : (written : List ℕ) (reached : List Bool)
+    → IsHalfWritten written (half_left written reached)
+left_is_half [] reached = tt
+left_is_half (byte ∷ written) [] = tt
+left_is_half (byte ∷ written) (arrived ∷ reached) =
+    (left_of_byte byte arrived, left_is_half written reached)
+
+-- a crash may leave them behind the lines that were kept, and zeros behind them
+pub left_is_crash : (kept begun image : List ℕ) (reached : List Bool) (zeros : ℕ)
+    → image ≡ kept ++ half_left begun reached ++ replicate zeros 0 → IsCrashImage kept begun image
+left_is_crash kept begun image reached zeros is = record {
+  left = half_left begun reached;
+  zeros = replicate zeros 0;
+  half = left_is_half begun reached;
+  room = All-replicate (λ (byte : ℕ). byte ≡ 0) zeros 0 refl;
+  whole = is ∙ append_assoc kept (half_left begun reached) (replicate zeros 0);
+}

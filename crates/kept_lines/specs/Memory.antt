@@ -1,5 +1,6 @@
 -- What users see of a journal in memory that may fail.
-use Rattle.std.specs.Prelude.{◌≡◌, ◌⊎◌, ℕ, ◌+◌, List, [], ◌++◌, Result, Ok, Err}
+use Rattle.std.specs.Prelude.{◌≡◌, ◌⊎◌, ℕ, ◌+◌, Bool, if◌then◌else◌, List, [], ◌++◌, map, Result, Ok, Err}
+use Rattle.std.specs.List.{zip}
 use Rattle.bspl_io.specs.declared.sink.Trouble.{Trouble}
 use Rattle.bspl_io.specs.declared.sink.Trouble.TheVariants.{Failed, NoMemory}
 use Rattle.bspl_io.specs.Faults.{count_after}
@@ -34,3 +35,8 @@ abbrev pub KeepsOrBegins : KeptLines → KeptLines → List ℕ → Result (Unit
 KeepsOrBegins old new lines (Ok _) = IsKeptCall old new lines
 KeepsOrBegins old new lines (Err Failed) = IsFailedCall old new lines
 KeepsOrBegins old new lines (Err NoMemory) = new ≡ old
+
+-- of each begun byte that `reached` speaks of, the byte if it reached the disk, and else a 0
+abbrev pub half_left : List ℕ → List Bool → List ℕ
+half_left begun reached =
+    map (λ (byte : ℕ × Bool). if byte.1 then byte.0 else 0) (zip begun reached)

@@ -1,5 +1,6 @@
-ghost use Rattle.std.specs.Prelude.{◌≡◌, ◌↔◌, ◌++◌, List, ℕ, IsTrue, OnOk};
+ghost use Rattle.std.specs.Prelude.{◌≡◌, ◌↔◌, ◌++◌, IsTrue, OnOk};
 ghost use Rattle.kept_lines.specs.CrashImage.{IsHalfWritten};
+ghost use Rattle.kept_lines.specs.Memory.{half_left};
 
 use list_base::{Bytes, NoMemory};
 
@@ -20,13 +21,14 @@ pub fn is_half_written(written: &[u8], left: &[u8]) -> bool
 
 /// Puts the first of the bytes at the end, one for each item of `reached`, and a 0 in place of each
 /// that did not reach the disk.
+#[tactic(auto, using(crate::proofs::HalfLemmas::left_is_half))]
 pub(crate) fn push_half_written(
     image: &mut Bytes,
     written: &[u8],
     reached: &[bool],
 ) -> Result<(), NoMemory>
-    ensures { OnOk result ((left : List ℕ) × (image.new ≡ image.old ++ left)
-        × IsHalfWritten written.now left) }
+    ensures exact { OnOk result (image.new ≡ image.old ++ half_left written.now reached.now) }
+    ensures half { IsHalfWritten written.now (half_left written.now reached.now) }
 {
     for index in 0..written.len().min(reached.len()) {
         image.push(if reached[index] { written[index] } else { 0 })?;

@@ -1,8 +1,8 @@
-ghost use Rattle.std.specs.Prelude.{◌≡◌, IfOk, OnErr, OnOk, IsErrOf};
+ghost use Rattle.std.specs.Prelude.{◌≡◌, ◌++◌, replicate, IfOk, OnErr, OnOk, IsErrOf};
 ghost use Rattle.std.specs.Io.KnownBytes.{Appends, Keeps};
 ghost use Rattle.bspl_io.specs.Faults.{HasCounted};
 ghost use Rattle.kept_lines.specs.CrashImage.{IsCrashImage};
-ghost use Rattle.kept_lines.specs.Memory.{KeepsOrBegins, unused};
+ghost use Rattle.kept_lines.specs.Memory.{KeepsOrBegins, half_left, unused};
 
 use super::half_written::push_half_written;
 use super::journal::Journal;
@@ -51,15 +51,18 @@ impl MemJournal {
         }
     }
 
-    /// What a crash may leave: the begun bytes that are said to have reached the disk, a 0 in place
-    /// of each other one up to the last that is spoken of, and then so many zeros.
+    /// What a crash may leave: the lines that are kept, then the begun bytes that are said to have
+    /// reached the disk, with a 0 in place of each other one up to the last that is spoken of, and
+    /// then so many zeros.
     pub fn crash_image(
         &self,
         alloc: Global,
         reached: &[bool],
         zeros: usize,
     ) -> Result<Bytes, NoMemory>
-        ensures { IfOk result (λ image. IsCrashImage self.now.kept self.now.begun image) }
+        ensures exact { IfOk result (λ image. image ≡
+            self.now.kept ++ half_left self.now.begun reached.now ++ replicate zeros 0) }
+        ensures crash { IfOk result (λ image. IsCrashImage self.now.kept self.now.begun image) }
     {
         let mut image = Bytes::from_slice(alloc, self.kept.as_slice())?;
         push_half_written(&mut image, self.begun.as_slice(), reached)?;

@@ -1,7 +1,9 @@
 -- One byte more, and the end.
-use Rattle.std.proofs.Common.{◌≡◌, ◌++◌, ◌∷◌, [], List, ℕ, ap, ◌∙◌, append_assoc, inl, inr, arith}
+use Rattle.std.proofs.Common.{◌≡◌, ◌++◌, ◌∷◌, [], List, ℕ, Bool, false, cond, length, take, ap, sym, ◌∙◌, append_assoc, arith}
 use Rattle.std.specs.Prelude.{slice_index_or as get_or}
-use Rattle.kept_lines.proofs.HalfLemmas.{IsLeftOf, half_more, half_whole}
+use Rattle.std.proofs.lemmas.List.{take_all}
+use Rattle.kept_lines.specs.Memory.{half_left}
+use Rattle.kept_lines.proofs.HalfLemmas.{left_length, left_more}
 use Rattle.kept_lines.proofs.half_written.push_half_written.Goals as goal
 use Rattle.kept_lines.proofs.half_written.push_half_written.Goals.{then-reached-index, else-reached-index}
 
@@ -9,21 +11,25 @@ use Rattle.kept_lines.proofs.half_written.push_half_written.Goals.{then-reached-
 pub loop-index-preserved : goal.loop-index-preserved
 loop-index-preserved c =
     let written = c.args.written.now in
+    let reached = c.args.reached.now in
     let index = c.loop-index.index in
     let next = c.if-reached-index.push in
-    let so_far = c.loop-index.invariant in
-    let of_its_own : IsLeftOf (get_or written index 0) next =
-    (elim c.if-reached-index.branch as (λ _. IsLeftOf (get_or written index 0) next) [
-      | then-reached-index w ↦ inl (omega (arith, w.push-is))
-      | else-reached-index w ↦ inr (omega (arith, w.push-is))
-    ]) in (
-      so_far.0 ++ next ∷ [],
-      c.in_ok-push.ensures.ok ∙ ap (λ (bytes : List ℕ). bytes ++ next ∷ []) so_far.1 ∙ append_assoc c.args.image.now so_far.0 (next ∷ []),
-      half_more written so_far.0 index next (omega (arith, c.loop-index-test.true, c.min-index-end.ensures)) so_far.2 of_its_own,
-    )
+    let byte = get_or written index 0 in
+    let is_left : next ≡ cond (get_or reached index false) byte 0 =
+    (elim c.if-reached-index.branch as (λ _. next ≡ cond (get_or reached index false) byte 0) [
+      | then-reached-index w ↦ w.push-is ∙ ap (λ (b : Bool). cond b byte 0) (sym w.if-reached-index.true)
+      | else-reached-index w ↦ w.push-is ∙ ap (λ (b : Bool). cond b byte 0) (sym w.if-reached-index.false)
+    ]) in
+    let more = left_more written reached index next (omega (arith, c.loop-index-test.true, c.min-index-end.ensures)) (omega (arith, c.loop-index-test.true, c.min-index-end.ensures)) is_left in
+    c.in_ok-push.ensures.ok
+    ∙ ap (λ (bytes : List ℕ). bytes ++ next ∷ []) c.loop-index.invariant
+    ∙ append_assoc c.args.image.now (take index (half_left written reached)) (next ∷ [])
+    ∙ ap (λ (bytes : List ℕ). c.args.image.now ++ bytes) (sym more)
 
 -- the loop has come to its end
-pub returns : goal.returns
-returns c =
-    let so_far = c.loop-index.invariant in
-    (so_far.0, so_far.1, half_whole c.args.written.now so_far.0 c.loop-index.index (omega (arith, c.loop-index.auto.index-end, c.min-index-end.ensures)) so_far.2)
+pub returns-clause-exact : goal.returns-clause-exact
+returns-clause-exact c =
+    let left = half_left c.args.written.now c.args.reached.now in
+    let whole = left_length c.args.written.now c.args.reached.now in
+    c.loop-index.invariant
+    ∙ ap (λ (bytes : List ℕ). c.args.image.now ++ bytes) (take_all c.loop-index.index left (omega (arith, whole, c.loop-index-test.false, c.min-index-end.ensures)))
