@@ -3,16 +3,17 @@
 
     bench/questions.py [FOLDER ..]
 
-Each .bspl file of the folders (examples/) whose protocol of the file's name has rules is taken, and then the protocols
-of 63 or 64 messages that bench/verify.py makes, with rules that are put in here. A line a protocol: its rules and how
-many of their questions are possible; the clauses of the largest formula; and seconds of processor time: of `minisat
--no-pre` on the formulas of all questions together, from files that checks/ask/by_formula.py writes; of `ask NAME
-QUESTION --brief` for each question, and the ratio of that to minisat's; of `ask NAME --all --brief`, which makes the
-clauses that all questions share once and tries earlier models first, and its ratio; and of `verify NAME --brief`, with the ratio of one `ask` to it.
-Then come the four long protocols again, with a hundred rules each, made of their messages: the seconds of one `ask`,
-the mean over all hundred questions; of `verify`, and the ratio to it, which should be at most 1.5; and of `ask --all`,
-and its ratio to one `ask`, which should be at most 20. The least of RUNS (3) runs counts. What differs is said, and the
-status is 1. BSPL and BSPL_MORE name the programs (crates/bspl/out/bspl, crates/bspl_more/out/bspl_more).
+Each .bspl file of the folders (examples/) whose protocol of the file's name has rules is taken, and then the
+protocols of 63 or 64 messages that bench/verify.py makes, with rules that are put in here. A line a protocol: its
+rules and how many of their questions are possible; the clauses of the largest formula; and seconds of processor time:
+of `minisat -no-pre` on the formulas of all questions together, from files that checks/ask/by_formula.py writes; of
+`ask NAME QUESTION --brief` for each question, and the ratio of that to minisat's; of `ask NAME --all --brief`, which
+makes the clauses that all questions share once and tries earlier models first, and its ratio; and of `verify NAME
+--brief`, with the ratio of one `ask` to it. Then come the four long protocols again, with a hundred rules each, made
+of their messages: the seconds of one `ask`, the mean over all hundred questions; of `verify`, and the ratio to it,
+which should be at most 1.5; and of `ask --all`, and its ratio to one `ask`, which should be at most 20. The least of
+RUNS (3) runs counts. What differs is said, and the status is 1. BSPL and BSPL_MORE name the programs
+(crates/bspl/out/bspl, crates/bspl_more/out/bspl_more).
 """
 import os
 import sys
