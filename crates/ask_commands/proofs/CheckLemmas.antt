@@ -9,9 +9,9 @@ use Rattle.question_text.specs.declared.fault.QuestionFault.TheVariants as fault
 use Rattle.question_text.specs.declared.tree.Tree.{Tree}
 use Rattle.question_text.specs.declared.unknown.UnknownName.{UnknownName}
 use Rattle.question_text.specs.declared.unknown.UnknownName.TheVariants as unknowns
-use Rattle.question_text.specs.Laws.{HasOneTree, HasTreeOrFault}
+use Rattle.question_text.specs.Laws.{HasOneTree, ReadTextHasNoFault}
 use Rattle.question_text.specs.Meaning.{AsksQuestion, MeansQuestion}
-use Rattle.question_text.specs.MeaningLaws.{AskedOrUnknown}
+use Rattle.question_text.specs.MeaningLaws.{AskedHasNoUnknownName}
 use Rattle.question_text.specs.QuestionText.{IsMisread, IsQuestionText, tree_spelling}
 use Rattle.question_text.specs.Tree.{Phrase, phrase_of}
 use Rattle.question_text.specs.Unknown.{IsFirstUnknownName, IsUnknownIn, names_in}
@@ -65,7 +65,7 @@ rest_is_short part spelling rest version titled =
     omega (arith, whole)
 
 -- a text with a fault spells no question
-pub misread_spells_none : HasTreeOrFault → (x : Expanded) (text : List ℕ) (fault : QuestionFault) → IsMisread text fault → (fault ≡ faults.NoMemory → ⊥) → (phrase : Phrase) (q : Question) → ¬ IsSpelledQuestion x text phrase q
+pub misread_spells_none : ReadTextHasNoFault → (x : Expanded) (text : List ℕ) (fault : QuestionFault) → IsMisread text fault → (fault ≡ faults.NoMemory → ⊥) → (phrase : Phrase) (q : Question) → ¬ IsSpelledQuestion x text phrase q
 misread_spells_none exclusive x text fault misread some phrase q is = exclusive text is.read.tree fault is.read.read (record { misread = misread; no_memory = some })
 
 -- nor does one that is spelled otherwise
@@ -82,7 +82,7 @@ as_first_unknown x tree (unknowns.Parameter name) is some = is
 as_first_unknown x tree unknowns.NoMemory is some = absurd (some refl)
 
 -- nor one with an unknown name
-pub unknown_is_not_asked : HasOneTree → AskedOrUnknown → (x : Expanded) (text : List ℕ) (tree : Tree) (name : UnknownName) → IsQuestionText text tree → IsUnknownIn x (names_in (phrase_of tree)) name → (name ≡ unknowns.NoMemory → ⊥) → (phrase : Phrase) (q : Question) → ¬ IsSpelledQuestion x text phrase q
+pub unknown_is_not_asked : HasOneTree → AskedHasNoUnknownName → (x : Expanded) (text : List ℕ) (tree : Tree) (name : UnknownName) → IsQuestionText text tree → IsUnknownIn x (names_in (phrase_of tree)) name → (name ≡ unknowns.NoMemory → ⊥) → (phrase : Phrase) (q : Question) → ¬ IsSpelledQuestion x text phrase q
 unknown_is_not_asked trees law x text tree name read unknown some phrase q is =
     let its = is.read in
     let same : phrase_of its.tree ≡ phrase_of tree = trees text its.tree tree its.read read in

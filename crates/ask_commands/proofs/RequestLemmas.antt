@@ -2,7 +2,7 @@
 use Rattle.std.proofs.Common.{◌≡◌, ℕ, true, false, List, [], ◌∷◌, get_or, Option, None, Some, refl, sym, ap, subst, ◌∙◌, arith}
 use Rattle.std.specs.Prelude.{if◌then◌else◌}
 use Rattle.std.proofs.lemmas.Option.{none-some}
-use Rattle.question_text.specs.Laws.{HasOneFault, HasOneTree, HasTreeOrFault, IsFaultOf}
+use Rattle.question_text.specs.Laws.{HasOneFault, HasOneTree, ReadTextHasNoFault, IsFaultOf}
 use Rattle.question_text.specs.Tree.{Phrase}
 use Rattle.tool_input.specs.declared.rejection.Rejection.{Rejection}
 use Rattle.ask_commands.specs.declared.arguments.Flags.{Flags}
@@ -39,7 +39,7 @@ one_form a task other name again one also = sym (same_form a task name one) ∙ 
 pub record OneReading : Type 0 where
   pub tree : HasOneTree
   pub fault : HasOneFault
-  pub exclusive : HasTreeOrFault
+  pub exclusive : ReadTextHasNoFault
 
 -- a fault with a rejection is none of memory
 as_fault : (text : List ℕ) (r : Rejection) (is : IsMisputText text r) → IsFaultOf text is.fault

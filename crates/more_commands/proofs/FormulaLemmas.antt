@@ -6,7 +6,7 @@ use Rattle.ask_commands.specs.AskTask.{IsMisputText, IsTextOfPhrase, question_re
 use Rattle.bspl_types.specs.Name.{is_name}
 use Rattle.bspl_types.specs.declared.property.Property.{Property}
 use Rattle.bspl_types.specs.declared.property.Property.TheVariants.{Liveness, Safety}
-use Rattle.question_text.specs.Laws.{HasOneFault, HasOneTree, HasTreeOrFault, IsFaultOf}
+use Rattle.question_text.specs.Laws.{HasOneFault, HasOneTree, ReadTextHasNoFault, IsFaultOf}
 use Rattle.question_text.specs.Tree.{Phrase}
 use Rattle.tool_input.specs.declared.rejection.Rejection.{Rejection}
 use Rattle.more_commands.specs.declared.wording.TheConstants as wording
@@ -27,7 +27,7 @@ one_word Liveness Liveness same = refl
 pub record OneReading : Type 0 where
   pub tree : HasOneTree
   pub fault : HasOneFault
-  pub exclusive : HasTreeOrFault
+  pub exclusive : ReadTextHasNoFault
 
 -- a fault with a rejection is none of memory
 as_fault : (text : List ℕ) (r : Rejection) (is : IsMisputText text r) → IsFaultOf text is.fault

@@ -12,7 +12,7 @@ use Rattle.formula_text.specs.Laws.{OneEnactText, OneText}
 use Rattle.question_text.specs.declared.tree.Tree.{Tree}
 use Rattle.question_text.specs.declared.unknown.UnknownName.{UnknownName}
 use Rattle.question_text.specs.declared.unknown.UnknownName.TheVariants as unknowns
-use Rattle.question_text.specs.MeaningLaws.{AskedOrUnknown, HasOneUnknownName, MeansOneQuestion}
+use Rattle.question_text.specs.MeaningLaws.{AskedHasNoUnknownName, HasOneUnknownName, MeansOneQuestion}
 use Rattle.question_text.specs.Tree.{Phrase, phrase_of}
 use Rattle.question_text.specs.Unknown.{IsFirstUnknownName, IsUnknownIn, names_in}
 use Rattle.tool_input.specs.Interface.{RequestsInput, task_bytes}
@@ -42,7 +42,7 @@ pub record OneEach : Type 0 where
   pub enact_text : OneEnactText
   pub question : MeansOneQuestion
   pub unknown : HasOneUnknownName
-  pub asked : AskedOrUnknown
+  pub asked : AskedHasNoUnknownName
   pub same_text : SameHasSameFormula
   pub question_text : OneQuestionText
 

@@ -20,8 +20,8 @@ use Rattle.tool_input.specs.Parts.{protocol_text}
 use Rattle.program_frame.specs.declared.reply.Reply.{Reply}
 use Rattle.tool_input.specs.declared.status.Status.{Status}
 use Rattle.verdict.specs.declared.outcome.Verdicts.{Verdicts}
-use Rattle.more_commands.specs.PageAnswer.{IsPageAnswer, IsPageRefused, ShowsGiven, ShowsInput}
-use Rattle.more_commands.specs.inner.Beside.{RefusesBeside, ShowsBeside}
+use Rattle.more_commands.specs.PageAnswer.{IsPageAnswer, IsPageRefused, RefusesBeside, ShowsGiven, ShowsInput}
+use Rattle.more_commands.specs.inner.Beside.{ShowsBeside}
 use Rattle.more_commands.specs.Given.{Agents, Given}
 
 -- it is the page of whatever the section shows

@@ -84,11 +84,15 @@ pub record ShowsInput (x : Expanded) (input out : List ℕ) (status : Status) : 
   pub gives : Gives x input given
   pub answer : IsPageAnswer x rules given out status
 
--- the rules can be asked, and what the input is to give beside them has a bad line
+-- what the input is to give beside the rules has a bad line
+abbrev pub RefusesBeside : Expanded → List ℕ → Rejection → Type 0
+RefusesBeside x input r = RefusesRun x input r ⊎ RefusesAgents x input r
+
+-- so it is, and the rules can be asked
 pub record IsRefusedBeside (x : Expanded) (input : List ℕ) (r : Rejection) : Type 0 where
   pub asked : AskedRules
   pub are_asked : AreAskedRules x input asked
-  pub refused : RefusesRun x input r ⊎ RefusesAgents x input r
+  pub refused : RefusesBeside x input r
 
 -- the text has a bad rule; or it has none, and what the input is to give a bad line
 abbrev pub IsPageRefused : Expanded → List ℕ → Rejection → Type 0

@@ -1,8 +1,8 @@
 ghost use Rattle.std.specs.Prelude.{IfErr, IfOk};
 ghost use Rattle.ask_commands.specs.AskedRules.{HaveQuestions};
 ghost use Rattle.tool_input.specs.Error.{RejectsFor};
-ghost use Rattle.more_commands.specs.PageAnswer.{IsPageRefused, ShowsInput};
-ghost use Rattle.more_commands.specs.inner.Beside.{RefusesBeside, ShowsBeside};
+ghost use Rattle.more_commands.specs.PageAnswer.{IsPageRefused, RefusesBeside, ShowsInput};
+ghost use Rattle.more_commands.specs.inner.Beside.{ShowsBeside};
 
 use super::pages::{page_answer, page_with_agents, page_with_run};
 use agent_scripts::Job;

@@ -24,7 +24,7 @@ HasOneRuleFault =
     other ≢ faults.NoMemory → IsBadRule text name fault → IsBadRule text name other → fault ≡ other
 
 -- and not both
-abbrev pub HasRulesOrFault : Type 0
-HasRulesOrFault =
+abbrev pub ReadRulesHaveNoFault : Type 0
+ReadRulesHaveNoFault =
     (text name : List ℕ) (rules : List Rule) (fault : RuleFault) → fault ≢ faults.NoMemory →
     AreRulesOf text name rules → ¬ IsBadRule text name fault

@@ -1,4 +1,5 @@
-ghost use Rattle.protocol_rules.specs.Laws.{HasOneListOfRules, HasOneRuleFault, HasRulesOrFault};
+ghost use Rattle.protocol_rules.specs.Laws.{HasOneListOfRules, HasOneRuleFault};
+ghost use Rattle.protocol_rules.specs.Laws.{ReadRulesHaveNoFault};
 
 use bspl_parser::tokens_once;
 use question_text::one_question;
@@ -7,7 +8,7 @@ use question_text::one_question;
 pub fn rules_once()
     ensures rules { HasOneListOfRules }
     ensures fault { HasOneRuleFault }
-    ensures exclusive { HasRulesOrFault }
+    ensures exclusive { ReadRulesHaveNoFault }
 {
     // law: a text has one list of tokens, or one bad byte
     tokens_once();

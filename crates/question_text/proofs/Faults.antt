@@ -6,7 +6,7 @@ use Rattle.bspl_parser.specs.Token.{offset_of}
 use Rattle.bspl_parser.specs.Tokens.{Tokens, IsBadByte}
 use Rattle.question_text.specs.declared.fault.QuestionFault.TheVariants.{Byte, TooLong, Syntax, NoMemory}
 use Rattle.question_text.specs.declared.tree.Tree.{Tree}
-use Rattle.question_text.specs.Laws.{HasOneTree, HasOneFault, HasTreeOrFault}
+use Rattle.question_text.specs.Laws.{HasOneTree, HasOneFault, ReadTextHasNoFault}
 use Rattle.question_text.specs.QuestionText.{BeginsQuestion, EndsTooEarly, HasTokens, IsMisplaced, IsQuestionText, IsTooLong, SpellsQuestion}
 use Rattle.question_text.specs.Tree.{Phrase, phrase_of}
 use Rattle.question_text.specs.inner.Progress.{at_start, whole_question}
@@ -126,7 +126,7 @@ module _ (once : TokensOnce) where
       x.none (phrase_of t) (subst (λ ts. SpellsQuestion ts (phrase_of t)) same of.spelled)
 
   -- and not both
-  pub tree_or_fault : HasTreeOrFault
+  pub tree_or_fault : ReadTextHasNoFault
   tree_or_fault text t (Byte a) of x = once.exclusive text a of.tokens x.misread of.scanned.scanned
   tree_or_fault text t (TooLong a) of x = not_too_long text a of.tokens x.misread of.scanned
   tree_or_fault text t (Syntax a) of x = no_bad text t a of x.misread

@@ -23,8 +23,8 @@ HasOneFault =
     (text : List ℕ) (a b : QuestionFault) → IsFaultOf text a → IsFaultOf text b → a ≡ b
 
 -- no text is a question and has a fault
-abbrev pub HasTreeOrFault : Type 0
-HasTreeOrFault =
+abbrev pub ReadTextHasNoFault : Type 0
+ReadTextHasNoFault =
     (text : List ℕ) (t : Tree) (a : QuestionFault)
     → IsQuestionText text t → ¬ IsFaultOf text a
 

@@ -23,8 +23,8 @@ HasOneUnknownName =
     IsFirstUnknownName x one name → IsFirstUnknownName x other again → name ≡ again
 
 -- a tree that asks a question has no unknown name
-abbrev pub AskedOrUnknown : Type 0
-AskedOrUnknown =
+abbrev pub AskedHasNoUnknownName : Type 0
+AskedHasNoUnknownName =
     (x : Expanded) (one other : Tree) (q : Question) (name : UnknownName) →
     phrase_of one ≡ phrase_of other → AsksQuestion x one q → ¬ IsFirstUnknownName x other name
 

@@ -1,7 +1,7 @@
 //! Laws of questions as texts: functions without effect, whose contracts are facts about the
 //! definitions. A caller gains the facts by the call.
 
-ghost use Rattle.question_text.specs.Laws.{HasOneFault, HasOneTree, HasTreeOrFault};
+ghost use Rattle.question_text.specs.Laws.{HasOneFault, HasOneTree, ReadTextHasNoFault};
 ghost use Rattle.question_text.specs.Laws.{SpellingReadsBack};
 
 use bspl_parser::{spaced_tokens, tokens_once};
@@ -10,7 +10,7 @@ use bspl_parser::{spaced_tokens, tokens_once};
 pub fn one_question()
     ensures tree { HasOneTree }
     ensures fault { HasOneFault }
-    ensures exclusive { HasTreeOrFault }
+    ensures exclusive { ReadTextHasNoFault }
 {
     // law: a text has one list of tokens, or one bad byte
     tokens_once();

@@ -1,4 +1,4 @@
-ghost use Rattle.question_text.specs.MeaningLaws.{AskedIsAbout, AskedOrUnknown};
+ghost use Rattle.question_text.specs.MeaningLaws.{AskedIsAbout, AskedHasNoUnknownName};
 ghost use Rattle.question_text.specs.MeaningLaws.{HasOneUnknownName, MeansOneQuestion};
 
 use bspl_types::{messages_are_named_once, params_are_named_once, roles_are_named_once};
@@ -8,7 +8,7 @@ use bspl_types::{messages_are_named_once, params_are_named_once, roles_are_named
 pub fn means_once()
     ensures question { MeansOneQuestion }
     ensures unknown { HasOneUnknownName }
-    ensures exclusive { AskedOrUnknown }
+    ensures exclusive { AskedHasNoUnknownName }
 {
     // laws: a name is that of one message, of one role and of one parameter
     messages_are_named_once();

@@ -1,10 +1,9 @@
 -- What a page shows beside the rules.
-use Rattle.std.specs.Prelude.{◌⊎◌, List, ℕ}
+use Rattle.std.specs.Prelude.{List, ℕ}
 use Rattle.bspl_types.specs.declared.expanded.Expanded.{Expanded}
 use Rattle.protocol_rules.specs.declared.rule.Rule.{Rule}
-use Rattle.tool_input.specs.declared.rejection.Rejection.{Rejection}
 use Rattle.tool_input.specs.declared.status.Status.{Status}
-use Rattle.more_commands.specs.Given.{Given, Gives, RefusesAgents, RefusesRun}
+use Rattle.more_commands.specs.Given.{Given, Gives}
 use Rattle.more_commands.specs.PageAnswer.{IsPageAnswer}
 
 -- the page of the rules, and of what the input gives beside them
@@ -13,7 +12,3 @@ pub record ShowsBeside (x : Expanded) (rules : List Rule) (input out : List ℕ)
   pub given : Given
   pub gives : Gives x input given
   pub answer : IsPageAnswer x rules given out status
-
--- what the input is to give has a bad line
-abbrev pub RefusesBeside : Expanded → List ℕ → Rejection → Type 0
-RefusesBeside x input r = RefusesRun x input r ⊎ RefusesAgents x input r

@@ -3,8 +3,8 @@ use Rattle.std.proofs.lemmas.Result.{IfErr-weaker, IfOk-weaker}
 use Rattle.program_frame.specs.declared.reply.Reply.{Reply}
 use Rattle.tool_input.specs.declared.status.Status.{Status}
 use Rattle.tool_input.specs.Error.{RejectsFor}
-use Rattle.more_commands.specs.PageAnswer.{IsPageRefused, ShowsInput}
-use Rattle.more_commands.specs.inner.Beside.{RefusesBeside, ShowsBeside}
+use Rattle.more_commands.specs.PageAnswer.{IsPageRefused, RefusesBeside, ShowsInput}
+use Rattle.more_commands.specs.inner.Beside.{ShowsBeside}
 use Rattle.more_commands.proofs.PageLemmas.{input_shown, refused_beside, refused_for_rules}
 use Rattle.more_commands.proofs.page_command.page.Goals as goal
 
