@@ -172,10 +172,6 @@ attached-start vars clauses cells heads cells_are heads_are = record {
     unwatched : (n : ℕ) → IsUnwatched (cell_of cells n)
     unwatched n = subst IsUnwatched (sym (blank-cell n)) blank-unwatched
 
--- a new clause has two open literals while no literal is set
-pub open-empty : (es : List Entry) (c : List Lit) → es ≡ [] → IsAscending c → 2 ≤ length c → HasTwoOpen es 0 c
-open-empty es c empty ascending two = subst (λ xs. HasTwoOpen xs 0 c) (sym empty) (open-low [] c (λ k d within. absurd (omega arith)) ascending two)
-
 -- the next clause watches nothing yet
 pub attached-blank : (vars i n : ℕ) (clauses : List (List Lit)) (cells : List Cell) (heads : List ℕ) → n ≡ i → i < length clauses → IsAttached vars i clauses cells heads → IsUnwatched (cell_of cells (n + 1))
 attached-blank vars i n clauses cells heads same within a =

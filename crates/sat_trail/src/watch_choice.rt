@@ -1,7 +1,7 @@
 ghost use Rattle.std.specs.Prelude.{◌≡◌, ◌≢◌, ◌+◌, ◌*◌, ◌^◌, ◌<◌, ◌≤◌, [], length, replicate, All, Contains};
 ghost use Rattle.std.specs.Prelude.{IfSome, IfNone};
 ghost use Rattle.std.specs.Bool.{OnTrue, OnFalse};
-ghost use Rattle.clause_core.specs.Clause.{VariablesExist};
+ghost use Rattle.clause_core.specs.Clause.{IsAscending, VariablesExist};
 ghost use Rattle.clause_core.specs.Propagation.{MakesFalse, OthersFalse};
 ghost use Rattle.sat_trail.specs.Entry.{values_of};
 ghost use Rattle.sat_trail.specs.State.{IsNumberUpTo};
@@ -134,6 +134,20 @@ pub fn choose(set: &Entries, clause: &[Lit], level: u32) -> Option<(Lit, Lit)>
     Some((one, other))
 }
 
+/// The first two literals of the clause, if it has as many: with nothing set they may be watched.
+fn first_two(set: &Entries, clause: &[Lit]) -> Option<(Lit, Lit)>
+    requires none { set.now.entries ≡ [] }
+    requires ascending { IsAscending clause.now }
+    ensures chosen { IfSome result
+        (λ pair. AreChosen set.now.entries 0 clause.now pair.0 pair.1) }
+    ensures none { IfNone result (length clause.now < 2) }
+{
+    match clause {
+        [one, other, ..] => Some((*one, *other)),
+        _ => None,
+    }
+}
+
 /// Lets each clause watch two of its literals, if it has as many.
 pub fn watch_all(lists: &mut WatchLists, set: &Entries, clauses: &[Clause])
     requires few { length clauses.now < 2 ^ 32 }
@@ -147,6 +161,6 @@ pub fn watch_all(lists: &mut WatchLists, set: &Entries, clauses: &[Clause])
     let mut number = 0;
     for clause in clauses {
         number += 1;
-        lists.attach(set.vars(), number, choose(set, clause.lits(), 0));
+        lists.attach(set.vars(), number, first_two(set, clause.lits()));
     }
 }
