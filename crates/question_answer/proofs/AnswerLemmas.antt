@@ -7,6 +7,7 @@ use Rattle.bspl_types.specs.declared.event.Event.{Event}
 use Rattle.bspl_types.specs.declared.expanded.Expanded.{Expanded}
 use Rattle.bspl_types.specs.declared.value.Value.{Value}
 use Rattle.bspl_types.specs.History.{instance_of}
+use Rattle.circuit_clauses.specs.Condition.{Condition}
 use Rattle.clause_core.specs.declared.formula.Formula.{Formula}
 use Rattle.clause_core.specs.Assignment.{valuation}
 use Rattle.clause_core.specs.Clause.{Satisfies, SatisfiesAll}
@@ -16,7 +17,9 @@ use Rattle.clause_encoding.specs.Formula.{plain_variables}
 use Rattle.clause_encoding.specs.Laws.{WrittenIsSatisfied}
 use Rattle.enactment_model.specs.Laws.{PrefixIsLegalRun}
 use Rattle.enactment_model.specs.Legal.{IsLegalRun}
-use Rattle.question_formula.specs.Formula.{IsQuestionFormula, question_clauses}
+use Rattle.order_axioms.specs.declared.ordered_formula.OrderedFormula.{OrderedFormula}
+use Rattle.order_axioms.specs.Formula.{whole}
+use Rattle.question_formula.specs.Formula.{IsFormulaOfCondition, IsQuestionFormula, question_clauses, question_condition}
 use Rattle.question_formula.specs.Laws.{AnswersYes, ImpossibleWithoutModel, MeetingModelExtends, ModelMeetsCondition, ModelRunAnswersYes}
 use Rattle.question_formula.specs.Size.{FitsLog}
 use Rattle.questions.specs.declared.question.Question.{Question}
@@ -84,6 +87,12 @@ cut_shown prefix under extends x y vars q assignment whole key found moment same
 -- what satisfies the clauses of a question satisfies those that all questions share
 shared_part : (x : Expanded) (q : Question) (v : ℕ → Bool) → SatisfiesAll v (question_clauses x q) → SatisfiesAll v (shared_clauses x (plain_variables x))
 shared_part x q v satisfied = all_prefix (Satisfies v) (shared_clauses x (plain_variables x)) _ satisfied
+
+-- what is lent of the formula of the condition is the formula of the question, by other names of the protocol
+pub formula_lent : (x y z : Expanded) (q : Question) (c : Condition) (f lent : OrderedFormula) → y ≡ x → x ≡ z → c ≡ question_condition z q → IsFormulaOfCondition y c (whole f) → lent ≡ f → IsQuestionFormula x q (whole lent)
+formula_lent x y z q c f lent same seen is put from =
+    let of = subst (λ (protocol : Expanded). IsFormulaOfCondition protocol c (whole f)) same put in
+    subst (λ (g : OrderedFormula). IsQuestionFormula x q (whole g)) (sym from) (of q (is ∙ ap (λ (protocol : Expanded). question_condition protocol q) (sym seen)))
 
 module _ (x : Expanded) (q : Question) (f : Formula) (budget : ℕ) (is : IsQuestionFormula x q f) where
   -- a refutation

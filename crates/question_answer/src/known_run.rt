@@ -1,6 +1,7 @@
-ghost use Rattle.std.specs.Prelude.{length, All, Contains, IfOk, MatchOption};
+ghost use Rattle.std.specs.Prelude.{◌≡◌, length, All, Contains, IfOk, MatchOption};
 ghost use Rattle.circuit_clauses.specs.Condition.{IsOver, Meets, condition_of};
 ghost use Rattle.clause_core.specs.Assignment.{valuation};
+ghost use Rattle.question_formula.specs.Formula.{question_condition};
 ghost use Rattle.questions.specs.Subject.{IsAbout};
 ghost use Rattle.question_answer.specs.Answer.{IsShownPossible};
 ghost use Rattle.question_answer.specs.inner.Models.{IsSharedModel, MeetsQuestion};
@@ -9,9 +10,8 @@ use super::answering_run::answering_run;
 use bspl_types::{Admitted, Run};
 use circuit_clauses::{Circuit, is_met};
 use clause_core::Assignment;
-use clause_encoding::plain_variables;
 use list_base::NoMemory;
-use question_formula::{condition_variables_exist, question_circuit};
+use question_formula::condition_variables_exist;
 use questions::Question;
 use std::alloc::Global;
 
@@ -21,8 +21,10 @@ pub(crate) fn known_run(
     a: &Admitted,
     models: &[Assignment],
     q: &Question,
+    condition: &Circuit,
 ) -> Result<Option<Run>, NoMemory>
     requires about { IsAbout a.now q.now }
+    requires condition { condition_of condition.now ≡ question_condition a.now q.now }
     requires models { All (IsSharedModel a.now) models.now }
     ensures { IfOk result (λ found. MatchOption found
         (All (λ model. ¬ MeetsQuestion a.now q.now model) models.now)
@@ -30,9 +32,7 @@ pub(crate) fn known_run(
 {
     // law: the variables of the condition are among those that all questions share
     condition_variables_exist();
-    let x = a.expanded();
-    let condition = question_circuit(alloc, x, plain_variables(x), q)?;
-    match first_met(models, &condition) {
+    match first_met(models, condition) {
         Some(model) => Ok(Some(answering_run(alloc, a, q, model)?)),
         None => Ok(None),
     }

@@ -2,10 +2,14 @@ use super::answer::Answer;
 use super::answering_run::answering_run;
 use super::known_run::known_run;
 use bspl_types::Admitted;
+use circuit_clauses::Circuit;
 use clause_core::Assignment;
-use clause_encoding::written_is_satisfied;
+use clause_encoding::{plain_variables, written_is_satisfied};
 use list_base::{NoMemory, Seq};
-use question_formula::{QuestionFormulas, impossible_without_model, model_meets_condition};
+use question_formula::{
+    QuestionFormulas, condition_variables_exist, impossible_without_model, model_meets_condition,
+    question_circuit,
+};
 use questions::Question;
 use sat_solver::Outcome;
 use std::alloc::Global;
@@ -33,11 +37,13 @@ impl<'a> Model for QuestionSearch<'a> {
 
     ghost view = { λ s. s.protocol.now };
 
-    ghost invariant = { λ s. IsSearchOf s.protocol.now s.formulas s.models };
+    ghost invariant = { λ s. IsSearchOf s.protocol.now s.formulas.protocol s.models };
 }
 
 impl<'a> QuestionSearch<'a> {
     ghost use Rattle.std.specs.Prelude.{◌≡◌, ◌≤◌, IfOk};
+    ghost use Rattle.circuit_clauses.specs.Condition.{condition_of};
+    ghost use Rattle.question_formula.specs.Formula.{question_condition};
     ghost use Rattle.questions.specs.Subject.{IsAbout};
     ghost use Rattle.question_answer.specs.Answer.{HasAnswerLogInRange, HasEvidence};
     ghost use Rattle.question_answer.specs.Answer.{HasFittingEvents};
@@ -73,15 +79,24 @@ impl<'a> QuestionSearch<'a> {
         ensures fits { IfOk result (HasFittingEvents self.old) }
         ensures same { self.new ≡ self.old }
     {
-        match known_run(alloc, self.protocol, self.models.as_slice(), q)? {
+        let x = self.protocol.expanded();
+        let condition = question_circuit(alloc, x, plain_variables(x), q)?;
+        match known_run(alloc, self.protocol, self.models.as_slice(), q, &condition)? {
             Some(run) => Ok(Answer::Possible(run)),
-            None => self.search(alloc, q, conflicts),
+            None => self.search(alloc, q, &condition, conflicts),
         }
     }
 
-    /// Decides it by a search, and keeps the model that it may find.
-    fn search(&mut self, alloc: Global, q: &Question, conflicts: u32) -> Result<Answer, NoMemory>
+    /// Decides it by a search under its condition, and keeps the model that it may find.
+    fn search(
+        &mut self,
+        alloc: Global,
+        q: &Question,
+        condition: &Circuit,
+        conflicts: u32,
+    ) -> Result<Answer, NoMemory>
         requires about { IsAbout self.old q.now }
+        requires condition { condition_of condition.now ≡ question_condition self.old q.now }
         requires some { 1 ≤ conflicts }
         requires few { conflicts ≤ 1000000 }
         ensures right { IfOk result (HasEvidence self.old q.now conflicts) }
@@ -89,6 +104,8 @@ impl<'a> QuestionSearch<'a> {
         ensures fits { IfOk result (HasFittingEvents self.old) }
         ensures same { self.new ≡ self.old }
     {
+        // law: the variables of the condition are among those that all questions share
+        condition_variables_exist();
         // law: a formula without a model says that no legal run gives the answer yes
         impossible_without_model();
         // laws: a model satisfies what is written, and so meets the condition
@@ -96,8 +113,8 @@ impl<'a> QuestionSearch<'a> {
         model_meets_condition();
         // law: the numbers of a log over few clauses and variables are in range
         numbers_in_range();
-        let formula = self.formulas.with(alloc, q)?;
-        match search_model(alloc, &formula, conflicts)? {
+        self.formulas.put(alloc, condition)?;
+        match search_model(alloc, self.formulas.formula(), conflicts)? {
             Outcome::Sat(assignment) => {
                 let run = answering_run(alloc, self.protocol, q, &assignment)?;
                 self.keep(assignment)?;

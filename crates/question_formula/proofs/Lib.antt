@@ -3,6 +3,7 @@ pub mod CircuitLemmas
 pub mod VariableLemmas
 pub mod OverLemmas
 pub mod FormulaLemmas
+pub mod OwnLemmas
 pub mod ListedLemmas
 pub mod KindLemmas
 pub mod HappeningLemmas

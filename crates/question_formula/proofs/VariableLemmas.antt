@@ -1,11 +1,10 @@
 -- The variables of a question's clauses are among those of its formula.
-use Rattle.std.proofs.Common.{◌≡◌, ℕ, ◌+◌, ◌<◌, ◌≤◌, List, [], ◌∷◌, ◌++◌, sym, subst, arith, Contains}
+use Rattle.std.proofs.Common.{◌≡◌, ℕ, ◌+◌, ◌<◌, ◌≤◌, List, [], ◌∷◌, ◌++◌, ap, sym, ◌∙◌, subst, arith, Contains}
 use Rattle.std.specs.List.{All}
 use Rattle.std.proofs.lemmas.List.Elements.{All-append, All-cons, All-contains, All-contains_itself, All-head, All-nil, All-tail, All-weaker}
 use Rattle.circuit_clauses.specs.Asserted.{asserted, asserted_count, part_clauses, part_count, part_lits}
 use Rattle.circuit_clauses.specs.Condition.{Condition, Literal, Both, Either, Always, Never, IsBelow, IsOver}
 use Rattle.circuit_clauses.specs.Laws.{VariablesAreFurther}
-use Rattle.clause_core.specs.declared.formula.Formula.{Formula}
 use Rattle.clause_core.specs.declared.literal.Lit.{Lit}
 use Rattle.clause_core.specs.Clause.{IsClauseOf, VariablesExist}
 use Rattle.clause_core.specs.Literal.{negated, positive}
@@ -117,11 +116,10 @@ up_to_later n m clauses later =
     All-weaker (VariablesExist n) (VariablesExist m)
     (λ clause. All-weaker (LitIsUpTo n) (LitIsUpTo m) (λ l is. let up_to = is.1 in (is.0, omega (arith, later, up_to))) clause) clauses
 
--- so have clauses to which those of a condition are appended
-pub appended_exist : VariablesAreFurther → (old : Formula) (start new : List (List Lit)) (c : Condition) (vars : ℕ) → start ≡ old.clauses → vars ≡ old.vars + asserted_count c → IsOver old.vars c → AppendsClauses start new (asserted (old.vars + 1) [] c) → All (VariablesExist vars) new
-appended_exist further old start new c vars same are over appends =
-    let all = old.vars + asserted_count c in
-    let before = subst (λ (clauses : List (List Lit)). All (VariablesExist all) clauses) (sym same) (up_to_later old.vars all old.clauses (omega arith) old.variables_exist) in
-    let added = clauses_up_to all (asserted (old.vars + 1) [] c) appends.added appends.are (asserted_up_to further old.vars c over) in
-    subst (λ (n : ℕ). All (VariablesExist n) new) (sym are)
-    (subst (λ (clauses : List (List Lit)). All (VariablesExist all) clauses) (sym appends.follows) (All-append (VariablesExist all) start appends.added before added))
+-- so have the clauses that a condition is met
+pub asserted_exist : VariablesAreFurther → (n : ℕ) (start new : List (List Lit)) (c : Condition) (vars : ℕ) → start ≡ [] → vars ≡ n + asserted_count c → IsOver n c → AppendsClauses start new (asserted (n + 1) [] c) → All (VariablesExist vars) new
+asserted_exist further n start new c vars none are over appends =
+    let same : new ≡ appends.added = appends.follows ∙ ap (λ (clauses : List (List Lit)). clauses ++ appends.added) none in
+    subst (λ (m : ℕ). All (VariablesExist m) new) (sym are)
+    (subst (λ (clauses : List (List Lit)). All (VariablesExist (n + asserted_count c)) clauses) (sym same)
+    (clauses_up_to (n + asserted_count c) (asserted (n + 1) [] c) appends.added appends.are (asserted_up_to further n c over)))

@@ -8,6 +8,7 @@ use Rattle.clause_core.specs.Written.{Written, AreClausesOf}
 use Rattle.clause_encoding.specs.Families.{shared_clauses}
 use Rattle.clause_encoding.specs.Formula.{plain_variables}
 use Rattle.clause_encoding.specs.Variables.{variable_count}
+use Rattle.order_axioms.specs.declared.ordered_formula.OrderedFormula.{OrderedFormula}
 use Rattle.questions.specs.declared.question.Question.{Question}
 use Rattle.question_formula.specs.Conditions.{asked}
 
@@ -30,3 +31,13 @@ question_variable_count x q =
 pub record IsQuestionFormula (x : Expanded) (q : Question) (f : Formula) : Type 0 where
   pub vars : f.vars ≡ question_variable_count x q
   pub clauses : AreClausesOf (question_clauses x q) f.clauses
+
+-- the formula is that of each question that has this condition
+abbrev pub IsFormulaOfCondition : Expanded → Condition → Formula → Type 0
+IsFormulaOfCondition x c f =
+    (q : Question) → c ≡ question_condition x q → IsQuestionFormula x q f
+
+-- a protocol, and a formula for it
+pub record ProtocolFormula : Type 0 where
+  pub protocol : Expanded
+  pub formula : OrderedFormula

@@ -1,39 +1,35 @@
 ghost use Rattle.std.specs.Prelude.{◌≡◌, ◌+◌, ◌≤◌, IfOk, IfSome};
 ghost use Rattle.circuit_clauses.specs.Asserted.{asserted_count};
 ghost use Rattle.circuit_clauses.specs.Condition.{IsOver, condition_of};
-ghost use Rattle.question_formula.specs.inner.Shared.{AssertsToo};
+ghost use Rattle.question_formula.specs.inner.Shared.{IsAsserted};
 
 use circuit_clauses::{Circuit, further_variables, push_asserted, variables_are_further};
 use clause_core::Formula;
-use list_base::{NoMemory, TryClone};
+use list_base::{NoMemory, Seq};
 use std::alloc::Global;
 
-/// More clauses than these, beside those of the order, count as memory run out.
+/// More clauses than these count as memory run out.
 const MOST_CLAUSES: usize = 90_000_000;
 
 /// So do more variables.
 const MOST_VARIABLES: u32 = 2_000_000_000;
 
-/// The formula with the clauses that the condition is met.
-pub(crate) fn with_asserted(
-    alloc: Global,
-    shared: &Formula,
-    c: &Circuit,
-) -> Result<Formula, NoMemory>
-    requires { IsOver shared.now.vars (condition_of c.now) }
-    ensures { IfOk result (λ f. AssertsToo shared.now f (condition_of c.now)) }
+/// The clauses that a condition over so many variables is met, and no more.
+pub(crate) fn asserted_formula(alloc: Global, vars: u32, c: &Circuit) -> Result<Formula, NoMemory>
+    requires { IsOver vars (condition_of c.now) }
+    ensures { IfOk result (IsAsserted vars (condition_of c.now)) }
 {
     // law: the clauses have no variables but those of the condition and the further ones
     variables_are_further();
-    let Some(vars) = variables_with(shared.vars, c) else {
+    let Some(all) = variables_with(vars, c) else {
         return Err(NoMemory);
     };
-    let mut clauses = shared.clauses.try_clone()?;
-    push_asserted(&mut clauses, alloc, shared.vars + 1, &[], c)?;
+    let mut clauses = Seq::new(alloc);
+    push_asserted(&mut clauses, alloc, vars + 1, &[], c)?;
     if clauses.len() > MOST_CLAUSES {
         return Err(NoMemory);
     }
-    Ok(Formula { vars, clauses })
+    Ok(Formula { vars: all, clauses })
 }
 
 /// How many variables there are with the further ones of the condition, if they are not too many.

@@ -8,6 +8,7 @@ mod formula;
 mod joined;
 mod kinds;
 mod laws;
+mod own_clauses;
 mod plain;
 mod precedence;
 mod rest;
