@@ -11,6 +11,7 @@ use Rattle.question_formula.specs.Formula.{question_condition}
 use Rattle.question_formula.specs.Laws.{ConditionVariablesExist}
 use Rattle.questions.specs.declared.question.Question.{Question}
 use Rattle.questions.specs.Subject.{IsAbout}
+use Rattle.question_answer.specs.declared.question_search.TheConstants.{MOST_MODELS}
 use Rattle.question_answer.specs.inner.Models.{IsSearchOf, IsSharedModel}
 
 -- the condition of the question, by other names of the protocol and the variables
@@ -34,7 +35,7 @@ models_have exist x q c models about is all =
     (λ model shared. over_later (variable_count (plain_variables x)) (length model) c shared.has_all over) models all
 
 -- with one model more they are those of a search
-pub kept : (x formulas : Expanded) (models : List (List Bool)) (model : List Bool) → IsSearchOf x formulas models → IsSharedModel x model → length models < 64 → IsSearchOf x formulas (models ++ model ∷ [])
+pub kept : (x formulas : Expanded) (models : List (List Bool)) (model : List Bool) → IsSearchOf x formulas models → IsSharedModel x model → length models < MOST_MODELS → IsSearchOf x formulas (models ++ model ∷ [])
 kept x formulas models model search_of shared room = record {
   same = search_of.same;
   few = omega (arith, room, length-append models (model ∷ []));

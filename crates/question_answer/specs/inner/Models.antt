@@ -10,6 +10,7 @@ use Rattle.clause_encoding.specs.Formula.{plain_variables}
 use Rattle.clause_encoding.specs.Variables.{variable_count}
 use Rattle.question_formula.specs.Formula.{question_condition}
 use Rattle.questions.specs.declared.question.Question.{Question}
+use Rattle.question_answer.specs.declared.question_search.TheConstants.{MOST_MODELS}
 
 -- the assignment satisfies the clauses that all questions share, and has all of their variables
 pub record IsSharedModel (x : Expanded) (assignment : List Bool) : Type 0 where
@@ -23,5 +24,5 @@ MeetsQuestion x q assignment = Meets (valuation assignment) (question_condition 
 -- a search has formulas of its protocol, and keeps few models
 pub record IsSearchOf (x formulas : Expanded) (models : List (List Bool)) : Type 0 where
   pub same : formulas ≡ x
-  pub few : length models ≤ 64
+  pub few : length models ≤ MOST_MODELS
   pub each : All (IsSharedModel x) models

@@ -9,6 +9,6 @@ pub first_met-requires : goal.first_met-requires
 first_met-requires c =
     models_have c.condition_variables_exist.ensures c.args.a.now c.args.q.now (condition_of c.args.condition.now) c.args.models.now c.requires.about c.requires.condition c.requires.models
 
-pub returns : goal.returns
-returns c =
+pub returns-in-None : goal.returns-in-None
+returns-in-None c =
     subst (λ (d : Condition). All (λ model. ¬ Meets (valuation model) d) c.args.models.now) c.requires.condition c.in-None.ensures

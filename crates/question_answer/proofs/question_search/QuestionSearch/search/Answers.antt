@@ -60,8 +60,8 @@ returns-in-Unsat-clause-numbers c =
     refutation_in_range x q f c.args.conflicts is c.numbers_in_range.ensures (subst (λ (g : OrderedFormula). FitsLog (whole g)) (sym c.formula.ensures) c.in_ok-put.ensures.fits) c.requires.few c.in-Unsat.log
     (rw c.in-Unsat.is at c.in_ok-assignment.ensures)
 
-pub returns-clause-right : goal.returns-clause-right
-returns-clause-right c =
+pub returns-in-Budget-clause-right : goal.returns-in-Budget-clause-right
+returns-in-Budget-clause-right c =
     let x = c.self.inside.protocol.now in
     let q = c.args.q.now in
     let f = whole c.formula.result.now in
@@ -70,8 +70,8 @@ returns-clause-right c =
     let is = subst (λ (y : Expanded). IsQuestionFormula y q f) c.self.view_is is_inside in
     left_undecided z q f c.args.conflicts is c.in-Budget.log (rw c.in-Budget.is at c.in_ok-assignment.ensures)
 
-pub returns-clause-numbers : goal.returns-clause-numbers
-returns-clause-numbers c =
+pub returns-in-Budget-clause-numbers : goal.returns-in-Budget-clause-numbers
+returns-in-Budget-clause-numbers c =
     let x = c.self.inside.protocol.now in
     let q = c.args.q.now in
     let f = whole c.formula.result.now in
