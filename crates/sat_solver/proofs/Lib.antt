@@ -1,4 +1,5 @@
 mod CellLemmas
+mod CompletionLemmas
 mod ConflictLemmas
 mod CurrentLemmas
 mod EntryLemmas

@@ -1,6 +1,7 @@
 pub mod Choice
 pub mod Queue
 pub mod Search
+pub mod Completion
 pub mod Progress
 pub mod LiteralSet
 pub mod Analysis

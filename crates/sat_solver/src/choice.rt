@@ -1,21 +1,18 @@
-ghost use Rattle.std.specs.Prelude.{◌≡◌, ◌↔◌, IsTrue, IfSome, IfNone};
+ghost use Rattle.std.specs.Prelude.{◌↔◌, IsTrue, IfSome, IfNone};
 ghost use Rattle.sat_solver.specs.inner.Choice.{IsFree, AllSet, AreSetUpTo};
 
-use super::decision_rule::DecisionRule;
 use clause_core::Lit;
 use order_propagator::OrderTrail;
 
-/// The literal to decide: the one that the rule proposes, if it is unset, and else the negation of
-/// the lowest unset variable. The variables up to `lowest` are set until the next backjump.
-pub fn choose(trail: &OrderTrail, rule: &mut DecisionRule, lowest: &mut u32) -> Option<Lit>
-    requires rule { rule.old.vars ≡ trail.now.vars }
+/// The literal to decide: the one that is proposed, if it is unset, and else the negation of the
+/// lowest unset variable. The variables up to `lowest` are set until the next backjump.
+pub fn choose(trail: &OrderTrail, proposed: Option<Lit>, lowest: &mut u32) -> Option<Lit>
     requires passed { AreSetUpTo trail.now lowest.old }
     ensures free { IfSome result (IsFree trail.now) }
     ensures all_set { IfNone result (AllSet trail.now) }
     ensures passed { AreSetUpTo trail.now lowest.new }
-    ensures rule { rule.new.vars ≡ rule.old.vars }
 {
-    if let Some(lit) = rule.propose(trail) {
+    if let Some(lit) = proposed {
         if is_free(trail, lit) {
             return Some(lit);
         }

@@ -1,4 +1,4 @@
-ghost use Rattle.std.specs.Prelude.{◌≡◌, ◌^◌, ◌<◌, length, IfOk};
+ghost use Rattle.std.specs.Prelude.{◌≡◌, ◌^◌, ◌<◌, length, IfOk, IfSome};
 ghost use Rattle.order_axioms.specs.Formula.{whole};
 ghost use Rattle.sat_trail.specs.Trail.{IsStart, IsTrail};
 
@@ -59,6 +59,16 @@ impl<'f> GivenFormula<'f> {
         match &self.source {
             FormulaSource::Plain(f) => f.vars,
             FormulaSource::Ordered(f) => f.stored.vars,
+        }
+    }
+
+    /// The formula and its order, if it has one.
+    pub fn with_order(&self) -> Option<&'f OrderedFormula>
+        ensures { IfSome result (λ f. self.now ≡ whole f.now) }
+    {
+        match &self.source {
+            FormulaSource::Plain(_) => None,
+            FormulaSource::Ordered(f) => Some(f),
         }
     }
 

@@ -3,11 +3,13 @@
 
 mod analysis;
 mod choice;
+mod completion;
 mod conflict;
 mod decision_rule;
 mod false_lits;
 mod given_formula;
 mod implication;
+mod kind_places;
 mod learner;
 mod lit_set;
 mod model;

@@ -8,6 +8,7 @@ use super::given_formula::GivenFormula;
 use super::learner::Learner;
 use super::model::model;
 use super::outcome::Outcome;
+use super::search::SearchResult;
 use super::search_stats::SearchStats;
 use clause_core::{Assignment, Formula};
 use list_base::{NoMemory, Seq};
@@ -108,8 +109,11 @@ fn search_within(
     new_clause_appends();
     let mut learned = 0;
     'learning: loop {
-        let Some(number) = learner.search(stats)? else {
-            return Ok(Ending::Model(model(alloc, &learner.trail)?));
+        let found = learner.search(alloc, f, stats)?;
+        let number = match found {
+            SearchResult::Falsified(number) => number,
+            SearchResult::Completed(assignment) => return Ok(Ending::Model(assignment)),
+            SearchResult::Finished => return Ok(Ending::Model(model(alloc, &learner.trail)?)),
         };
         if learned == budget {
             return Ok(Ending::Spent);

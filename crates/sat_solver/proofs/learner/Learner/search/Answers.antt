@@ -5,10 +5,12 @@ use Rattle.sat_solver.specs.inner.Search.{KeepsClauses}
 use Rattle.sat_solver.proofs.GrowthLemmas.{AreSetUpTo-more}
 use Rattle.sat_solver.proofs.learner.Learner.search.Goals as goal
 
-pub choose-requires-clause-passed : goal.choose-requires-clause-passed
-choose-requires-clause-passed c =
-    AreSetUpTo-more c.deciding.self.trail c.propagate.new.self c.propagate.ensures.grows.added c.deciding.lowest
-    (ap (λ (s : State). s.entries) c.propagate.ensures.grows.grows) c.deciding.invariant.1
+pub choose-requires : goal.choose-requires
+choose-requires c = record {
+  passed =
+      AreSetUpTo-more c.deciding.self.trail c.propagate.new.self c.propagate.ensures.grows.added c.deciding.lowest
+      (ap (λ (s : State). s.entries) c.propagate.ensures.grows.grows) c.deciding.invariant.1;
+}
 
 pub deciding-preserved : goal.deciding-preserved
 deciding-preserved c =
