@@ -3,9 +3,9 @@ ghost use Rattle.std.specs.Prelude.{◌<◌, ◌≤◌, IfSome};
 use order_axioms::Order;
 use order_propagator::OrderTrail;
 
-/// For each kind its place in an order that keeps what the trail knows of two kinds: kind 1 comes as
-/// late as it can, and then kind 2, and so on. So each place has, of the kinds that no kind without
-/// a place is known to precede, the greatest one. No contract says this: whoever takes the places
+/// For each kind its place in an order that keeps what the trail knows of two kinds: kind 1 comes
+/// as late as it can, then kind 2, and so on. So each place has, of the kinds that no kind without a
+/// place is known to precede, the greatest one. No contract says this: whoever takes the places
 /// looks at what they give.
 pub fn late_places(order: Order, trail: &OrderTrail) -> [u32; 129] {
     let before = known_before(order, trail);

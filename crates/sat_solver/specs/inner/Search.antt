@@ -6,7 +6,8 @@ use Rattle.sat_trail.specs.Entry.{values_of}
 use Rattle.sat_trail.specs.State.{State, numbering_of, last_number}
 use Rattle.sat_trail.specs.Trail.{IsTrail}
 use Rattle.sat_solver.specs.declared.search.SearchResult.{SearchResult}
-use Rattle.sat_solver.specs.declared.search.SearchResult.TheVariants.{Completed, Falsified, Finished}
+use Rattle.sat_solver.specs.declared.search.SearchResult.TheVariants.{Completed, Falsified}
+use Rattle.sat_solver.specs.declared.search.SearchResult.TheVariants.{Finished}
 use Rattle.sat_solver.specs.Outcome.{IsModel}
 use Rattle.sat_solver.specs.inner.Choice.{AllSet}
 

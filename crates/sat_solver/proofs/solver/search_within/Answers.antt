@@ -10,8 +10,8 @@ pub returns-in-Finished : goal.returns-in-Finished
 returns-in-Finished c =
     let known = IsLearning-search c.args.f.now c.learning.learner c.search.new.self c.learning.invariant.0 c.in_ok-found.ensures.keeps c.search.ensures.steps in
     record {
-      whole = c.in_ok-model.ensures.whole ∙ known.vars;
-      satisfies = satisfies-formula c.args.f.now c.search.new.self.trail c.search.new.self.steps _ known c.in_ok-model.ensures.satisfies;
+      whole = c.in_ok-model-in-Finished.ensures.whole ∙ known.vars;
+      satisfies = satisfies-formula c.args.f.now c.search.new.self.trail c.search.new.self.steps _ known c.in_ok-model-in-Finished.ensures.satisfies;
     }
 
 pub returns-then-level-eq0 : goal.returns-then-level-eq0
