@@ -1,3 +1,5 @@
 mod CrashLemmas
 mod HalfLemmas
+mod KindLemmas
 mod TextLemmas
+mod ZeroLemmas

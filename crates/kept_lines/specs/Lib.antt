@@ -4,3 +4,7 @@ pub mod CrashImage
 pub mod Passage
 pub mod Refusal
 pub mod Memory
+pub mod FileKind
+pub mod FoundLines
+pub mod FileCalls
+pub mod FileJournal
