@@ -1,3 +1,9 @@
+mod AnswerLemmas
+mod ComingLemmas
 mod CrashLemmas
 mod HalfLemmas
+mod PieceLemmas
+mod RefusalLemmas
+mod RestoreLemmas
+mod StreamLemmas
 mod TextLemmas

@@ -4,3 +4,10 @@ pub mod CrashImage
 pub mod Passage
 pub mod Refusal
 pub mod Memory
+pub mod Answers
+pub mod Flow
+pub mod Stream
+pub mod StreamEnd
+pub mod Restored
+pub mod Replay
+pub mod inner
