@@ -1,5 +1,11 @@
+mod AnswerLemmas
+mod ComingLemmas
 mod CrashLemmas
 mod HalfLemmas
 mod KindLemmas
+mod PieceLemmas
+mod RefusalLemmas
+mod RestoreLemmas
+mod StreamLemmas
 mod TextLemmas
 mod ZeroLemmas

@@ -8,3 +8,10 @@ pub mod FileKind
 pub mod FoundLines
 pub mod FileCalls
 pub mod FileJournal
+pub mod Answers
+pub mod Flow
+pub mod Stream
+pub mod StreamEnd
+pub mod Restored
+pub mod Replay
+pub mod inner

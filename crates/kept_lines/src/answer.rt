@@ -1,4 +1,5 @@
-ghost use Rattle.std.specs.Prelude.{◌≡◌, IsErrOf};
+ghost use Rattle.std.specs.Prelude.{◌≡◌, IsErrOf, OnErr, OnOk};
+ghost use Rattle.std.specs.Io.KnownBytes.{Appends, Keeps};
 ghost use Rattle.bspl_io.specs.Faults.{HasCounted};
 ghost use Rattle.kept_lines.specs.Passage.{KeepsFirst};
 
@@ -44,7 +45,7 @@ impl From<WriteRefusal> for AnswerRefusal {
     }
 }
 
-/// Keeps the lines, and then writes the replies to them.
+/// Keeps the lines, if there are any, and then writes the replies.
 pub fn keep_and_write<J: Journal, W: Sink>(
     journal: &mut J,
     output: &mut W,
@@ -66,7 +67,21 @@ pub fn keep_and_write<J: Journal, W: Sink>(
     ensures write_still { ¬ IsErrOf result AnswerRefusal.WriteFault →
         W.faults output.new ≡ W.faults output.old }
 {
-    journal.keep(lines)?;
+    keep_some(journal, lines)?;
     write_all(output, replies)?;
     Ok(())
+}
+
+/// Keeps the lines. A journal is not called for none.
+fn keep_some<J: Journal>(journal: &mut J, lines: &[u8]) -> Result<(), Trouble>
+    ensures ok { OnOk result (Appends (J.kept journal.old) (J.kept journal.new) lines.now) }
+    ensures err { OnErr result (Keeps (J.kept journal.old) (J.kept journal.new)) }
+    ensures counted { IsErrOf result Trouble.Failed →
+        HasCounted (J.faults journal.old) (J.faults journal.new) }
+    ensures still { ¬ IsErrOf result Trouble.Failed → J.faults journal.new ≡ J.faults journal.old }
+{
+    if lines.is_empty() {
+        return Ok(());
+    }
+    journal.keep(lines)
 }

@@ -1,5 +1,8 @@
 ghost use Rattle.kept_lines.specs.CrashImage.{CrashLeavesLines};
+ghost use Rattle.kept_lines.specs.Replay.{KeepsOrStays, KeptLinesReplay, LinesHaveOneOutcome};
 ghost use Rattle.kept_lines.specs.Text.{LinesJoin};
+
+use super::responder::Responder;
 
 /// A law: of a file of zeros, in which lines were kept and others begun behind them, a crash leaves
 /// a text. It is all that was kept, followed by the first of the begun lines, in order and whole.
@@ -10,4 +13,11 @@ pub fn crash_leaves_lines()
 /// A law: lines behind lines are lines.
 pub fn lines_join()
     ensures { LinesJoin }
+{}
+
+/// A law: what was kept of lines, answered again, is all kept again, and leads to the same state,
+/// if each line is kept or leaves the state as it is; lines have one outcome, if each of them has.
+pub fn kept_lines_replay<A: Responder>()
+    ensures replay { KeepsOrStays A.answers → KeptLinesReplay A.answers }
+    ensures once { LinesHaveOneOutcome A.answers }
 {}
