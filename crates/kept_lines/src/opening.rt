@@ -106,14 +106,9 @@ fn no_regular_file() -> io::Error {
     io::Error::new(ErrorKind::InvalidInput, "not a regular file")
 }
 
-/// Syncs the file and its folder. The system is asked to read the file again from the medium: what
-/// an earlier process failed to sync may still be in the cache, and nowhere else.
+/// Syncs the file and its folder.
 fn settle(rt: &HostRuntime, path: &str, file: &File) -> io::Result<()> {
     file.sync_all()?;
-    let advised = libc::posix_fadvise(file.as_raw_fd(), 0, 0, libc::POSIX_FADV_DONTNEED);
-    if advised != 0 {
-        return Err(io::Error::from_raw_os_error(advised));
-    }
     let mut folder = fs::canonicalize(rt, path)?;
     folder.pop();
     File::open(rt, folder.as_str())?.sync_all()
