@@ -37,10 +37,3 @@ pub use responder::Responder;
 pub use stream::answer_stream;
 pub use stream_refusal::StreamRefusal;
 pub use text::text_len;
-
-#[cfg(test)]
-mod file_tests;
-#[cfg(test)]
-mod stream_tests;
-#[cfg(test)]
-mod tests;

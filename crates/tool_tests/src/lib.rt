@@ -11,7 +11,13 @@ mod call_tests;
 #[cfg(test)]
 mod command_line_tests;
 #[cfg(test)]
+mod crash_image_tests;
+#[cfg(test)]
 mod gates;
+#[cfg(test)]
+mod kept_file_tests;
+#[cfg(test)]
+mod kept_stream_tests;
 #[cfg(test)]
 mod long_line_tests;
 #[cfg(test)]

@@ -1,4 +1,4 @@
-use crate::{Journal, OpenRefusal, open_journal};
+use kept_lines::{Journal, OpenRefusal, open_journal};
 use std::fs::{self, OpenOptions};
 use std::os::unix::fs::FileExt;
 use std::test::Fail;

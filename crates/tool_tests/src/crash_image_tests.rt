@@ -1,4 +1,4 @@
-use crate::{Journal, MemJournal, text_len};
+use kept_lines::{Journal, MemJournal, text_len};
 use std::test::Fail;
 
 /// The begun bytes that reached the disk, the zeros behind them, and the text that a crash leaves.

@@ -1,5 +1,5 @@
-use crate::{MemJournal, Responder, RestoreRefusal, StreamRefusal, answer_stream, restore};
 use bspl_io::{MemSink, MemSource};
+use kept_lines::{MemJournal, Responder, RestoreRefusal, StreamRefusal, answer_stream, restore};
 use list_base::{Bytes, NoMemory, NumberList};
 use std::alloc::Global;
 use std::test::Fail;
