@@ -1,5 +1,5 @@
 -- What users see of a journal in a file: where its text ends, and what was asked of the file.
-use Rattle.std.specs.Prelude.{◌≡◌, ◌⊎◌, ℕ, ◌+◌, max, nat_le, Bool, true, false, if◌then◌else◌, List, length, All, Option, Result, Ok, Err}
+use Rattle.std.specs.Prelude.{◌≡◌, ◌⊎◌, ℕ, ◌+◌, ◌<◌, max, nat_le, Bool, true, false, if◌then◌else◌, List, length, All, Option, Result, Ok, Err}
 use Rattle.bspl_io.specs.declared.sink.Trouble.{Trouble}
 use Rattle.bspl_io.specs.declared.sink.Trouble.TheVariants.{Failed, NoMemory}
 use Rattle.bspl_io.specs.Faults.{count_after}
@@ -68,10 +68,19 @@ pub record IsKeptInFile (old new : FileState) (lines : List ℕ) : Type 0 where
   pub sound : old.broken ≡ false
   pub after : new ≡ with_lines_over_zeros old lines
 
--- nothing was asked of the file, or the zeros behind the room failed
+-- the zeros behind the room would end past the largest offset, or the lines behind the text would
+abbrev pub HasNoOffset : FileState → List ℕ → Type 0
+HasNoOffset s lines =
+    (18446744073709551615 < s.room_end + length s.zeros) ⊎
+    (18446744073709551615 < s.text_end + length lines)
+
+-- nothing is asked of the file: a call failed before, these are no lines, or there is no offset
+abbrev pub IsUnasked : FileState → List ℕ → Type 0
+IsUnasked s lines = (s.broken ≡ true) ⊎ (AreTextLines lines → ⊥) ⊎ HasNoOffset s lines
+
+-- the zeros behind the room failed
 abbrev pub FailsAtRoom : FileState → FileState → Type 0
-FailsAtRoom old new =
-    (new.calls ≡ old.calls) ⊎ FailsToStore old.calls new.calls old.room_end old.zeros
+FailsAtRoom old new = FailsToStore old.calls new.calls old.room_end old.zeros
 
 -- the lines behind the text failed, before or after more zeros
 abbrev pub FailsAtLines : FileState → FileState → List ℕ → Type 0
@@ -79,11 +88,13 @@ FailsAtLines old new lines =
     FailsToStore old.calls new.calls old.text_end lines ⊎
     FailsToStore (with_room old).calls new.calls old.text_end lines
 
--- the text ends where it did, the call that failed was the last one on the file, and each later
--- call fails; after an earlier failure, and for what is no lines, nothing was asked of the file
+-- the text ends where it did, nothing was asked of the file or the call that failed was the last
+-- one on it, and each later call fails; after an earlier failure, and for what is no lines, nothing
+-- was asked
 pub record IsFileFault (old new : FileState) (lines : List ℕ) : Type 0 where
   pub text_stays : new.text_end ≡ old.text_end
-  pub last : FailsAtRoom old new ⊎ FailsAtLines old new lines
+  pub last : (IsUnasked old lines × (new.calls ≡ old.calls)) ⊎
+      (FailsAtRoom old new ⊎ FailsAtLines old new lines)
   pub broken : new.broken ≡ true
   pub counted : new.faults ≡ count_after old.faults
   pub no_lines : (AreTextLines lines → ⊥) → new.calls ≡ old.calls

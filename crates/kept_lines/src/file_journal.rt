@@ -1,7 +1,9 @@
-ghost use Rattle.std.specs.Prelude.{◌≡◌, ◌⊎◌, ◌+◌, All, true, length, IfOk, OnErr, OnOk, IsErrOf};
+ghost use Rattle.std.specs.Prelude.{◌≡◌, ◌⊎◌, ◌+◌, ◌<◌, All, true, length, IfOk, OnErr, OnOk, IsErrOf};
 ghost use Rattle.bspl_io.specs.Faults.{HasCounted};
 ghost use Rattle.kept_lines.specs.FileCalls.{Cut, FailsToStore, noted, stored};
-ghost use Rattle.kept_lines.specs.FileJournal.{AreRoom, FailsAtLines, FailsAtRoom, IsBegunFile, KeepsInFile, with_lines, with_lines_over_zeros, with_room};
+ghost use Rattle.kept_lines.specs.FileJournal.{AreRoom, FailsAtLines, FailsAtRoom, HasNoOffset};
+ghost use Rattle.kept_lines.specs.FileJournal.{IsBegunFile, KeepsInFile};
+ghost use Rattle.kept_lines.specs.FileJournal.{with_lines, with_lines_over_zeros, with_room};
 
 use super::journal::Journal;
 use super::line_file::LineFile;
@@ -86,7 +88,9 @@ impl<F: LineFile> FileJournal<F> {
     /// Writes zeros behind the room, and syncs them if writes are to be synced.
     fn add_room(&mut self) -> Result<(), Failed>
         ensures ok { OnOk result (self.new ≡ with_room self.old) }
-        ensures last { OnErr result (FailsAtRoom self.old self.new) }
+        ensures last { OnErr result
+            (((18446744073709551615 < self.old.room_end + length self.old.zeros) ×
+            (self.new.calls ≡ self.old.calls)) ⊎ FailsAtRoom self.old self.new) }
         ensures text_stays { OnErr result (self.new.text_end ≡ self.old.text_end) }
         ensures faults_stay { OnErr result (self.new.faults ≡ self.old.faults) }
     {
@@ -118,7 +122,8 @@ impl<F: LineFile> FileJournal<F> {
     fn add(&mut self, lines: &[u8]) -> Result<(), Failed>
         ensures ok { OnOk result (self.new ≡ with_lines_over_zeros self.old lines.now) }
         ensures last { OnErr result
-            (FailsAtRoom self.old self.new ⊎ FailsAtLines self.old self.new lines.now) }
+            ((HasNoOffset self.old lines.now × (self.new.calls ≡ self.old.calls)) ⊎
+            (FailsAtRoom self.old self.new ⊎ FailsAtLines self.old self.new lines.now)) }
         ensures text_stays { OnErr result (self.new.text_end ≡ self.old.text_end) }
         ensures faults_stay { OnErr result (self.new.faults ≡ self.old.faults) }
     {

@@ -1,10 +1,11 @@
 use list_base::NoMemory;
 use std::io;
 
-/// Why a file was not opened as a journal. Nothing was written to it, unless it was a new one.
+/// Why a file was not opened as a journal. `open_journal` writes only to a new one; where `begin`
+/// fails, what stands behind the lines may be cut off.
 #[derive(Clone, Copy, Debug)]
 pub enum OpenRefusal {
-    /// The file is no journal with this head, or the head is no text of lines.
+    /// The file is no journal with this head, or the head is empty or no text of lines.
     AnotherJournal,
     /// Another holds the file: another process, or another journal of this one.
     InUse,

@@ -1,4 +1,4 @@
-ghost use Rattle.std.specs.Prelude.{◌≡◌, IfOk, IsErrOf};
+ghost use Rattle.std.specs.Prelude.{◌≡◌, ◌⊎◌, [], IfOk, IsErrOf};
 ghost use Rattle.kept_lines.specs.FileKind.{HasHead};
 ghost use Rattle.kept_lines.specs.Text.{AreTextLines};
 
@@ -21,16 +21,17 @@ const PIECE: usize = 1_048_576;
 ///
 /// The file and its folder are synced before the file is read, so that its name is durable. A new
 /// file, or one in which a crash cut the head short (`FileKind::Unmade`), gets the head, and is
-/// synced again. In no other case is anything written here. After `Failed` a file may have been
-/// made, and hold none or a part of the head.
+/// synced again. In no other case is anything written here. After `Failed` or `NoMemory` a file may
+/// have been made, and hold none or a part of the head.
 ///
 /// Of what is in the file no contract can speak: `file_kind` says what is made of it, and the lines
 /// that are handed out are lines, whatever was read.
 pub fn open_journal(rt: &HostRuntime, path: &str, head: &[u8]) -> Result<OpenedJournal, OpenRefusal>
     ensures head { IfOk result (λ opened. opened.head ≡ head.now) }
-    ensures text { (AreTextLines head.now → ⊥) → IsErrOf result OpenRefusal.AnotherJournal }
+    ensures text { ((AreTextLines head.now → ⊥) ⊎ (head.now ≡ [])) →
+        IsErrOf result OpenRefusal.AnotherJournal }
 {
-    if text_len(head) < head.len() {
+    if head.is_empty() || text_len(head) < head.len() {
         return Err(OpenRefusal::AnotherJournal);
     }
     let file = held_file(rt, path)?;
