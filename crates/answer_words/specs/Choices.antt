@@ -3,11 +3,11 @@ use Rattle.std.specs.Prelude.{◌≡◌, ℕ, ◌<◌, ◌⊎◌, List, [], ◌�
 use Rattle.bspl_parser.specs.Judgement.{IsBadSyntax}
 use Rattle.bspl_parser.specs.Tokens.{IsBadByte}
 use Rattle.text_lines.specs.Fields.{fields_of}
-use Rattle.answer_words.specs.declared.wording.refusals.TheConstants as refusals
+use Rattle.answer_words.specs.declared.wording.details.TheConstants as details
 
 -- the words and signs of the language, and a name in place of all names
 abbrev pub signs : List (List ℕ)
-signs = fields_of refusals.SIGNS.now
+signs = fields_of details.SIGNS.now
 
 -- a byte or a token before the end of the text is refused
 pub record IsRefusedWithin (text : List ℕ) : Type 0 where
@@ -32,4 +32,4 @@ pub data ListsChoices (before : List ℕ) : List (List ℕ) → List ℕ → Typ
 pub record IsChoiceLine (before line : List ℕ) : Type 0 where
   pub listed : List ℕ
   pub choices : ListsChoices before signs listed
-  pub is_line : line ≡ refusals.HERE_MAY_STAND.now ++ listed ++ 10 ∷ []
+  pub is_line : line ≡ details.HERE_MAY_STAND.now ++ listed ++ 10 ∷ []

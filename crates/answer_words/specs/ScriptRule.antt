@@ -1,6 +1,8 @@
 -- What to do about a line of a script, by the word that it begins with.
-use Rattle.std.specs.Prelude.{ℕ, if◌then◌else◌, List, [], ◌∷◌, codes}
+use Rattle.std.specs.Prelude.{ℕ, ◌-◌, nat_eq, if◌then◌else◌, List, [], ◌∷◌, codes, length, take}
+use Rattle.std.specs.List.{ends_with}
 use Rattle.std.specs.Str.{bytes_eq}
+use Rattle.text_lines.specs.Fields.{Field, fields_of}
 use Rattle.answer_words.specs.declared.wording.refusals.TheConstants as refusals
 
 -- the form of the lines that begin with the word, and their rules
@@ -33,7 +35,12 @@ naming_words word =
     then refusals.VALUE_NAMES.now
     else refusals.OTHER_NAMES.now
 
+-- the fields of a line, of which a CR at its end is none
+abbrev pub line_fields : List ℕ → List Field
+line_fields line =
+    fields_of (if ends_with nat_eq line (codes "\r") then take (length line - 1) line else line)
+
 -- the word that a line with these fields begins with
-abbrev pub word_of : List (List ℕ) → List ℕ
+abbrev pub word_of : List Field → Field
 word_of [] = []
 word_of (word ∷ more) = word

@@ -12,7 +12,7 @@ use Rattle.answer_words.specs.declared.uses.Kind.TheVariants.{Parameter, Protoco
 use Rattle.answer_words.specs.declared.uses.Use.{Use as CodeUse}
 use Rattle.answer_words.specs.Nearest.{nearest}
 use Rattle.answer_words.specs.declared.wording.TheConstants as wording
-use Rattle.answer_words.specs.declared.wording.refusals.TheConstants as refusals
+use Rattle.answer_words.specs.declared.wording.details.TheConstants as details
 
 -- what a name is used as, and the name
 pub record NameUse : Type 0 where
@@ -65,16 +65,16 @@ declared_as protocols p Protocol = texts (protocol_words protocols)
 
 -- the word for a use
 abbrev pub kind_word : Kind → List ℕ
-kind_word Role = refusals.ROLE.now
-kind_word Parameter = refusals.PARAMETER.now
-kind_word Protocol = refusals.PROTOCOL.now
+kind_word Role = details.ROLE.now
+kind_word Parameter = details.PARAMETER.now
+kind_word Protocol = details.PROTOCOL.now
 
 -- the line on what a name should be, with the nearest declared one
 abbrev pub near_text : Kind → Option (List ℕ) → List ℕ
 near_text kind None =
-    refusals.NO_NAME.now ++ kind_word kind ++ refusals.NEARLY_THIS_ONE.now
+    details.NO_NAME.now ++ kind_word kind ++ details.NEARLY_THIS_ONE.now
 near_text kind (Some near) =
-    refusals.NEAREST.now ++ kind_word kind ++ refusals.THAT_IS_DECLARED.now ++ near ++
+    details.NEAREST.now ++ kind_word kind ++ details.THAT_IS_DECLARED.now ++ near ++
     wording.FULL_STOP.now
 
 -- the line on a name that is used in a protocol

@@ -3,7 +3,7 @@ ghost use Rattle.answer_words.specs.Choices.{IsChoiceLine, IsRefusedWithin, List
 ghost use Rattle.answer_words.specs.inner.Added.{Adds};
 ghost use Rattle.answer_words.specs.inner.Choice.{IsChoice};
 
-use super::wording::refusals;
+use super::wording::details;
 use bspl_parser::{answers_once, parse};
 use bspl_types::Refusal;
 use list_base::{Bytes, NoMemory};
@@ -14,7 +14,7 @@ use text_lines::first_field;
 pub(crate) fn push_choices(alloc: Global, text: &mut Bytes, before: &[u8]) -> Result<(), NoMemory>
     ensures { OnOk result (Adds (IsChoiceLine before.now) text.old text.new) }
 {
-    text.append(refusals::HERE_MAY_STAND)?;
+    text.append(details::HERE_MAY_STAND)?;
     push_signs(alloc, text, before)?;
     text.push(b'\n')
 }
@@ -23,7 +23,7 @@ pub(crate) fn push_choices(alloc: Global, text: &mut Bytes, before: &[u8]) -> Re
 fn push_signs(alloc: Global, text: &mut Bytes, before: &[u8]) -> Result<(), NoMemory>
     ensures { OnOk result (Adds (ListsChoices before.now signs) text.old text.new) }
 {
-    let mut rest = refusals::SIGNS;
+    let mut rest = details::SIGNS;
     'signs: while let Some((sign, more)) = first_field(rest) {
         push_choice(alloc, text, before, sign)?;
         rest = more;

@@ -1,16 +1,23 @@
 //! Answers in words: what a refusal or a verdict means, where, and what to do about it.
 #![tactic(auto)]
 
+mod arity;
 mod byte_advice;
 mod choices;
+mod detail;
 mod distance;
+mod exclusion;
 mod fault;
 mod laws;
+mod lent_naming;
 mod limit_text;
 mod liveness;
+mod meant;
 mod messages;
 mod names;
+mod namings;
 mod near_names;
+mod part_lines;
 mod place;
 mod producers;
 mod refusal;
@@ -20,6 +27,7 @@ mod script_rule;
 mod sentences;
 mod uses;
 mod verdict_text;
+mod ways;
 mod wording;
 
 pub use laws::{named_events_clash, producers_are_blocked};

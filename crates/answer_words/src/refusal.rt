@@ -1,33 +1,21 @@
-ghost use Rattle.std.specs.Prelude.{◌≡◌, ◌++◌, IfOk, MatchOption, OnOk, drop, take};
+ghost use Rattle.std.specs.Prelude.{◌≡◌, ◌++◌, IfOk, OnOk, drop};
 ghost use Rattle.std.specs.Option.{option_map};
-ghost use Rattle.bspl_parser.specs.declared.document.Document.{Document as SpecDocument};
-ghost use Rattle.bspl_parser.specs.Judgement.{IsText};
-ghost use Rattle.tool_input.specs.Lines.{lines};
-ghost use Rattle.tool_input.specs.Parts.{protocol_text};
-ghost use Rattle.answer_words.specs.inner.Added.{Adds};
 ghost use Rattle.answer_words.specs.Place.{spot_of};
-ghost use Rattle.answer_words.specs.Refusal.{IsDetail, IsOfDocument, IsRefusalText, advice_at};
-ghost use Rattle.answer_words.specs.Refusal.{name_of, number_of, part_text, place_text, sentence};
-ghost use Rattle.answer_words.specs.Nearest.{nearest_line};
+ghost use Rattle.answer_words.specs.Refusal.{IsRefusalText, advice_at, place_text, sentence};
+ghost use Rattle.answer_words.specs.RefusedPlace.{name_of, number_of};
 ghost use Rattle.answer_words.specs.Sentences.{wrong};
-ghost use Rattle.answer_words.specs.Uses.{asked_text, unknown_text};
 
 use super::byte_advice::byte_advice;
-use super::choices::push_choices;
+use super::detail::push_detail;
 use super::fault::{Fault, fault_of};
-use super::near_names::nearest_line;
 use super::place::{Place, push_place};
 use super::refused_place::{field_place, name_of, number_of, shown_line};
 use super::script_rule::{names_of, rule_of, word_of};
 use super::sentences::{line_advice, push_wrong};
-use super::uses::{push_asked, push_unknown};
-use super::wording::refusals::{self, PART_MARK};
 use super::wording::{self, WHAT_IS_WRONG, WHAT_TO_DO};
-use bspl_parser::{Document, answers_once, parse};
-use bspl_types::Refusal;
 use list_base::{Bytes, NoMemory};
 use std::alloc::Global;
-use tool_input::{Field, Rejection, protocol_text, rejection_line};
+use tool_input::{Field, Rejection, rejection_line};
 
 /// The words of the refusal of the input.
 pub fn refusal_text(alloc: Global, input: &[u8], rejection: &Rejection) -> Result<Bytes, NoMemory>
@@ -40,7 +28,7 @@ pub fn refusal_text(alloc: Global, input: &[u8], rejection: &Rejection) -> Resul
     let place = field_place(input, rejection.code, &rejection.first);
     push_place_of(&mut text, &place)?;
     push_what_is_wrong(&mut text, fault, rejection)?;
-    push_detail(alloc, &mut text, input, fault, &rejection.first)?;
+    push_detail(alloc, &mut text, input, fault, rejection)?;
     push_what_to_do(&mut text, input, fault, &rejection.first, &place)?;
     Ok(text)
 }
@@ -72,98 +60,6 @@ fn push_what_is_wrong(text: &mut Bytes, fault: Fault, rejection: &Rejection) -> 
     )?;
     text.append(wording::FULL_STOP)?;
     Ok(())
-}
-
-/// Appends what else is said of the fault.
-fn push_detail(
-    alloc: Global,
-    text: &mut Bytes,
-    input: &[u8],
-    fault: Fault,
-    first: &Option<Field>,
-) -> Result<(), NoMemory>
-    ensures { OnOk result (Adds (IsDetail input.now fault first.now) text.old text.new) }
-{
-    let n = number_of(first);
-    match fault {
-        Fault::BadToken => push_choices(alloc, text, before(input, n)),
-        Fault::UnknownName => push_name(alloc, text, protocol_text(input), n),
-        Fault::NoProtocol => push_protocol(alloc, text, protocol_text(input), name_of(first)),
-        Fault::NoPart => push_part(alloc, text, input, name_of(first)),
-        _ => Ok(()),
-    }
-}
-
-/// The bytes before the offset.
-fn before(input: &[u8], offset: u64) -> &[u8]
-    ensures { result.now ≡ take offset input.now }
-{
-    &input[..offset.min(input.len() as u64) as usize]
-}
-
-/// The bytes from the offset on.
-fn from(input: &[u8], offset: u64) -> &[u8]
-    ensures { result.now ≡ drop offset input.now }
-{
-    &input[offset.min(input.len() as u64) as usize..]
-}
-
-/// Appends the line on the name at the offset.
-fn push_name(alloc: Global, text: &mut Bytes, spelled: &[u8], offset: u64) -> Result<(), NoMemory>
-    ensures { OnOk result (Adds (IsOfDocument spelled.now
-        (λ d. unknown_text d.protocols offset d.protocols)) text.old text.new) }
-{
-    match document_of(alloc, spelled)? {
-        Some(document) => push_unknown(alloc, text, &document, offset),
-        None => Ok(()),
-    }
-}
-
-/// Appends the line on the protocol that is asked for.
-fn push_protocol(
-    alloc: Global,
-    text: &mut Bytes,
-    spelled: &[u8],
-    name: &[u8],
-) -> Result<(), NoMemory>
-    ensures { OnOk result
-        (Adds (IsOfDocument spelled.now (asked_text name.now)) text.old text.new) }
-{
-    match document_of(alloc, spelled)? {
-        Some(document) => push_asked(alloc, text, &document, name),
-        None => Ok(()),
-    }
-}
-
-/// The document that the text spells, if it spells one.
-fn document_of(alloc: Global, text: &[u8]) -> Result<Option<Document<'_>>, NoMemory>
-    ensures { IfOk result (λ document. MatchOption document
-        ((d : SpecDocument) → ¬ IsText text.now d) (IsText text.now)) }
-{
-    // law: a text that is refused is no document
-    answers_once();
-    match parse(alloc, text) {
-        Ok(document) => Ok(Some(document)),
-        Err(Refusal::Byte { .. }) => Ok(None),
-        Err(Refusal::Syntax { .. }) => Ok(None),
-        Err(_) => Err(NoMemory),
-    }
-}
-
-/// Appends the line that is nearest to the part line.
-fn push_part(alloc: Global, text: &mut Bytes, input: &[u8], part: &[u8]) -> Result<(), NoMemory>
-    ensures { OnOk result (text.new ≡
-        text.old ++ part_text (nearest_line (PART_MARK.now ++ part.now) (lines input.now))) }
-{
-    let mut wanted = Bytes::from_slice(alloc, PART_MARK)?;
-    wanted.append(part)?;
-    match nearest_line(wanted.as_slice(), input) {
-        Some(place) => {
-            text.append(refusals::NEAREST_LINE)?;
-            push_place(text, &place)
-        }
-        None => text.append(refusals::NO_LINE),
-    }
 }
 
 /// Appends the sentence on what to do.
@@ -200,4 +96,11 @@ fn advice_at(
         Fault::ScriptName => names_of(word_of(shown_line(place))),
         _ => line_advice(fault, number_of(first)),
     }
+}
+
+/// The bytes from the offset on.
+fn from(input: &[u8], offset: u64) -> &[u8]
+    ensures { result.now ≡ drop offset input.now }
+{
+    &input[offset.min(input.len() as u64) as usize..]
 }

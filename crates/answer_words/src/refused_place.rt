@@ -1,13 +1,12 @@
 ghost use Rattle.std.specs.Prelude.{◌≡◌};
 ghost use Rattle.std.specs.Option.{option_map};
-ghost use Rattle.tool_input.specs.Parts.{first_part};
 ghost use Rattle.answer_words.specs.Place.{spot_of};
-ghost use Rattle.answer_words.specs.Refusal.{field_place, name_of, number_of, part_place};
-ghost use Rattle.answer_words.specs.Refusal.{shown_line};
+ghost use Rattle.answer_words.specs.RefusedPlace.{field_place, name_of, number_of, shown_line};
 
 use super::limit_text::limit_text;
-use super::place::{Place, line_of, place_of};
-use tool_input::{Code, Field, first_part};
+use super::part_lines::part_place;
+use super::place::{Place, place_of};
+use tool_input::{Code, Field};
 
 /// The place of a refusal in the whole input, if it has one.
 pub(crate) fn field_place<'a>(
@@ -25,15 +24,6 @@ pub(crate) fn field_place<'a>(
         Code::E(_) => Some(place_of(input, *n)),
         Code::L(_) | Code::W(_) | Code::S(_) | Code::H(_) => part_place(input, *n),
     }
-}
-
-/// The n-th line of the part, in the whole input.
-fn part_place(input: &[u8], n: u64) -> Option<Place<'_>>
-    ensures { option_map spot_of result ≡ part_place input.now n (first_part input.now) }
-{
-    let (_, part) = first_part(input)?;
-    let begin = place_of(input, (input.len() - part.len()) as u64);
-    Some(line_of(part, begin.line, n))
 }
 
 /// The number of a field, or 0.

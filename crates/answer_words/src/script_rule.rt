@@ -1,15 +1,26 @@
 ghost use Rattle.std.specs.Prelude.{◌≡◌};
 ghost use Rattle.text_lines.specs.Fields.{fields_of};
-ghost use Rattle.answer_words.specs.ScriptRule.{naming_words, line_rule, word_of};
+ghost use Rattle.answer_words.specs.ScriptRule.{line_fields, naming_words, line_rule, word_of};
 
 use super::wording::refusals;
 use text_lines::first_field;
 
+/// The line without a CR at its end, which is no byte of its last field.
+pub(crate) fn without_return(line: &[u8]) -> &[u8]
+    ensures { fields_of result.now ≡ line_fields line.now }
+{
+    if line.ends_with(b"\r") {
+        &line[..line.len() - 1]
+    } else {
+        line
+    }
+}
+
 /// The word that the line begins with.
 pub(crate) fn word_of(line: &[u8]) -> &[u8]
-    ensures { result.now ≡ word_of (fields_of line.now) }
+    ensures { result.now ≡ word_of (line_fields line.now) }
 {
-    match first_field(line) {
+    match first_field(without_return(line)) {
         Some((word, _)) => word,
         None => b"",
     }

@@ -7,7 +7,7 @@ ghost use Rattle.answer_words.specs.Uses.{use_text, word_at};
 use super::names::{declared_as, protocol_names};
 use super::near_names::nearest;
 use super::sentences::push_around;
-use super::wording::{self, refusals};
+use super::wording::{self, details};
 use bspl_parser::{Declaration, Document, Formal, Item, Word};
 use list_base::{Bytes, NoMemory};
 use std::alloc::Global;
@@ -165,16 +165,16 @@ fn push_near(text: &mut Bytes, kind: Kind, near: Option<&[u8]>) -> Result<(), No
         Some(near) => {
             push_around(
                 text,
-                refusals::NEAREST,
+                details::NEAREST,
                 word,
-                refusals::THAT_IS_DECLARED,
+                details::THAT_IS_DECLARED,
                 near,
                 wording::FULL_STOP,
             )
         }
         None => {
-            let end = refusals::NEARLY_THIS_ONE;
-            push_around(text, refusals::NO_NAME, word, end, b"", b"")
+            let end = details::NEARLY_THIS_ONE;
+            push_around(text, details::NO_NAME, word, end, b"", b"")
         }
     }
 }
@@ -184,8 +184,8 @@ fn kind_word(kind: Kind) -> &'static [u8]
     ensures { result.now ≡ kind_word kind }
 {
     match kind {
-        Kind::Role => refusals::ROLE,
-        Kind::Parameter => refusals::PARAMETER,
-        Kind::Protocol => refusals::PROTOCOL,
+        Kind::Role => details::ROLE,
+        Kind::Parameter => details::PARAMETER,
+        Kind::Protocol => details::PROTOCOL,
     }
 }

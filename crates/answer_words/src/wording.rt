@@ -1,5 +1,6 @@
 //! What a user reads, word for word.
 
+pub(crate) mod details;
 pub(crate) mod refusals;
 pub(crate) mod verdicts;
 

@@ -102,8 +102,8 @@ pub(crate) const LOG_NUMBER: Sentences = (
 pub(crate) const RUN_FORM: Sentences = (
     b"a run has no such line there, or it ends too early",
     b"write `send MESSAGE PARAM=VALUE ..` or `receive ..`, values in the order of the \
-message as `bspl expand` prints it, those of `nil` left out, a text in quotes and a \
-blank in it as `\\20`; at last `end`",
+message as `bspl expand` prints it, those of `nil` left out; a value is a whole number, or a text \
+of 32 bytes at most in quotes, with each blank as `\\20`; at last `end`",
 );
 
 pub(crate) const SCRIPT_FORM: Sentences = (
@@ -118,8 +118,10 @@ pub(crate) const SCRIPT_NAME: Sentences = (
 
 pub(crate) const HISTORY_FORM: Sentences = (
     b"histories have no such line there, or they end too early",
-    b"write `role ROLE`, then what this role sends and receives as in a run, values in the \
-order of the message as `bspl expand` prints it; at last `end`",
+    b"write `role ROLE`, once for the role, and below it what this role sends and receives, as \
+`send MESSAGE PARAM=VALUE ..` or `receive ..`, values in the order of the message as \
+`bspl expand` prints it, those of `nil` left out; a value is a whole number, or a text of 32 bytes \
+at most in quotes, with each blank as `\\20`; at last `end`",
 );
 
 pub(crate) const NO_ROLE: Sentences = (
@@ -210,7 +212,8 @@ pub(crate) const KEYS_RULE: &[u8] =
     b"write `keys N` with N from 1 to 10000, once, and without `key`";
 
 pub(crate) const KEY_RULE: &[u8] =
-    b"write `key VALUE ..`, a value for each key, no line twice, and without `keys`";
+    b"write `key VALUE ..`, a value for each key, no line twice, and without `keys`; a value is a \
+whole number, or a text of 32 bytes at most in quotes, with each blank as `\\20`";
 
 pub(crate) const SEED_RULE: &[u8] = b"write `seed N` with a number of 64 bits, once";
 
@@ -226,7 +229,8 @@ pub(crate) const DECLINE_RULE: &[u8] =
 
 pub(crate) const VALUE_RULE: &[u8] =
     b"write `value MESSAGE PARAM A B`, where A * n + B has 64 bits for each key n, or \
-`value MESSAGE PARAM \"text\"` with each blank as `\\20`; once for the parameter";
+`value MESSAGE PARAM \"text\"`, 32 bytes at most, with each blank as `\\20`; once for the \
+parameter";
 
 pub(crate) const OTHER_RULE: &[u8] =
     b"begin a line with keys, key, seed, loss, repeat, order, decline or value";
@@ -238,30 +242,3 @@ pub(crate) const VALUE_NAMES: &[u8] =
     b"name a message as `bspl expand` prints it, and an `out` of it that is no key";
 
 pub(crate) const OTHER_NAMES: &[u8] = b"name a message as `bspl expand` prints it";
-
-// What may stand at a place: the words and signs of the language, and a name.
-pub(crate) const HERE_MAY_STAND: &[u8] = b"Here may stand:";
-
-pub(crate) const SIGNS: &[u8] = b"NAME -> \xe2\x86\xa6 : , [ ] { } ( ) in out nil any opt key \
-roles role parameters parameter private";
-
-// The name or the line that is nearest to the one given.
-pub(crate) const PART_MARK: &[u8] = b"%% ";
-
-pub(crate) const NEAREST_LINE: &[u8] = b"The nearest line: ";
-
-pub(crate) const NO_LINE: &[u8] = b"No line of the input is nearly that line.\n";
-
-pub(crate) const NEAREST: &[u8] = b"The nearest ";
-
-pub(crate) const THAT_IS_DECLARED: &[u8] = b" that is declared is ";
-
-pub(crate) const NO_NAME: &[u8] = b"No ";
-
-pub(crate) const NEARLY_THIS_ONE: &[u8] = b" with a name that is nearly this one is declared.\n";
-
-pub(crate) const ROLE: &[u8] = b"role";
-
-pub(crate) const PARAMETER: &[u8] = b"parameter";
-
-pub(crate) const PROTOCOL: &[u8] = b"protocol";

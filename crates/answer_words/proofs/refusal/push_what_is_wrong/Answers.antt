@@ -1,6 +1,6 @@
 -- The sentence is its head, what is wrong, and its end.
 use Rattle.std.proofs.Common.{◌∙◌, ap, ℕ, List}
-use Rattle.answer_words.specs.Refusal.{name_of}
+use Rattle.answer_words.specs.RefusedPlace.{name_of}
 use Rattle.answer_words.specs.Sentences.{wrong}
 use Rattle.answer_words.proofs.TextLemmas.{said_appended}
 use Rattle.answer_words.proofs.refusal.push_what_is_wrong.Goals as goal
