@@ -59,11 +59,13 @@ module _ (r0 r1 r2 : Option (List ℕ)) (count : ℕ) (o : Opening) (is : HasRea
   read_fails kept = read_no_more (Consumes-kept r0 r1 r2 is.bytes is.taken kept)
 
   -- too many bytes come
-  pub read_long : (piece : List ℕ) → Consumes r1 r2 piece → input_limit < count + length piece → IsUnopenedTooLong r0 r2
-  read_long piece taken long = record {
+  pub read_long : (piece : List ℕ) → Consumes r1 r2 piece → length piece ≤ 4096 → input_limit < count + length piece → IsUnopenedTooLong r0 r2
+  read_long piece taken one long = record {
     bytes = is.bytes;
     last = piece;
     taken = Consumes-trans r0 r1 r2 is.bytes piece is.taken taken;
+    short = omega (arith, is.counted, is.short);
+    piece = one;
     long = omega (arith, is.counted, length-append is.bytes piece, long);
     unopened = unopened is.bytes o is.has;
   }

@@ -23,10 +23,13 @@ pub record EndsUnopened (old new : Option (List ℕ)) : Type 0 where
   pub takes : TakesUnopened old new
   pub at_end : IsAtEnd new
 
--- too many bytes came before the line, at the latest with the last piece of them
+-- too many bytes came, and the line not before the last piece of them, which passed the limit; a
+-- piece has at most 4096 bytes
 pub record IsUnopenedTooLong (old new : Option (List ℕ)) : Type 0 where
   pub bytes : List ℕ
   pub last : List ℕ
   pub taken : Consumes old new (bytes ++ last)
+  pub short : length bytes ≤ input_limit
+  pub piece : length last ≤ 4096
   pub long : input_limit < length (bytes ++ last)
   pub unopened : IsUnopened bytes

@@ -14,6 +14,8 @@ mod liveness_tests;
 #[cfg(test)]
 mod log_tests;
 #[cfg(test)]
+mod long_search_tests;
+#[cfg(test)]
 mod order_tests;
 #[cfg(test)]
 mod order_trail_tests;

@@ -9,7 +9,8 @@ pub returns-then-count-taken-clause-err : goal.returns-then-count-taken-clause-e
 returns-then-count-taken-clause-err g c =
     let piece : List ℕ = take c.in_ok-count.count c.read.new.into in
     let size : length piece ≡ c.in_ok-count.count = length-take-le c.in_ok-count.count c.read.new.into c.in_ok-count.ensures.bound in
-    read_long (g.R.Source.remaining c.args.input.now) (g.R.Source.remaining c.pieces.input) (g.R.Source.remaining c.read.new.self) c.pieces.taken c.pieces.opening c.pieces.invariant.read piece c.in_ok-count.ensures.bytes.0 (omega (arith, size, c.pieces.invariant.read.short))
+    let one : length piece ≤ 4096 = omega (arith, size, c.in_ok-count.ensures.bound, c.pieces.invariant.room) in
+    read_long (g.R.Source.remaining c.args.input.now) (g.R.Source.remaining c.pieces.input) (g.R.Source.remaining c.read.new.self) c.pieces.taken c.pieces.opening c.pieces.invariant.read piece c.in_ok-count.ensures.bytes.0 one (omega (arith, size, c.pieces.invariant.read.short))
 
 pub returns-in-Some-clause-ok : goal.returns-in-Some-clause-ok
 returns-in-Some-clause-ok g c =
