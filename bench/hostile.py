@@ -10,14 +10,16 @@ a run, a log, histories or a script the same text without the fault, or for many
 the same under a short one; that expansion has 520 megabytes. For keys with one hash, by which a table of the kit finds
 each in linear time, it is keys with others; for different events under one key, each under a key of its own; for many
 receipts of one emission, receipts of as many; for receipts from last to first, those from first to last. The long ones
-have SIZE (100000000) bytes: the line `audit long` has the memory of an audit of so many. What is missing is said, and
-left out. BSPL, BSPL_MORE and DIMACS_SAT name the programs (crates/bspl/out/bspl, crates/bspl_more/out/bspl_more,
-crates/dimacs_sat/out/dimacs_sat).
+have SIZE (100000000) bytes: the plain side of `histories` is an audit of so many. What is missing is
+said, and left out. BSPL, BSPL_MORE and DIMACS_SAT name the programs (crates/bspl/out/bspl,
+crates/bspl_more/out/bspl_more, crates/dimacs_sat/out/dimacs_sat).
 """
 import itertools
+import multiprocessing
 import os
 import sys
 import tempfile
+from functools import partial
 from pathlib import Path
 
 import measure
@@ -196,10 +198,15 @@ def receipts(again, count=200000):
     return histories(PING, pings(range(1), [0] * count) if again else pings(keys, keys))
 
 
-def turned(backwards, count=200000):
+def received(backwards, count=200000):
     """What was emitted is received from last to first, or in order."""
     keys = range(count)
     return histories(PING, pings(keys, reversed(keys) if backwards else keys))
+
+
+def variables(count):
+    """So many variables, and no clause."""
+    return f"p cnf {count} 0\n"
 
 
 def shown_run(count):
@@ -208,31 +215,31 @@ def shown_run(count):
     return protocol.rstrip("\n") + "\n%% run\nrun 1\n" + "".join(f"{line}\n" for line in ten(purchase, count)) + "end\n"
 
 
-def stored(made, file):
-    """Writes the text that is made into the file; its command, its size, and what else is made. What this script holds
-    would count as memory of what it starts, so the text is let go."""
-    command, text, *rest = made()
-    file.write(text.encode())
-    file.flush()
-    return command, len(text), rest
+def written(text_of, path):
+    """Writes the text into the file, in a process of its own: what this one ever held would count as memory of what it
+    starts."""
+    writer = multiprocessing.get_context("fork").Process(target=lambda: Path(path).write_text(text_of()))
+    writer.start()
+    writer.join()
+    if writer.exitcode:
+        sys.exit(f"{path} could not be written")
 
 
-def measured(made):
-    """Of RUNS runs of the command that is made the one with the least processor time, and what `stored` gives."""
+def measured(command, text_of):
+    """Of RUNS runs of the command on the text the one with the least processor time, and the size of the text."""
     with tempfile.NamedTemporaryFile() as file:
-        command, size, rest = stored(made, file)
-        run = least(command, file.name, limit=SECONDS)
-        return run._replace(out=run.out[:60]), command, size, rest
+        written(text_of, file.name)
+        return least(command, file.name, limit=SECONDS, kept=60), os.path.getsize(file.name)
 
 
-def row(case, made):
-    """Prints the case's line: a command, its text, and what makes the plain text and its command from the size."""
-    run, command, size, (beside,) = measured(made)
+def row(case, command, text_of, beside):
+    """Prints the case's line; `beside` gives the plain command and what makes its text, from the size."""
+    run, size = measured(command, text_of)
     first = run.out.decode(errors="replace").splitlines()[0][:28] if run.out else ""
     if first.startswith("refused N1"):
         print(f"{case:22} {Path(command[0]).name} {command[1]} is not supported yet")
         return
-    ordinary = measured(lambda: beside(size))[0]
+    ordinary, _ = measured(*beside(size))
     cell = lambda of: f"{of.processor:9.3f}" if of.status is not None else f"{'stopped':>9}"
     ended = run.status is not None and ordinary.status is not None
     ratio = f"{run.processor / max(ordinary.processor, 0.001):8.1f}" if ended else f"{'-':>8}"
@@ -241,66 +248,64 @@ def row(case, made):
 
 
 def by_document(command, program=BSPL):
-    return lambda size: ([program, command, "P"], plain(size))
+    return lambda size: ([program, command, "P"], partial(plain, size))
 
 
-def by_short_prefix(command):
+def short_prefix(size):
     """The same protocol under a short name, and plain protocols up to the size."""
     short = prefix(64, 15, 3)
-    return lambda size: ([BSPL, command, "P"], short + plain(size - len(short)).split("\n", 1)[1])
+    return short + plain(size - len(short)).split("\n", 1)[1]
 
 
-def by_ending(command, text_of, end):
-    return lambda size: ([BSPL, command, "Ping"], text_of(end))
-
-
-def by_keys(command, text_of):
-    return lambda size: (command, text_of(False))
+def against(command, text_of, slow, ordinary):
+    """The command on a text made of the one argument, beside the same on one made of the other."""
+    return command, partial(text_of, slow), lambda _: (command, partial(text_of, ordinary))
 
 
 def cases():
-    """A case: its name, its program and what is run."""
+    """A case: its name, its command, what makes its text, and what makes the plain command and text from the size."""
     for command in ("expand", "verify"):
-        yield f"roles {command}", BSPL, lambda c=command: ([BSPL, c, "P"], roles(), by_document(c))
-        yield f"names {command}", BSPL, lambda c=command: ([BSPL, c, "P"], list_of_names(), by_document(c))
-        yield f"prefix 1 {command}", BSPL, lambda c=command: ([BSPL, c, "P"], prefix(1, 1), by_document(c))
-        yield f"chain {command}", BSPL, lambda c=command: ([BSPL, c, "P"], chain(), by_document(c))
-        yield f"paths {command}", BSPL, lambda c=command: ([BSPL, c, "P"], paths(), by_document(c))
+        of_p = [BSPL, command, "P"]
+        yield f"roles {command}", of_p, roles, by_document(command)
+        yield f"names {command}", of_p, list_of_names, by_document(command)
+        yield f"prefix 1 {command}", of_p, partial(prefix, 1, 1), by_document(command)
+        yield f"chain {command}", of_p, chain, by_document(command)
+        yield f"paths {command}", of_p, paths, by_document(command)
     for command in ("expand", "verify"):
-        yield f"prefix 64 {command}", BSPL, \
-            lambda c=command: ([BSPL, c, "P"], prefix(64, 15), by_short_prefix(c))
-    yield "run", BSPL, lambda: ([BSPL, "replay", "Ping"], long_run("bad\n"), by_ending("replay", long_run, "end\n"))
-    yield "log", BSPL, lambda: ([BSPL, "check", "Ping"], long_log("bad\n"), by_ending("check", long_log, "end\n"))
-    yield "audit long", BSPL, \
-        lambda: ([BSPL, "audit", "Ping"], long_histories("bad\n"), by_ending("audit", long_histories, "end\n"))
-    yield "script", BSPL, lambda: ([BSPL, "run", "Ping"], long_script("bad\n"), by_ending("run", long_script, "seed 1\n"))
-    run, replay = [BSPL, "run", "Pair", "--threads", "0"], [BSPL, "replay", "Pair"]
-    yield "keys run", BSPL, lambda: (run, many_keys(True), by_keys(run, many_keys))
-    yield "keys replay", BSPL, lambda: (replay, run_of_keys(True), by_keys(replay, run_of_keys))
-    for command, text_of in (("replay", run_of_acts), ("audit", histories_of_acts)):
-        of_many = [BSPL, command, "Many"]
-        yield f"events {command}", BSPL, lambda c=of_many, t=text_of: (c, t(True), by_keys(c, t))
-    audit = [BSPL, "audit", "Ping"]
-    yield "audit receipts", BSPL, lambda: (audit, receipts(True), by_keys(audit, receipts))
-    yield "audit turned", BSPL, lambda: (audit, turned(True), by_keys(audit, turned))
+        of_p = [BSPL, command, "P"]
+        yield f"prefix 64 {command}", of_p, partial(prefix, 64, 15), \
+            lambda size, c=of_p: (c, partial(short_prefix, size))
+    for case, command, text_of, end in (
+        ("run", "replay", long_run, "end\n"),
+        ("log", "check", long_log, "end\n"),
+        ("histories", "audit", long_histories, "end\n"),
+        ("script", "run", long_script, "seed 1\n"),
+    ):
+        yield case, *against([BSPL, command, "Ping"], text_of, "bad\n", end)
+    yield "keys run", *against([BSPL, "run", "Pair", "--threads", "0"], many_keys, True, False)
+    yield "keys replay", *against([BSPL, "replay", "Pair"], run_of_keys, True, False)
+    yield "events replay", *against([BSPL, "replay", "Many"], run_of_acts, True, False)
+    yield "events audit", *against([BSPL, "audit", "Many"], histories_of_acts, True, False)
+    yield "receipts audit", *against([BSPL, "audit", "Ping"], receipts, True, False)
+    yield "backwards audit", *against([BSPL, "audit", "Ping"], received, True, False)
     for count in (1000, 2000, 4000):
-        yield f"page {count}", BSPL_MORE, \
-            lambda n=count: ([BSPL_MORE, "page", "Purchase"], shown_run(n), by_document("page", BSPL_MORE))
-    yield "dimacs_sat", DIMACS_SAT, lambda: ([DIMACS_SAT], "p cnf 16777215 0\n", lambda _: ([DIMACS_SAT], "p cnf 1 0\n"))
+        of_purchase = [BSPL_MORE, "page", "Purchase"]
+        yield f"page {count}", of_purchase, partial(shown_run, count), by_document("page", BSPL_MORE)
+    yield "dimacs_sat", *against([DIMACS_SAT], variables, 16777215, 1)
 
 
 def main():
     wanted, told = sys.argv[1:], set()
     print(f"{'case':22}{'bytes':>11}{'seconds':>9}{'plain':>9}{'ratio':>8}{'MB':>7}{'plain':>7}  answer")
-    for case, program, made in cases():
+    for case, command, text_of, beside in cases():
         if wanted and not any(case.startswith(word) for word in wanted):
             continue
-        if missing(program):
-            if program not in told:
-                print(f"{program} is missing, so its cases are left out")
-            told.add(program)
+        if missing(command[0]):
+            if command[0] not in told:
+                print(f"{command[0]} is missing, so its cases are left out")
+            told.add(command[0])
             continue
-        row(case, made)
+        row(case, command, text_of, beside)
 
 
 if __name__ == "__main__":

@@ -53,8 +53,9 @@ class Run(NamedTuple):
     megabytes: float
 
 
-def once(command, given=b"", limit=None):
-    """One run of the command over these bytes, or over the file of that path; it is stopped after `limit` seconds."""
+def once(command, given=b"", limit=None, kept=-1):
+    """One run of the command over these bytes, or over the file of that path; it is stopped after `limit` seconds. Of
+    the output the first `kept` bytes are kept, or all."""
     with tempfile.TemporaryFile() as source, tempfile.TemporaryFile() as sink:
         if isinstance(given, bytes):
             source.write(given)
@@ -72,9 +73,9 @@ def once(command, given=b"", limit=None):
         child.returncode = os.waitstatus_to_exitcode(status)
         sink.seek(0)
         ended = None if os.WIFSIGNALED(status) else child.returncode
-        return Run(sink.read(), ended, seconds, used.ru_utime + used.ru_stime, used.ru_maxrss / 1024)
+        return Run(sink.read(kept), ended, seconds, used.ru_utime + used.ru_stime, used.ru_maxrss / 1024)
 
 
-def least(command, given=b"", by="processor", runs=RUNS, limit=None):
+def least(command, given=b"", by="processor", runs=RUNS, limit=None, kept=-1):
     """Of so many runs the one that takes least, by the `processor` or by the clock (`seconds`)."""
-    return min((once(command, given, limit) for _ in range(runs)), key=lambda run: getattr(run, by))
+    return min((once(command, given, limit, kept) for _ in range(runs)), key=lambda run: getattr(run, by))
