@@ -1,8 +1,8 @@
--- What a role writes for a stream of lines, how far it comes, and which reply each line gets; that
--- it is one.
+-- Which reply each line gets; what a role writes for a stream of lines, and how far it comes; what a
+-- live role writes; that all of this is one.
+pub mod Replies
 pub mod Served
 pub mod Stream
-pub mod Replies
-pub mod Refusal
+pub mod Live
 pub mod Laws
 pub mod inner

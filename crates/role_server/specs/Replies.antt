@@ -21,7 +21,7 @@ use Rattle.wire_form.specs.declared.reply.Reply.{Reply}
 use Rattle.wire_form.specs.declared.reply.Reply.TheVariants.{Blocked, Received, Refused, Sent}
 use Rattle.wire_form.specs.Meaning.{AsksFor, AsksInVain, AsksNothing}
 
--- the most keys that are held
+-- the most keys that `serve` holds
 abbrev pub held_limit : ℕ
 held_limit = 10000
 
@@ -35,9 +35,9 @@ abbrev pub stamp_of : Act → ℕ
 stamp_of (Arrival m) = m.stamp
 stamp_of (Attempt message key outs) = 0
 
--- no event is spare, or the key would be one too many
-abbrev pub HasNoRoom : StoreState → List Value → Type 0
-HasNoRoom s key = (s.spare ≡ 0) ⊎ ((¬ Contains s.keys key) × (held_limit ≤ length s.keys))
+-- no event is spare, or the key would be one more than the most that are held
+abbrev pub HasNoRoom : ℕ → StoreState → List Value → Type 0
+HasNoRoom most s key = (s.spare ≡ 0) ⊎ ((¬ Contains s.keys key) × (most ≤ length s.keys))
 
 -- the clock, or the stamp that comes, is at its last value
 abbrev pub IsLast : StoreState → Act → Type 0
@@ -80,21 +80,25 @@ pub record IsDone (s : StoreState) (act : Act) (reply : Reply) (new : StoreState
   pub adds : AddsKey s (act_key act) held
   pub acts : Acts held act reply new
 
--- the reply to the act, and the store after it
-pub data AnswersAct (s : StoreState) (act : Act) (reply : Reply) (new : StoreState) : Type 0 where
-  no_room : HasNoRoom s (act_key act) → reply ≡ Refused F3 → new ≡ s → AnswersAct s act reply new
-  last : ¬ HasNoRoom s (act_key act) → IsLast s act → reply ≡ Refused F4 → new ≡ s
-      → AnswersAct s act reply new
-  done : ¬ HasNoRoom s (act_key act) → ¬ IsLast s act → IsDone s act reply new
-      → AnswersAct s act reply new
+-- the reply to the act where so many keys may be held, and the store after it
+pub data AnswersAct (most : ℕ) (s : StoreState) (act : Act) (reply : Reply) (new : StoreState)
+    : Type 0 where
+  no_room : HasNoRoom most s (act_key act) → reply ≡ Refused F3 → new ≡ s
+      → AnswersAct most s act reply new
+  last : ¬ HasNoRoom most s (act_key act) → IsLast s act → reply ≡ Refused F4 → new ≡ s
+      → AnswersAct most s act reply new
+  done : ¬ HasNoRoom most s (act_key act) → ¬ IsLast s act → IsDone s act reply new
+      → AnswersAct most s act reply new
 
--- the reply to the line, and the store after it; a line that is refused leaves the store
-pub data Replies (s : StoreState) (line : Line) (reply : Reply) (new : StoreState) : Type 0 where
-  nothing : AsksNothing line → reply ≡ Refused F1 → new ≡ s → Replies s line reply new
+-- the reply to the line where so many keys may be held, and the store after it; a line that is
+-- refused leaves the store
+pub data Replies (most : ℕ) (s : StoreState) (line : Line) (reply : Reply) (new : StoreState)
+    : Type 0 where
+  nothing : AsksNothing line → reply ≡ Refused F1 → new ≡ s → Replies most s line reply new
   in_vain : AsksInVain s.protocol s.role line → reply ≡ Refused F2 → new ≡ s
-      → Replies s line reply new
-  answered : (act : Act) → AsksFor s.protocol s.role line act → AnswersAct s act reply new
-      → Replies s line reply new
+      → Replies most s line reply new
+  answered : (act : Act) → AsksFor s.protocol s.role line act → AnswersAct most s act reply new
+      → Replies most s line reply new
 
 -- the role and its protocol stay
 pub record KeepsRole (old new : StoreState) : Type 0 where

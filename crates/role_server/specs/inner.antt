@@ -1,4 +1,2 @@
 -- What only private functions cite.
 pub mod Acts
-pub mod Session
-pub mod Coming
