@@ -8,42 +8,42 @@ use list_base::NoMemory;
 use local_store::Store;
 use wire_form::{Act, LineReader, Reading, Refusal, Reply};
 
-/// The most keys that are held.
-const HELD_LIMIT: u32 = 10_000;
-
 /// The last value of a clock.
 const LAST_STAMP: u64 = u64::MAX;
 
-/// Answers the line with this body, and an LF after it. The reader keeps its memory for the next.
+/// Answers the line with this body, and an LF after it, where at most so many keys are held. The
+/// reader keeps its memory for the next.
 #[tactic(auto, using(crate::proofs::ActLemmas::own_act))]
 pub fn answer_line(
     reader: &mut LineReader,
     store: &mut Store,
+    most_keys: u32,
     body: &[u8],
 ) -> Result<Reply, NoMemory>
     ensures reply { IfOk result (λ reply.
-        Replies store.old (body.now ++ 10 ∷ []) reply store.new) }
+        Replies most_keys store.old (body.now ++ 10 ∷ []) reply store.new) }
     ensures err { OnErr result (store.new ≡ store.old) }
     ensures role { KeepsRole store.old store.new }
 {
     match reader.read(store.admitted(), store.role(), body)? {
         Reading::NotRead => Ok(Reply::Refused(Refusal::F1)),
         Reading::NotMeant => Ok(Reply::Refused(Refusal::F2)),
-        Reading::Meant(act) => answer_act(store, &act),
+        Reading::Meant(act) => answer_act(store, most_keys, &act),
     }
 }
 
 /// Answers what a line asks for.
 #[tactic(auto, using(crate::proofs::ActLemmas::own_key, crate::proofs::ActLemmas::found_held, crate::proofs::ActLemmas::ready, crate::proofs::ActLemmas::keeps_after))]
-fn answer_act(store: &mut Store, act: &Act) -> Result<Reply, NoMemory>
+fn answer_act(store: &mut Store, most_keys: u32, act: &Act) -> Result<Reply, NoMemory>
     requires { IsOwn store.old.protocol store.old.role act.now }
-    ensures reply { IfOk result (λ reply. AnswersAct store.old act.now reply store.new) }
+    ensures reply { IfOk result (λ reply.
+        AnswersAct most_keys store.old act.now reply store.new) }
     ensures err { OnErr result (store.new ≡ store.old) }
     ensures role { KeepsRole store.old store.new }
 {
     let key = key_of(act);
     let row = store.find(key);
-    if has_no_room(store, key, row) {
+    if has_no_room(store, most_keys, key, row) {
         return Ok(Reply::Refused(Refusal::F3));
     }
     if is_last(store, act) {
@@ -64,11 +64,11 @@ fn key_of(act: &Act) -> &Key
 }
 
 /// Whether there is no room for a further event or for the key, whose row this is if it is held.
-fn has_no_room(store: &Store, key: &Key, row: Option<usize>) -> bool
+fn has_no_room(store: &Store, most_keys: u32, key: &Key, row: Option<usize>) -> bool
     requires { IsSome row ↔ Contains store.now.keys key.now }
-    ensures { IsTrue result ↔ HasNoRoom store.now key.now }
+    ensures { IsTrue result ↔ HasNoRoom most_keys store.now key.now }
 {
-    store.spare() == 0 || (row.is_none() && store.held() >= HELD_LIMIT)
+    store.spare() == 0 || (row.is_none() && store.held() >= most_keys)
 }
 
 /// Whether the clock, or the stamp that comes, is at its last value.
@@ -95,7 +95,7 @@ fn stamp_of(act: &Act) -> u64
 fn hold(store: &mut Store, key: &Key, row: Option<usize>) -> Result<(), NoMemory>
     requires row { IsSome row ↔ Contains store.old.keys key.now }
     requires whole { length key.now ≡ length store.old.protocol.keys }
-    requires room { ¬ HasNoRoom store.old key.now }
+    requires few { ¬ Contains store.old.keys key.now → length store.old.keys < 4294967295 }
     ensures ok { OnOk result (HoldsKey store.old key.now store.new) }
     ensures err { OnErr result (store.new ≡ store.old) }
 {
