@@ -1,4 +1,4 @@
-ghost use Rattle.std.specs.Prelude.{◌≡◌, [], IfOk, OnOk};
+ghost use Rattle.std.specs.Prelude.{◌≡◌, ◌≢◌, [], All, IfOk, OnOk};
 ghost use Rattle.kept_lines.specs.inner.Coming.{AnswersBody, AnswersPiece, EndsLineOf, begun_more};
 
 use super::responder::Responder;
@@ -30,6 +30,7 @@ impl Batch {
         begun: &mut Bytes,
         piece: &[u8],
     ) -> Result<Batch, NoMemory>
+        requires { All (λ byte. byte ≢ 10) begun.old }
         ensures { IfOk result (λ batch. AnswersPiece A.answers responder.old begun.old piece.now
             responder.new begun.new batch.replies batch.acts) }
     {
@@ -58,6 +59,8 @@ impl Batch {
         begun: &mut Bytes,
         last: &[u8],
     ) -> Result<(), NoMemory>
+        requires begun { All (λ byte. byte ≢ 10) begun.old }
+        requires last { All (λ byte. byte ≢ 10) last.now }
         ensures adds { OnOk result (EndsLineOf A.answers responder.old begun.old last.now
             responder.new self.old self.new) }
         ensures begun { OnOk result (begun.new ≡ []) }
@@ -77,6 +80,7 @@ impl Batch {
         responder: &mut A,
         body: &[u8],
     ) -> Result<(), NoMemory>
+        requires { All (λ byte. byte ≢ 10) body.now }
         ensures { OnOk result (AnswersBody A.answers responder.old body.now responder.new
             self.old self.new) }
     {

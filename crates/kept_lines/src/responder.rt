@@ -1,4 +1,4 @@
-ghost use Rattle.std.specs.Prelude.{◌≡◌, ◌++◌, ◌∷◌, [], IfOk, OnOk};
+ghost use Rattle.std.specs.Prelude.{◌≡◌, ◌≢◌, ◌++◌, ◌∷◌, [], All, IfOk, OnOk};
 ghost use Rattle.kept_lines.specs.Answers.{RepliesTo};
 
 use list_base::{Bytes, NoMemory};
@@ -18,8 +18,10 @@ pub trait Responder {
     ghost unread: { Self → List ℕ };
 
     /// Answers the line with this body and an LF: appends its reply, and says whether the line is
-    /// to be kept.
+    /// to be kept. The body has no LF. After an error neither the responder nor the replies are
+    /// known, so whoever calls gives up both.
     fn answer(&mut self, alloc: Global, body: &[u8], replies: &mut Bytes) -> Result<bool, NoMemory>
+        requires { All (λ byte. byte ≢ 10) body.now }
         ensures { IfOk result (λ is_kept. RepliesTo answers self.old (body.now ++ 10 ∷ [])
             replies.old replies.new is_kept self.new) };
 

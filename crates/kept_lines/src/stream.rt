@@ -1,4 +1,4 @@
-ghost use Rattle.std.specs.Prelude.{◌≡◌, [], IfErr, IfOk, IsErrOf, OnErr, OnOk};
+ghost use Rattle.std.specs.Prelude.{◌≡◌, ◌≢◌, [], All, IfErr, IfOk, IsErrOf, OnErr, OnOk};
 ghost use Rattle.std.specs.Io.KnownBytes.{Appends};
 ghost use Rattle.bspl_io.specs.Faults.{HasCounted};
 ghost use Rattle.bspl_io.specs.Sink.{AppendsPrefix};
@@ -21,7 +21,8 @@ const PIECE: usize = 16_384;
 /// Answers each line of the bytes that were taken ahead of the input and then of the input, as soon
 /// as it is whole. What is to be kept of the lines of one read is kept before their replies are
 /// written, and all of these are written before more is read. At most `limit` bytes may come, with
-/// those that were taken ahead.
+/// those that were taken ahead. A refusal gives no responder back, since it may have answered lines
+/// that are not kept.
 pub fn answer_stream<A: Responder + Drop, J: Journal, R: Source, W: Sink>(
     alloc: Global,
     responder: A,
@@ -98,6 +99,7 @@ fn step<A: Responder, J: Journal, W: Sink>(
     journal: &mut J,
     output: &mut W,
 ) -> Result<(), AnswerRefusal>
+    requires { All (λ byte. byte ≢ 10) begun.old }
     ensures order { PassesPiece A.answers responder.old begun.old piece.now responder.new begun.new
         (record {
           kept = J.kept journal.old;

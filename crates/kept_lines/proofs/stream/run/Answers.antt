@@ -1,8 +1,11 @@
 -- How far the loop over the input comes.
-use Rattle.std.proofs.Common.{◌≡◌, ◌≤◌, ◌+◌, ℕ, List, [], length, take, refl, arith, rules, length-take-le}
+use Rattle.std.proofs.Common.{◌≡◌, ◌≢◌, ◌≤◌, ◌+◌, ℕ, List, [], length, take, refl, sym, subst, arith, rules, length-take-le}
+use Rattle.std.specs.Prelude.{All}
+use Rattle.std.proofs.lemmas.List.Elements.{All-take}
 use Rattle.std.specs.Io.KnownBytes.{Consumes}
 use Rattle.kept_lines.specs.StreamEnd.{stream_refusal}
 use Rattle.kept_lines.specs.declared.stream_refusal.StreamRefusal.TheVariants.{ReadFault}
+use Rattle.kept_lines.specs.inner.Coming.{begun_limit}
 use Rattle.kept_lines.proofs.ComingLemmas.{end_is_cut, input_ends, more_passes, more_stops, reading_fails, too_many}
 use Rattle.kept_lines.proofs.RefusalLemmas.{cut_stops, stops_for}
 use Rattle.kept_lines.proofs.StreamLemmas.{first_passes, first_stops, first_too_many}
@@ -47,6 +50,11 @@ pub returns-then-count-limit-clause-err : goal.returns-then-count-limit-clause-e
 returns-then-count-limit-clause-err g c =
     let size : length (take c.in_ok-count.count c.read.new.into) ≡ c.in_ok-count.count = length-take-le c.in_ok-count.count c.read.new.into c.in_ok-count.ensures.bound in
     too_many g.A.Responder.answers c.args.responder.now c.args.ahead.now c.args.limit _ _ _ _ _ _ _ c.pieces.taken c.pieces.responder c.pieces.begun c.pieces.invariant.come (take c.in_ok-count.count c.read.new.into) c.in_ok-count.ensures.bytes.0 (omega (arith, size, c.pieces.invariant.come.short))
+
+pub step-requires-in-pieces : goal.step-requires-in-pieces
+step-requires-in-pieces g c =
+    let come = c.pieces.invariant.come in
+    subst (All (λ byte. byte ≢ 10)) (sym come.held) (All-take (λ byte. byte ≢ 10) begun_limit come.some.rest come.unended)
 
 pub pieces-preserved : goal.pieces-preserved
 pieces-preserved g c =
