@@ -3,7 +3,7 @@ use Rattle.std.proofs.Common.{◌≡◌, ◌≢◌, ℕ, Bool, true, false, List
 use Rattle.list_base.proofs.Separators.{Lacks, lines-open, lines-then}
 use Rattle.list_base.specs.Lines.{Line, lines_of}
 use Rattle.kept_lines.specs.Answers.{AnswersLines, AnswersNext, LeavesUnread, LineRule, StartsWithLines, kept_of}
-use Rattle.kept_lines.specs.Replay.{AnswersOnceFrom, IsWholeLine, KeepsOrStays, KeptLinesReplay, LinesHaveOneOutcome}
+use Rattle.kept_lines.specs.Replay.{AnswersJoin, AnswersOnceFrom, IsWholeLine, KeepsOrStays, KeptLinesReplay, LinesHaveOneOutcome}
 use Rattle.kept_lines.specs.inner.Coming.{AnsweredUpTo, last_unread}
 
 -- more bytes come
@@ -28,39 +28,53 @@ some_is : (x : ℕ) (xs : List ℕ) → (x ∷ xs) ≢ []
 some_is x xs same = cc
 
 module _ {S : Type 0} (answers : LineRule S) where
-  -- one line more is answered
-  pub lines_more : (s mid next : S) (lines : List Line) (line : Line) (out acts reply : List ℕ)
-      (is_kept : Bool) → AnswersLines answers s lines out acts mid
-      → answers mid line reply is_kept next
-      → AnswersLines answers s (lines ++ line ∷ []) (out ++ reply) (acts ++ kept_of line is_kept) next
-  lines_more s mid next [] line out acts reply is_kept done answer = (
+  -- lines behind lines
+  pub later_lines : AnswersJoin answers
+  later_lines s mid end [] more out acts later_out later_acts done rest =
+      let joined : AnswersLines answers s more later_out later_acts end =
+      subst (λ (t : S). AnswersLines answers t more later_out later_acts end) done.2 rest in
+      subst (λ (o : List ℕ). AnswersLines answers s more (o ++ later_out) (acts ++ later_acts) end) (sym done.0)
+      (subst (λ (a : List ℕ). AnswersLines answers s more later_out (a ++ later_acts) end) (sym done.1) joined)
+  later_lines s mid end (first ∷ lines) more out acts later_out later_acts done rest =
+      let step : AnswersNext answers s first out acts done.1 done.2 done.0 = done.3 in (
+        done.0,
+        done.1 ++ later_out,
+        done.2 ++ later_acts,
+        record {
+          reply = step.reply;
+          is_kept = step.is_kept;
+          answer = step.answer;
+          written = ap (λ (o : List ℕ). o ++ later_out) step.written ∙ append_assoc step.reply done.1 later_out;
+          kept = ap (λ (a : List ℕ). a ++ later_acts) step.kept ∙ append_assoc (kept_of first step.is_kept) done.2 later_acts;
+        },
+        later_lines done.0 mid end lines more done.1 done.2 later_out later_acts done.4 rest,
+      )
+
+  -- a line alone is answered
+  line_alone : (s next : S) (line : Line) (reply : List ℕ) (is_kept : Bool)
+      → answers s line reply is_kept next
+      → AnswersLines answers s (line ∷ []) reply (kept_of line is_kept) next
+  line_alone s next line reply is_kept answer = (
     next,
     [],
     [],
     record {
       reply = reply;
       is_kept = is_kept;
-      answer = subst (λ (t : S). answers t line reply is_kept next) done.2 answer;
-      written = ap (λ (o : List ℕ). o ++ reply) done.0 ∙ sym (append-nil reply);
-      kept = ap (λ (a : List ℕ). a ++ kept_of line is_kept) done.1 ∙ sym (append-nil (kept_of line is_kept));
+      answer = answer;
+      written = sym (append-nil reply);
+      kept = sym (append-nil (kept_of line is_kept));
     },
     (refl, refl, refl),
   )
-  lines_more s mid next (first ∷ lines) line out acts reply is_kept done answer =
-      let act : List ℕ = kept_of line is_kept in
-      let step : AnswersNext answers s first out acts done.1 done.2 done.0 = done.3 in (
-        done.0,
-        done.1 ++ reply,
-        done.2 ++ act,
-        record {
-          reply = step.reply;
-          is_kept = step.is_kept;
-          answer = step.answer;
-          written = ap (λ (o : List ℕ). o ++ reply) step.written ∙ append_assoc step.reply done.1 reply;
-          kept = ap (λ (a : List ℕ). a ++ act) step.kept ∙ append_assoc (kept_of first step.is_kept) done.2 act;
-        },
-        lines_more done.0 mid next lines line done.1 done.2 reply is_kept done.4 answer,
-      )
+
+  -- one line more is answered
+  pub lines_more : (s mid next : S) (lines : List Line) (line : Line) (out acts reply : List ℕ)
+      (is_kept : Bool) → AnswersLines answers s lines out acts mid
+      → answers mid line reply is_kept next
+      → AnswersLines answers s (lines ++ line ∷ []) (out ++ reply) (acts ++ kept_of line is_kept) next
+  lines_more s mid next lines line out acts reply is_kept done answer =
+      later_lines s mid next lines (line ∷ []) out acts reply (kept_of line is_kept) done (line_alone mid next line reply is_kept answer)
 
   -- nothing has come
   pub up_to_none : (s : S) → AnsweredUpTo answers s [] [] [] s []

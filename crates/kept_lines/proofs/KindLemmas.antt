@@ -1,5 +1,5 @@
 -- What a test of the first bytes says.
-use Rattle.std.proofs.Common.{◌≡◌, ◌≤◌, ◌++◌, ℕ, List, Bool, length, take, drop, sym, ap, subst, ◌∙◌, length-take, take_all, arith}
+use Rattle.std.proofs.Common.{◌≡◌, ◌≤◌, ◌++◌, ℕ, List, [], Bool, length, take, drop, sym, ap, subst, ◌∙◌, length-take, take_all, append-nil, arith}
 use Rattle.std.specs.Prelude.{MatchBool, nat_eq}
 use Rattle.std.proofs.lemmas.List.{append_cancel_left, take-append-drop}
 use Rattle.kept_lines.specs.FileKind.{HasHead}
@@ -51,3 +51,9 @@ lines_after_head head image count head_is begins is_text within =
 pub head_has_itself : (head : List ℕ) → AreTextLines head → HasHead head head
 head_has_itself head is =
     sym (take_all (length head) (image_text head) (omega (arith, ap (λ (b : List ℕ). length b) is)) ∙ is)
+
+-- behind a head that is all of the text there are no lines
+pub head_alone : (head lines : List ℕ) → AreTextLines head → image_text head ≡ head ++ lines
+    → lines ≡ []
+head_alone head lines is text =
+    sym (append_cancel_left head [] lines (append-nil head ∙ sym is ∙ text))

@@ -5,8 +5,8 @@ pub mod Passage
 pub mod Refusal
 pub mod Memory
 pub mod FileKind
-pub mod FoundLines
 pub mod FileCalls
+pub mod FoundLines
 pub mod FileJournal
 pub mod Answers
 pub mod Flow

@@ -38,3 +38,11 @@ LinesHaveOneOutcome {S} answers =
     AnswersOnceFrom answers s →
     AnswersLines answers s lines out acts end → AnswersLines answers s lines other also_acts also →
     (out ≡ other) × (acts ≡ also_acts) × (end ≡ also)
+
+-- lines and then more lines are answered: the replies, what is to be kept and the states join
+abbrev pub AnswersJoin : {S : Type 0} → LineRule S → Type 0
+AnswersJoin {S} answers =
+    (s mid end : S) (lines more : List Line) (out acts later_out later_acts : List ℕ) →
+    AnswersLines answers s lines out acts mid →
+    AnswersLines answers mid more later_out later_acts end →
+    AnswersLines answers s (lines ++ more) (out ++ later_out) (acts ++ later_acts) end

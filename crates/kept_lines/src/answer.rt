@@ -1,4 +1,4 @@
-ghost use Rattle.std.specs.Prelude.{◌≡◌, IsErrOf, OnErr, OnOk};
+ghost use Rattle.std.specs.Prelude.{◌≡◌, [], IsErrOf, IsOk, OnErr, OnOk};
 ghost use Rattle.std.specs.Io.KnownBytes.{Appends, Keeps};
 ghost use Rattle.bspl_io.specs.Faults.{HasCounted};
 ghost use Rattle.kept_lines.specs.Passage.{KeepsFirst};
@@ -13,7 +13,8 @@ pub enum AnswerRefusal {
     JournalFault,
     /// Writing failed, and was counted. The lines are kept, and the replies may be cut short.
     WriteFault,
-    /// Memory ran out.
+    /// Memory ran out: either of the journal, and nothing was kept or written, or of the sink, and
+    /// the lines are kept, and the replies may be cut short.
     NoMemory,
 }
 
@@ -58,6 +59,8 @@ pub fn keep_and_write<J: Journal, W: Sink>(
       contents = W.contents output.old;
       contents_after = W.contents output.new;
     }) lines.now replies.now result }
+    ensures none { lines.now ≡ [] →
+        (journal.new ≡ journal.old) × ¬ IsErrOf result AnswerRefusal.JournalFault }
     ensures keep_counted { IsErrOf result AnswerRefusal.JournalFault →
         HasCounted (J.faults journal.old) (J.faults journal.new) }
     ensures keep_still { ¬ IsErrOf result AnswerRefusal.JournalFault →
@@ -76,6 +79,7 @@ pub fn keep_and_write<J: Journal, W: Sink>(
 fn keep_some<J: Journal>(journal: &mut J, lines: &[u8]) -> Result<(), Trouble>
     ensures ok { OnOk result (Appends (J.kept journal.old) (J.kept journal.new) lines.now) }
     ensures err { OnErr result (Keeps (J.kept journal.old) (J.kept journal.new)) }
+    ensures none { lines.now ≡ [] → (journal.new ≡ journal.old) × IsOk result }
     ensures counted { IsErrOf result Trouble.Failed →
         HasCounted (J.faults journal.old) (J.faults journal.new) }
     ensures still { ¬ IsErrOf result Trouble.Failed → J.faults journal.new ≡ J.faults journal.old }

@@ -1,18 +1,19 @@
 ghost use Rattle.std.specs.Prelude.{◌≡◌, ◌⊎◌, ◌+◌, ◌<◌, All, true, length, IfOk, OnErr, OnOk, IsErrOf};
 ghost use Rattle.bspl_io.specs.Faults.{HasCounted};
-ghost use Rattle.kept_lines.specs.FileCalls.{Cut, FailsToStore, noted, stored};
+ghost use Rattle.kept_lines.specs.FileCalls.{Cut, FailsToStore, noted};
 ghost use Rattle.kept_lines.specs.FileJournal.{AreRoom, FailsAtLines, FailsAtRoom, HasNoOffset};
 ghost use Rattle.kept_lines.specs.FileJournal.{IsBegunFile, KeepsInFile};
 ghost use Rattle.kept_lines.specs.FileJournal.{with_lines, with_lines_over_zeros, with_room};
 
 use super::journal::Journal;
-use super::line_file::LineFile;
+use super::line_file::{LineFile, store};
 use super::open_refusal::OpenRefusal;
 use super::text::text_len;
-use bspl_io::{Failed, Trouble};
+use bspl_io::Trouble;
 use list_base::NoMemory;
 use std::alloc::Global;
 use std::fs::File;
+use std::io::{self, ErrorKind};
 use std::marker::Model;
 
 /// How many zeros are written at once behind the room.
@@ -86,7 +87,7 @@ impl<F: LineFile + Drop> FileJournal<F> {
 
 impl<F: LineFile> FileJournal<F> {
     /// Writes zeros behind the room, and syncs them if writes are to be synced.
-    fn add_room(&mut self) -> Result<(), Failed>
+    fn add_room(&mut self) -> io::Result<()>
         ensures ok { OnOk result (self.new ≡ with_room self.old) }
         ensures last { OnErr result
             (((18446744073709551615 < self.old.room_end + length self.old.zeros) ×
@@ -95,7 +96,7 @@ impl<F: LineFile> FileJournal<F> {
         ensures faults_stay { OnErr result (self.new.faults ≡ self.old.faults) }
     {
         let Some(room_end) = self.room_end.checked_add(self.zeros.len() as u64) else {
-            return Err(Failed);
+            return Err(ErrorKind::FileTooLarge.into());
         };
         store(&mut self.file, self.syncs, self.room_end, &self.zeros)?;
         self.room_end = room_end;
@@ -104,7 +105,7 @@ impl<F: LineFile> FileJournal<F> {
 
     /// Writes the lines behind the text, which then ends at the offset, and syncs them if writes are
     /// to be synced.
-    fn add_lines(&mut self, lines: &[u8], text_end: u64) -> Result<(), Failed>
+    fn add_lines(&mut self, lines: &[u8], text_end: u64) -> io::Result<()>
         requires { text_end ≡ self.old.text_end + length lines.now }
         ensures ok { OnOk result (self.new ≡ with_lines self.old lines.now) }
         ensures last { OnErr result
@@ -119,7 +120,7 @@ impl<F: LineFile> FileJournal<F> {
     }
 
     /// Writes the lines, over zeros as far as there are any.
-    fn add(&mut self, lines: &[u8]) -> Result<(), Failed>
+    fn add(&mut self, lines: &[u8]) -> io::Result<()>
         ensures ok { OnOk result (self.new ≡ with_lines_over_zeros self.old lines.now) }
         ensures last { OnErr result
             ((HasNoOffset self.old lines.now × (self.new.calls ≡ self.old.calls)) ⊎
@@ -128,7 +129,7 @@ impl<F: LineFile> FileJournal<F> {
         ensures faults_stay { OnErr result (self.new.faults ≡ self.old.faults) }
     {
         let Some(text_end) = self.text_end.checked_add(lines.len() as u64) else {
-            return Err(Failed);
+            return Err(ErrorKind::FileTooLarge.into());
         };
         if text_end > self.room_end {
             self.add_room()?;
@@ -151,18 +152,6 @@ fn zeros(alloc: Global, count: usize) -> Result<Vec<u8>, NoMemory>
     ensures zeros { IfOk result (λ zeros. All (λ byte. byte ≡ 0) zeros.items) }
 {
     Ok(vec![in alloc; 0; count]?)
-}
-
-/// Writes the bytes at the offset, and syncs them if they are to be.
-fn store<F: LineFile>(file: &mut F, syncs: bool, at: u64, bytes: &[u8]) -> Result<(), Failed>
-    ensures ok { OnOk result (F.calls file.new ≡ stored (F.calls file.old) syncs at bytes.now) }
-    ensures err { OnErr result (FailsToStore (F.calls file.old) (F.calls file.new) at bytes.now) }
-{
-    file.write(at, bytes)?;
-    if syncs {
-        file.sync()?;
-    }
-    Ok(())
 }
 
 impl<F: LineFile> Journal for FileJournal<F> {

@@ -1,5 +1,6 @@
 ghost use Rattle.kept_lines.specs.CrashImage.{CrashLeavesLines};
-ghost use Rattle.kept_lines.specs.Replay.{KeepsOrStays, KeptLinesReplay, LinesHaveOneOutcome};
+ghost use Rattle.kept_lines.specs.Replay.{AnswersJoin, KeepsOrStays, KeptLinesReplay};
+ghost use Rattle.kept_lines.specs.Replay.{LinesHaveOneOutcome};
 ghost use Rattle.kept_lines.specs.Text.{LinesJoin};
 
 use super::responder::Responder;
@@ -21,4 +22,9 @@ pub fn lines_join()
 pub fn kept_lines_replay<A: Responder>()
     ensures replay { KeepsOrStays A.answers → KeptLinesReplay A.answers }
     ensures once { LinesHaveOneOutcome A.answers }
+{}
+
+/// A law: lines behind lines are answered after them, from the state that those led to.
+pub fn answers_join<A: Responder>()
+    ensures { AnswersJoin A.answers }
 {}

@@ -3,6 +3,7 @@
 
 mod answer;
 mod batch;
+mod file_head;
 mod file_image;
 mod file_journal;
 mod half_written;
@@ -21,12 +22,13 @@ mod stream_refusal;
 mod text;
 
 pub use answer::{AnswerRefusal, keep_and_write};
+pub use file_head::ensure_head;
 pub use file_image::{FileKind, file_kind};
 pub use file_journal::FileJournal;
 pub use half_written::is_half_written;
 pub use journal::Journal;
 pub use kept_text::{RestoreRefusal, restore};
-pub use laws::{crash_leaves_lines, kept_lines_replay, lines_join};
+pub use laws::{answers_join, crash_leaves_lines, kept_lines_replay, lines_join};
 pub use line_file::LineFile;
 pub use memory::MemJournal;
 pub use no_journal::NoJournal;

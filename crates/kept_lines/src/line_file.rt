@@ -1,7 +1,6 @@
-ghost use Rattle.std.specs.Prelude.{◌≡◌, is_ok};
-ghost use Rattle.kept_lines.specs.FileCalls.{Cut, Sync, Write, noted};
+ghost use Rattle.std.specs.Prelude.{◌≡◌, OnErr, OnOk, is_ok};
+ghost use Rattle.kept_lines.specs.FileCalls.{Cut, FailsToStore, Sync, Write, noted, stored};
 
-use bspl_io::Failed;
 use std::fs::File;
 use std::io;
 use std::os::unix::fs::FileExt;
@@ -21,11 +20,11 @@ pub trait LineFile {
         ensures { calls self.new ≡ noted (calls self.old) (Cut len (is_ok result)) };
 
     /// Writes the bytes at the offset, all of them if it answers `Ok`.
-    fn write(&mut self, at: u64, bytes: &[u8]) -> Result<(), Failed>
+    fn write(&mut self, at: u64, bytes: &[u8]) -> io::Result<()>
         ensures { calls self.new ≡ noted (calls self.old) (Write at bytes.now (is_ok result)) };
 
     /// Waits until all that was written is on the medium.
-    fn sync(&mut self) -> Result<(), Failed>
+    fn sync(&mut self) -> io::Result<()>
         ensures { calls self.new ≡ noted (calls self.old) (Sync (is_ok result)) };
 }
 
@@ -39,17 +38,23 @@ impl LineFile for File {
         self.sync_all()
     }
 
-    fn write(&mut self, at: u64, bytes: &[u8]) -> Result<(), Failed> {
-        match self.write_all_at(bytes, at) {
-            Ok(()) => Ok(()),
-            Err(_) => Err(Failed),
-        }
+    fn write(&mut self, at: u64, bytes: &[u8]) -> io::Result<()> {
+        self.write_all_at(bytes, at)
     }
 
-    fn sync(&mut self) -> Result<(), Failed> {
-        match self.sync_data() {
-            Ok(()) => Ok(()),
-            Err(_) => Err(Failed),
-        }
+    fn sync(&mut self) -> io::Result<()> {
+        self.sync_data()
     }
+}
+
+/// Writes the bytes at the offset, and syncs them if they are to be.
+pub(crate) fn store<F: LineFile>(file: &mut F, syncs: bool, at: u64, bytes: &[u8]) -> io::Result<()>
+    ensures ok { OnOk result (F.calls file.new ≡ stored (F.calls file.old) syncs at bytes.now) }
+    ensures err { OnErr result (FailsToStore (F.calls file.old) (F.calls file.new) at bytes.now) }
+{
+    file.write(at, bytes)?;
+    if syncs {
+        file.sync()?;
+    }
+    Ok(())
 }

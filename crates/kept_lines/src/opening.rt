@@ -1,8 +1,6 @@
 ghost use Rattle.std.specs.Prelude.{◌≡◌, ◌⊎◌, [], IfOk, IsErrOf};
-ghost use Rattle.kept_lines.specs.FileKind.{HasHead};
 ghost use Rattle.kept_lines.specs.Text.{AreTextLines};
 
-use super::file_image::{FileKind, file_kind};
 use super::open_refusal::OpenRefusal;
 use super::opened_journal::OpenedJournal;
 use super::text::text_len;
@@ -24,8 +22,8 @@ const PIECE: usize = 1_048_576;
 /// synced again. In no other case is anything written here. After `Failed` or `NoMemory` a file may
 /// have been made, and hold none or a part of the head.
 ///
-/// Of what is in the file no contract can speak: `file_kind` says what is made of it, and the lines
-/// that are handed out are lines, whatever was read.
+/// Of what is in the file no contract can speak: `OpenedJournal::opened_as` says what is made of
+/// what was read.
 pub fn open_journal(rt: &HostRuntime, path: &str, head: &[u8]) -> Result<OpenedJournal, OpenRefusal>
     ensures head { IfOk result (λ opened. opened.head ≡ head.now) }
     ensures text { ((AreTextLines head.now → ⊥) ⊎ (head.now ≡ [])) →
@@ -37,31 +35,7 @@ pub fn open_journal(rt: &HostRuntime, path: &str, head: &[u8]) -> Result<OpenedJ
     let file = held_file(rt, path)?;
     settle(rt, path, &file)?;
     let image = read_image(rt.alloc(), &file, head.len())?;
-    match file_kind(head, image.as_slice()) {
-        FileKind::Journal => Ok(OpenedJournal::found(file, image, head)),
-        FileKind::Unmade => {
-            write_head(&file, head)?;
-            let image = whole_head(rt.alloc(), head)?;
-            Ok(OpenedJournal::found(file, image, head))
-        }
-        FileKind::Other => Err(OpenRefusal::AnotherJournal),
-    }
-}
-
-/// The image of a file that has the head alone.
-#[tactic(auto, using(crate::proofs::KindLemmas::head_has_itself))]
-fn whole_head(alloc: Global, head: &[u8]) -> Result<Bytes, OpenRefusal>
-    requires { AreTextLines head.now }
-    ensures { IfOk result (λ image. HasHead head.now image) }
-{
-    Ok(Bytes::from_slice(alloc, head)?)
-}
-
-/// Writes the head into the file, in place of all that is there.
-fn write_head(file: &File, head: &[u8]) -> io::Result<()> {
-    file.set_len(0)?;
-    file.write_all_at(head, 0)?;
-    file.sync_all()
+    OpenedJournal::opened_as(rt.alloc(), file, image, head)
 }
 
 /// Opens the regular file, or makes it, and locks it.
