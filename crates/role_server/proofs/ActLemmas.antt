@@ -57,37 +57,37 @@ held_then s new key fresh adds =
       same = adds.first fresh ∙ ap (λ (t : StoreState). record s { keys = t.keys }) (sym (adds.first fresh));
     }
 
--- room for a key that is not held
-pub few_held : (s : StoreState) (key : List Value) → (¬ HasNoRoom s key) → (¬ Contains s.keys key) → length s.keys < 4294967295
-few_held s key room fresh = elim (cases_lt (length s.keys) 10000) [
-  | inl less ↦ omega (arith, less)
+-- room for a key that is not held, if no more may be held than are counted
+pub few_held : (most : ℕ) (s : StoreState) (key : List Value) → most < 4294967296 → (¬ HasNoRoom most s key) → (¬ Contains s.keys key) → length s.keys < 4294967295
+few_held most s key counted room fresh = elim (cases_lt (length s.keys) most) [
+  | inl less ↦ omega (arith, less, counted)
   | inr most ↦ absurd (room (inr (fresh, most)))
 ]
 
 -- and for an event
-pub some_spare : (s : StoreState) (key : List Value) → (¬ HasNoRoom s key) → 0 < s.spare
-some_spare s key room = elim (cases_lt 0 s.spare) [
+pub some_spare : (most : ℕ) (s : StoreState) (key : List Value) → (¬ HasNoRoom most s key) → 0 < s.spare
+some_spare most s key room = elim (cases_lt 0 s.spare) [
   | inl less ↦ less
   | inr none ↦ absurd (room (inl (omega (arith, none))))
 ]
 
 -- the store can do the act
-pub ready : (s held : StoreState) (act : Act) → IsOwn s.protocol s.role act → (¬ HasNoRoom s (act_key act)) → IsBeforeLast s act → HoldsKey s (act_key act) held → IsReady held act
-ready s held (Arrival m) own room before holds =
+pub ready : (most : ℕ) (s held : StoreState) (act : Act) → IsOwn s.protocol s.role act → (¬ HasNoRoom most s (act_key act)) → IsBeforeLast s act → HoldsKey s (act_key act) held → IsReady held act
+ready most s held (Arrival m) own room before holds =
     subst (λ (t : StoreState). IsReady t (Arrival m)) (sym holds.same) (record {
       fits = own.fits;
       own = own.own;
       held = holds.held;
-      spare = some_spare s m.instance.key room;
+      spare = some_spare most s m.instance.key room;
       clock = before.clock;
       stamp = before.stamp;
     })
-ready s held (Attempt message key outs) own room before holds =
+ready most s held (Attempt message key outs) own room before holds =
     subst (λ (t : StoreState). IsReady t (Attempt message key outs)) (sym holds.same) (record {
       proposal = record { held = holds.held; chosen = own.chosen; clock = before.clock };
       known = own.known;
       own = own.own;
-      spare = some_spare s key room;
+      spare = some_spare most s key room;
     })
 
 -- a receipt leaves the role
@@ -105,9 +105,9 @@ keeps_after s held new key holds keeps =
     }
 
 -- a line gets the answer to what it asks for
-pub line_answered : {E : Type 0} (s : StoreState) (line : Line) (act : Act) (result : Result Reply E) (new : StoreState) → AsksFor s.protocol s.role line act → IfOk result (λ reply. AnswersAct s act reply new) → IfOk result (λ reply. Replies s line reply new)
-line_answered s line act (Ok reply) new asks is = answered act asks is
-line_answered s line act (Err error) new asks is = is
+pub line_answered : {E : Type 0} (most : ℕ) (s : StoreState) (line : Line) (act : Act) (result : Result Reply E) (new : StoreState) → AsksFor s.protocol s.role line act → IfOk result (λ reply. AnswersAct most s act reply new) → IfOk result (λ reply. Replies most s line reply new)
+line_answered most s line act (Ok reply) new asks is = answered act asks is
+line_answered most s line act (Err error) new asks is = is
 
 -- a key is held if it has a row
 pub found_held : (s : StoreState) (key : List Value) (row : Option ℕ) → MatchOption row (¬ Contains s.keys key) (λ r. slice_get s.keys r ≡ Some key) → IsSome row ↔ Contains s.keys key

@@ -3,31 +3,48 @@ use Rattle.std.proofs.Common.{◌≡◌, ℕ, ◌<◌, List, [], ◌∷◌, ◌+
 use Rattle.std.specs.List.{Contains}
 use Rattle.std.proofs.lemmas.List.Elements.{All-nil}
 use Rattle.list_base.proofs.Members.{nowhere}
-use Rattle.list_base.specs.Lines.{Line}
 use Rattle.bspl_types.specs.declared.event.Event.{Event}
 use Rattle.bspl_types.specs.declared.expanded.Expanded.{Expanded}
 use Rattle.bspl_types.specs.declared.value.Value.{Value}
 use Rattle.bspl_types.specs.Admission.{IsAdmitted}
 use Rattle.bspl_types.specs.History.{instance_of, role_of}
 use Rattle.bspl_types.specs.Instance.{Fits}
+use Rattle.kept_lines.specs.Answers.{AnswersLines}
+use Rattle.kept_lines.specs.Replay.{LinesHaveOneOutcome}
+use Rattle.list_base.specs.Lines.{Line, lines_of}
 use Rattle.local_store.specs.Consistent.{IsConsistent}
 use Rattle.local_store.specs.State.{StoreState}
 use Rattle.stamped_history.specs.declared.entry.Entry.{Entry}
 use Rattle.stamped_history.specs.Local.{IsLocal, MayFollowAs}
-use Rattle.wire_form.specs.declared.reply.Reply.{Reply}
 use Rattle.wire_form.specs.Reply.{reply_text}
-use Rattle.role_server.specs.Served.{Serves, first_store}
+use Rattle.role_server.specs.Laws.{LinesHaveOneReply, RepliesAreDetermined}
+use Rattle.role_server.specs.Replies.{held_limit}
+use Rattle.role_server.specs.Served.{ServesLine, first_store, tells_event}
 use Rattle.role_server.proofs.OneReply.{LowerLaws, replies_once}
 use Rattle.role_server.proofs.StaysConsistent.{asked_consistent, replies_consistent}
 
--- the replies and the last store are one
-pub serves_once : LowerLaws → (lines : List Line) (s : StoreState) (out other : List ℕ) (end also : StoreState) → IsConsistent s → Serves s lines out end → Serves s lines other also → (out ≡ other) × (end ≡ also)
-serves_once laws [] s out other end also kept one two = (one.0 ∙ sym two.0, one.1 ∙ sym two.1)
-serves_once laws (line ∷ lines) s out other end also kept one two =
-    let first = replies_once laws s line one.2.reply two.2.reply one.0 two.0 kept (asked_consistent laws s line kept) one.2.replies two.2.replies in
-    let next = replies_consistent laws s line one.2.reply one.0 kept one.2.replies in
-    let rest = serves_once laws lines one.0 one.1 two.1 end also next one.3 (subst (λ (t : StoreState). Serves t lines two.1 also) (sym first.1) two.3) in
-    (one.2.text ∙ ap (λ (r : Reply). reply_text s.protocol r ++ one.1) first.0 ∙ ap (λ (more : List ℕ). reply_text s.protocol two.2.reply ++ more) rest.0 ∙ sym two.2.text, rest.1)
+-- after lines the store is consistent again
+lines_consistent : LowerLaws → (lines : List Line) (s : StoreState) (out acts : List ℕ) (now : StoreState) → IsConsistent s → AnswersLines ServesLine s lines out acts now → IsConsistent now
+lines_consistent laws [] s out acts now kept answers = subst IsConsistent (sym answers.2) kept
+lines_consistent laws (line ∷ lines) s out acts now kept answers =
+    let first = answers.3.answer in
+    lines_consistent laws lines answers.0 answers.1 answers.2 now (replies_consistent held_limit laws s line first.reply answers.0 kept first.replies) answers.4
+
+-- so each line has one outcome then
+pub serves_once : LowerLaws → LinesHaveOneReply
+serves_once laws s consistent lines out acts now answers line reply other is_kept also_kept next also one two =
+    let kept = lines_consistent laws lines s out acts now consistent answers in
+    let same = replies_once held_limit laws now line one.reply two.reply next also kept (asked_consistent laws now line kept) one.replies two.replies in (
+      one.text_is ∙ ap (reply_text now.protocol) same.0 ∙ sym two.text_is,
+      one.kept_is ∙ ap tells_event same.0 ∙ sym two.kept_is,
+      same.1,
+    )
+
+-- and so have all lines
+pub served_once : LinesHaveOneOutcome ServesLine → LowerLaws → RepliesAreDetermined
+served_once lines laws s bytes out other end also consistent one two =
+    let same = lines s (lines_of bytes) out other one.0 two.0 end also (serves_once laws s consistent) one.1 two.1 in
+    (same.0, same.2)
 
 -- no entry comes before another in none
 none_follows : (x : Expanded) (before after : List Entry) (e : Entry) → [] ≡ before ++ e ∷ after → MayFollowAs x before e.event e.stamp e.number

@@ -1,7 +1,5 @@
 pub mod ActLemmas
-pub mod ServedLemmas
-pub mod SessionLemmas
-pub mod ComingLemmas
+pub mod StreamLemmas
 pub mod OneReceipt
 pub mod OneEmission
 pub mod OneReply

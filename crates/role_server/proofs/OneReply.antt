@@ -88,16 +88,16 @@ acts_once law held (Attempt message key outs) reply reply' new new' kept (inr on
 acts_once law held (Attempt message key outs) reply reply' new new' kept (inr one) (inr two) = blocks_once law held message key reply reply' new new' kept one two
 
 -- it is answered in one way, if the store that holds its key is consistent
-answers_once : LowerLaws → (s : StoreState) (act : Act) (reply reply' : Reply) (new new' : StoreState) → ((held : StoreState) → AddsKey s (act_key act) held → IsConsistent held) → AnswersAct s act reply new → AnswersAct s act reply' new' → IsSame reply new reply' new'
-answers_once laws s act reply reply' new new' keeps (no_room none is same) (no_room none' is' same') = (is ∙ sym is', same ∙ sym same')
-answers_once laws s act reply reply' new new' keeps (no_room none is same) (last room at is' same') = absurd (room none)
-answers_once laws s act reply reply' new new' keeps (no_room none is same) (done room before d) = absurd (room none)
-answers_once laws s act reply reply' new new' keeps (last room at is same) (no_room none is' same') = absurd (room none)
-answers_once laws s act reply reply' new new' keeps (last room at is same) (last room' at' is' same') = (is ∙ sym is', same ∙ sym same')
-answers_once laws s act reply reply' new new' keeps (last room at is same) (done room' before d) = absurd (before at)
-answers_once laws s act reply reply' new new' keeps (done room before d) (no_room none is' same') = absurd (room none)
-answers_once laws s act reply reply' new new' keeps (done room before d) (last room' at is' same') = absurd (before at)
-answers_once laws s act reply reply' new new' keeps (done room before d) (done room' before' d') =
+answers_once : (most : ℕ) → LowerLaws → (s : StoreState) (act : Act) (reply reply' : Reply) (new new' : StoreState) → ((held : StoreState) → AddsKey s (act_key act) held → IsConsistent held) → AnswersAct most s act reply new → AnswersAct most s act reply' new' → IsSame reply new reply' new'
+answers_once most laws s act reply reply' new new' keeps (no_room none is same) (no_room none' is' same') = (is ∙ sym is', same ∙ sym same')
+answers_once most laws s act reply reply' new new' keeps (no_room none is same) (last room at is' same') = absurd (room none)
+answers_once most laws s act reply reply' new new' keeps (no_room none is same) (done room before d) = absurd (room none)
+answers_once most laws s act reply reply' new new' keeps (last room at is same) (no_room none is' same') = absurd (room none)
+answers_once most laws s act reply reply' new new' keeps (last room at is same) (last room' at' is' same') = (is ∙ sym is', same ∙ sym same')
+answers_once most laws s act reply reply' new new' keeps (last room at is same) (done room' before d) = absurd (before at)
+answers_once most laws s act reply reply' new new' keeps (done room before d) (no_room none is' same') = absurd (room none)
+answers_once most laws s act reply reply' new new' keeps (done room before d) (last room' at is' same') = absurd (before at)
+answers_once most laws s act reply reply' new new' keeps (done room before d) (done room' before' d') =
     let held = adds_once laws.keys s (act_key act) d.held d'.held d.adds d'.adds in
     acts_once laws.blocks d'.held act reply reply' new new' (keeps d'.held d'.adds) (subst (λ (h : StoreState). Acts h act reply new) held d.acts) d'.acts
 
@@ -108,15 +108,15 @@ not_in_vain law s line act asks vain =
     vain.nothing act (subst (λ (r : Request). Means s.protocol s.role r act) same asks.means)
 
 -- a line gets one reply, if each store that holds the key of its act is consistent
-pub replies_once : LowerLaws → (s : StoreState) (line : Line) (reply reply' : Reply) (new new' : StoreState) → IsConsistent s → ((act : Act) (held : StoreState) → AsksFor s.protocol s.role line act → AddsKey s (act_key act) held → IsConsistent held) → Replies s line reply new → Replies s line reply' new' → IsSame reply new reply' new'
-replies_once laws s line reply reply' new new' kept keeps (nothing none is same) (nothing none' is' same') = (is ∙ sym is', same ∙ sym same')
-replies_once laws s line reply reply' new new' kept keeps (nothing none is same) (in_vain vain is' same') = absurd (none vain.request vain.asks)
-replies_once laws s line reply reply' new new' kept keeps (nothing none is same) (answered act asks answers) = absurd (none asks.request asks.asks)
-replies_once laws s line reply reply' new new' kept keeps (in_vain vain is same) (nothing none is' same') = absurd (none vain.request vain.asks)
-replies_once laws s line reply reply' new new' kept keeps (in_vain vain is same) (in_vain vain' is' same') = (is ∙ sym is', same ∙ sym same')
-replies_once laws s line reply reply' new new' kept keeps (in_vain vain is same) (answered act asks answers) = absurd (not_in_vain laws.asks s line act asks vain)
-replies_once laws s line reply reply' new new' kept keeps (answered act asks answers) (nothing none is' same') = absurd (none asks.request asks.asks)
-replies_once laws s line reply reply' new new' kept keeps (answered act asks answers) (in_vain vain is' same') = absurd (not_in_vain laws.asks s line act asks vain)
-replies_once laws s line reply reply' new new' kept keeps (answered act asks answers) (answered act' asks' answers') =
+pub replies_once : (most : ℕ) → LowerLaws → (s : StoreState) (line : Line) (reply reply' : Reply) (new new' : StoreState) → IsConsistent s → ((act : Act) (held : StoreState) → AsksFor s.protocol s.role line act → AddsKey s (act_key act) held → IsConsistent held) → Replies most s line reply new → Replies most s line reply' new' → IsSame reply new reply' new'
+replies_once most laws s line reply reply' new new' kept keeps (nothing none is same) (nothing none' is' same') = (is ∙ sym is', same ∙ sym same')
+replies_once most laws s line reply reply' new new' kept keeps (nothing none is same) (in_vain vain is' same') = absurd (none vain.request vain.asks)
+replies_once most laws s line reply reply' new new' kept keeps (nothing none is same) (answered act asks answers) = absurd (none asks.request asks.asks)
+replies_once most laws s line reply reply' new new' kept keeps (in_vain vain is same) (nothing none is' same') = absurd (none vain.request vain.asks)
+replies_once most laws s line reply reply' new new' kept keeps (in_vain vain is same) (in_vain vain' is' same') = (is ∙ sym is', same ∙ sym same')
+replies_once most laws s line reply reply' new new' kept keeps (in_vain vain is same) (answered act asks answers) = absurd (not_in_vain laws.asks s line act asks vain)
+replies_once most laws s line reply reply' new new' kept keeps (answered act asks answers) (nothing none is' same') = absurd (none asks.request asks.asks)
+replies_once most laws s line reply reply' new new' kept keeps (answered act asks answers) (in_vain vain is' same') = absurd (not_in_vain laws.asks s line act asks vain)
+replies_once most laws s line reply reply' new new' kept keeps (answered act asks answers) (answered act' asks' answers') =
     let same = laws.acts s.protocol s.role line act act' kept.admitted asks asks' in
-    answers_once laws s act' reply reply' new new' (λ held adds. keeps act' held asks' adds) (subst (λ (a : Act). AnswersAct s a reply new) same answers) answers'
+    answers_once most laws s act' reply reply' new new' (λ held adds. keeps act' held asks' adds) (subst (λ (a : Act). AnswersAct most s a reply new) same answers) answers'

@@ -1,5 +1,5 @@
 -- What a line asks for leaves the store consistent.
-use Rattle.std.proofs.Common.{◌≡◌, ◌≢◌, ℕ, ◌+◌, ◌-◌, ◌<◌, List, [], ◌∷◌, ◌++◌, length, max, sym, subst, arith, inl, inr, length-append}
+use Rattle.std.proofs.Common.{◌≡◌, ◌≢◌, ℕ, ◌+◌, ◌<◌, List, [], ◌∷◌, ◌++◌, length, max, sym, subst, arith, inl, inr, length-append}
 use Rattle.std.specs.List.{Contains}
 use Rattle.std.proofs.lemmas.List.Elements.{All-push, All-weaker, Contains-append_left, Contains-get_or}
 use Rattle.std.proofs.lemmas.List.Quantifiers.{all_pairs_push}
@@ -90,21 +90,21 @@ acts_consistent laws held (Attempt message key outs) reply new kept spare has ow
 acts_consistent laws held (Attempt message key outs) reply new kept spare has own (inr b) = subst IsConsistent (sym b.same) kept
 
 -- what was answered
-answers_consistent : LowerLaws → (s : StoreState) (act : Act) (reply : Reply) (new : StoreState) → IsConsistent s → IsOwn s.protocol s.role act → AnswersAct s act reply new → IsConsistent new
-answers_consistent laws s act reply new kept own (no_room none is same) = subst IsConsistent (sym same) kept
-answers_consistent laws s act reply new kept own (last room at is same) = subst IsConsistent (sym same) kept
-answers_consistent laws s act reply new kept own (done room before d) =
+answers_consistent : (most : ℕ) → LowerLaws → (s : StoreState) (act : Act) (reply : Reply) (new : StoreState) → IsConsistent s → IsOwn s.protocol s.role act → AnswersAct most s act reply new → IsConsistent new
+answers_consistent most laws s act reply new kept own (no_room none is same) = subst IsConsistent (sym same) kept
+answers_consistent most laws s act reply new kept own (last room at is same) = subst IsConsistent (sym same) kept
+answers_consistent most laws s act reply new kept own (done room before d) =
     let has = holds laws.keys s (act_key act) d.held d.adds in
     let held = held_consistent laws.keys s (act_key act) d.held kept (own_key s.protocol s.role act own) d.adds in
-    let spare = subst (λ (t : StoreState). 0 < t.spare) (sym has.same) (some_spare s (act_key act) room) in
+    let spare = subst (λ (t : StoreState). 0 < t.spare) (sym has.same) (some_spare most s (act_key act) room) in
     let own_too = subst (λ (t : StoreState). IsOwn t.protocol t.role act) (sym has.same) own in
     acts_consistent laws d.held act reply new held spare has.held own_too d.acts
 
 -- so is the store after each line
-pub replies_consistent : LowerLaws → (s : StoreState) (line : Line) (reply : Reply) (new : StoreState) → IsConsistent s → Replies s line reply new → IsConsistent new
-replies_consistent laws s line reply new kept (nothing none is same) = subst IsConsistent (sym same) kept
-replies_consistent laws s line reply new kept (in_vain vain is same) = subst IsConsistent (sym same) kept
-replies_consistent laws s line reply new kept (answered act asks answers) = answers_consistent laws s act reply new kept (own_act s.protocol s.role line act asks) answers
+pub replies_consistent : (most : ℕ) → LowerLaws → (s : StoreState) (line : Line) (reply : Reply) (new : StoreState) → IsConsistent s → Replies most s line reply new → IsConsistent new
+replies_consistent most laws s line reply new kept (nothing none is same) = subst IsConsistent (sym same) kept
+replies_consistent most laws s line reply new kept (in_vain vain is same) = subst IsConsistent (sym same) kept
+replies_consistent most laws s line reply new kept (answered act asks answers) = answers_consistent most laws s act reply new kept (own_act s.protocol s.role line act asks) answers
 
 -- and the store that holds the key of what a line asks for
 pub asked_consistent : LowerLaws → (s : StoreState) (line : Line) → IsConsistent s → (act : Act) (held : StoreState) → AsksFor s.protocol s.role line act → AddsKey s (act_key act) held → IsConsistent held

@@ -1,5 +1,5 @@
 -- How far a role comes with a source and a sink, when nothing is kept.
-use Rattle.std.specs.Prelude.{◌≡◌, ℕ, List, Option, None, Result, IsErrOf}
+use Rattle.std.specs.Prelude.{ℕ, List, Option, None, Result, IsErrOf}
 use Rattle.bspl_io.specs.Faults.{FaultCounts}
 use Rattle.bspl_io.specs.Traffic.{Traffic}
 use Rattle.bspl_types.specs.Limits.{input_limit}

@@ -1,4 +1,4 @@
-ghost use Rattle.std.specs.Prelude.{◌≡◌, ◌↔◌, ◌++◌, ◌∷◌, [], length, IfOk, IsSome, IsTrue, OnErr, OnOk};
+ghost use Rattle.std.specs.Prelude.{◌≡◌, ◌↔◌, ◌<◌, ◌++◌, ◌∷◌, [], length, IfOk, IsSome, IsTrue, OnErr, OnOk};
 ghost use Rattle.std.specs.List.{Contains};
 ghost use Rattle.role_server.specs.Replies.{Acts, AnswersAct, HasNoRoom, IsLast, KeepsRole, Replies, act_key, stamp_of};
 ghost use Rattle.role_server.specs.inner.Acts.{HoldsKey, IsBeforeLast, IsOwn, IsReady};
@@ -33,7 +33,7 @@ pub fn answer_line(
 }
 
 /// Answers what a line asks for.
-#[tactic(auto, using(crate::proofs::ActLemmas::own_key, crate::proofs::ActLemmas::found_held, crate::proofs::ActLemmas::ready, crate::proofs::ActLemmas::keeps_after))]
+#[tactic(auto, using(crate::proofs::ActLemmas::own_key, crate::proofs::ActLemmas::found_held, crate::proofs::ActLemmas::few_held, crate::proofs::ActLemmas::ready, crate::proofs::ActLemmas::keeps_after))]
 fn answer_act(store: &mut Store, most_keys: u32, act: &Act) -> Result<Reply, NoMemory>
     requires { IsOwn store.old.protocol store.old.role act.now }
     ensures reply { IfOk result (λ reply.
@@ -91,7 +91,7 @@ fn stamp_of(act: &Act) -> u64
 }
 
 /// Makes the key held, for which there is room.
-#[tactic(auto, using(crate::proofs::ActLemmas::held_before, crate::proofs::ActLemmas::held_then, crate::proofs::ActLemmas::few_held))]
+#[tactic(auto, using(crate::proofs::ActLemmas::held_before, crate::proofs::ActLemmas::held_then))]
 fn hold(store: &mut Store, key: &Key, row: Option<usize>) -> Result<(), NoMemory>
     requires row { IsSome row ↔ Contains store.old.keys key.now }
     requires whole { length key.now ≡ length store.old.protocol.keys }

@@ -4,7 +4,8 @@
 mod answer;
 mod laws;
 mod refusal;
-mod session;
+mod reply;
+mod served_role;
 mod stream;
 
 pub use answer::answer_line;

@@ -1,4 +1,8 @@
-use bspl_io::{Failed, WriteRefusal};
+ghost use Rattle.std.specs.Prelude.{◌≡◌, ◌≢◌};
+ghost use Rattle.kept_lines.specs.declared.stream_refusal.StreamRefusal.TheVariants.{JournalFault};
+ghost use Rattle.role_server.specs.Stream.{stream_end};
+
+use kept_lines::StreamRefusal;
 use list_base::NoMemory;
 
 /// Why a stream was not served to its end.
@@ -14,17 +18,6 @@ pub enum ServeRefusal {
     NoMemory,
 }
 
-impl From<Failed> for ServeRefusal {
-    ghost use Rattle.std.specs.Prelude.{◌≡◌};
-    ghost use Rattle.role_server.specs.declared.refusal.ServeRefusal.TheVariants.{ReadFault};
-
-    ghost from_gives = { λ _ refusal. refusal ≡ ReadFault };
-
-    fn from(_failed: Failed) -> ServeRefusal {
-        ServeRefusal::ReadFault
-    }
-}
-
 impl From<NoMemory> for ServeRefusal {
     ghost use Rattle.std.specs.Prelude.{◌≡◌};
     ghost use Rattle.role_server.specs.declared.refusal.ServeRefusal.TheVariants.{NoMemory};
@@ -36,16 +29,16 @@ impl From<NoMemory> for ServeRefusal {
     }
 }
 
-impl From<WriteRefusal> for ServeRefusal {
-    ghost use Rattle.std.specs.Prelude.{◌≡◌};
-    ghost use Rattle.role_server.specs.Refusal.{serve_refusal};
-
-    ghost from_gives = { λ written refusal. refusal ≡ serve_refusal written };
-
-    fn from(refusal: WriteRefusal) -> ServeRefusal {
-        match refusal {
-            WriteRefusal::WriteFault => ServeRefusal::WriteFault,
-            WriteRefusal::NoMemory => ServeRefusal::NoMemory,
-        }
+/// The refusal of a stream without a journal.
+pub(crate) fn serve_refusal(refusal: StreamRefusal) -> ServeRefusal
+    requires { refusal ≢ JournalFault }
+    ensures { stream_end result ≡ refusal }
+{
+    match refusal {
+        StreamRefusal::ReadFault => ServeRefusal::ReadFault,
+        StreamRefusal::JournalFault => unreachable!(),
+        StreamRefusal::WriteFault => ServeRefusal::WriteFault,
+        StreamRefusal::TooLong => ServeRefusal::TooLong,
+        StreamRefusal::NoMemory => ServeRefusal::NoMemory,
     }
 }

@@ -14,4 +14,4 @@ returns-in-Meant-clause-reply c =
     let of_role = subst (λ (role : ℕ). IsLineReading c.admitted.result.now role line c.in_ok-read.field-0) c.role.ensures c.in_ok-read.ensures in
     let read = subst (λ (x : Expanded). IsLineReading x c.args.store.now.role line c.in_ok-read.field-0) c.admitted.ensures of_role in
     let asks : AsksFor c.args.store.now.protocol c.args.store.now.role line c.in-Meant.act = subst (λ (r : Reading). IsLineReading c.args.store.now.protocol c.args.store.now.role line r) c.in-Meant.is read in
-    line_answered c.args.store.now line c.in-Meant.act c.answer_act.result c.answer_act.new.store asks c.answer_act.ensures.reply
+    line_answered c.args.most_keys c.args.store.now line c.in-Meant.act c.answer_act.result c.answer_act.new.store asks c.answer_act.ensures.reply
