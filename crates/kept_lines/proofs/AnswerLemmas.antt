@@ -1,10 +1,12 @@
 -- Lines that are answered one after another.
 use Rattle.std.proofs.Common.{◌≡◌, ◌≢◌, ℕ, Bool, true, false, List, [], ◌∷◌, ◌++◌, refl, sym, ap, subst, ◌∙◌, append-nil, append_assoc, inr}
+use Rattle.std.specs.List.{AllByRecursion}
 use Rattle.list_base.proofs.Separators.{Lacks, lines-open, lines-then}
 use Rattle.list_base.specs.Lines.{Line, lines_of}
 use Rattle.kept_lines.specs.Answers.{AnswersLines, AnswersNext, LeavesUnread, LineRule, StartsWithLines, kept_of}
-use Rattle.kept_lines.specs.Replay.{AnswersJoin, AnswersOnceFrom, IsWholeLine, KeepsOrStays, KeptLinesReplay, LinesHaveOneOutcome}
+use Rattle.kept_lines.specs.Replay.{AnswersJoin, AnswersOnceFrom, EndsWithLf, KeepsOrStays, KeptLinesReplay, LinesHaveOneOutcome}
 use Rattle.kept_lines.specs.inner.Coming.{AnsweredUpTo, last_unread}
+use Rattle.kept_lines.proofs.LineLemmas.{HasOneLf, first_have_one, lines_have_one}
 
 -- more bytes come
 pub starts_longer : (bytes rest piece : List ℕ) (lines : List Line)
@@ -119,37 +121,45 @@ module _ {S : Type 0} (answers : LineRule S) where
 
   -- one line before those that are replayed
   replays_line : KeepsOrStays answers → (s next end : S) (line : Line) (reply again acts later : List ℕ)
-      (is_kept : Bool) → answers s line reply is_kept next → acts ≡ kept_of line is_kept ++ later
-      → AnswersLines answers next (lines_of later) again later end
+      (is_kept : Bool) → HasOneLf line → answers s line reply is_kept next
+      → acts ≡ kept_of line is_kept ++ later → AnswersLines answers next (lines_of later) again later end
       → (all : List ℕ) × AnswersLines answers s (lines_of acts) all acts end
-  replays_line rule s next end line reply again acts later true answer is rest =
-      let whole : IsWholeLine line = rule.keeps s line reply next answer in
+  replays_line rule s next end line reply again acts later true one answer is rest =
+      let whole : EndsWithLf line = rule.keeps s line reply next answer in
       let first : lines_of (line ++ later) ≡ line ∷ lines_of later =
-      ap (λ (l : List ℕ). lines_of (l ++ later)) whole.ended
-      ∙ ap lines_of (append_assoc whole.body (10 ∷ []) later)
-      ∙ lines-then whole.body later whole.unended
-      ∙ ap (λ (l : List ℕ). l ∷ lines_of later) (sym whole.ended) in
+      ap (λ (l : List ℕ). lines_of (l ++ later)) whole.1
+      ∙ ap lines_of (append_assoc whole.0 (10 ∷ []) later)
+      ∙ lines-then whole.0 later (one whole.0 whole.1)
+      ∙ ap (λ (l : List ℕ). l ∷ lines_of later) (sym whole.1) in
       let all : AnswersLines answers s (line ∷ lines_of later) (reply ++ again) (line ++ later) end =
       (next, again, later, record { reply = reply; is_kept = true; answer = answer; written = refl; kept = refl }, rest) in (
         reply ++ again,
         subst (λ (a : List ℕ). AnswersLines answers s (lines_of a) (reply ++ again) a end) (sym is)
             (subst (λ (l : List Line). AnswersLines answers s l (reply ++ again) (line ++ later) end) (sym first) all),
       )
-  replays_line rule s next end line reply again acts later false answer is rest =
+  replays_line rule s next end line reply again acts later false one answer is rest =
       let same : next ≡ s = rule.stays s line reply next answer in (
         again,
         subst (λ (a : List ℕ). AnswersLines answers s (lines_of a) again a end) (sym is)
             (subst (λ (t : S). AnswersLines answers t (lines_of later) again later end) same rest),
       )
 
-  -- what was kept leads to the same state
-  pub replays : KeepsOrStays answers → KeptLinesReplay answers
-  replays rule s [] out acts end done =
+  -- what was kept of lines that are one each leads to the same state
+  replays_lines : KeepsOrStays answers → (s : S) (lines : List Line) (out acts : List ℕ) (end : S)
+      → AllByRecursion HasOneLf lines → AnswersLines answers s lines out acts end
+      → (again : List ℕ) × AnswersLines answers s (lines_of acts) again acts end
+  replays_lines rule s [] out acts end ones done =
       ([], subst (λ (a : List ℕ). AnswersLines answers s (lines_of a) [] a end) (sym done.1) (refl, refl, done.2))
-  replays rule s (line ∷ lines) out acts end done =
+  replays_lines rule s (line ∷ lines) out acts end ones done =
       let step : AnswersNext answers s line out acts done.1 done.2 done.0 = done.3 in
-      let rest = replays rule done.0 lines done.1 done.2 end done.4 in
-      replays_line rule s done.0 end line step.reply rest.0 acts done.2 step.is_kept step.answer step.kept rest.1
+      let rest = replays_lines rule done.0 lines done.1 done.2 end ones.1 done.4 in
+      replays_line rule s done.0 end line step.reply rest.0 acts done.2 step.is_kept ones.0 step.answer step.kept rest.1
+
+  -- and so does what was kept of the first lines of a text
+  pub replays : KeepsOrStays answers → KeptLinesReplay answers
+  replays rule s text lines later out acts end split done =
+      let ones : AllByRecursion HasOneLf (lines ++ later) = subst (AllByRecursion HasOneLf) split (lines_have_one text) in
+      replays_lines rule s lines out acts end (first_have_one lines later ones) done
 
   -- lines have one outcome
   pub one_outcome : LinesHaveOneOutcome answers

@@ -3,6 +3,7 @@ mod ComingLemmas
 mod CrashLemmas
 mod HalfLemmas
 mod KindLemmas
+mod LineLemmas
 mod PieceLemmas
 mod RefusalLemmas
 mod RestoreLemmas

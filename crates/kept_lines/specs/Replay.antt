@@ -1,26 +1,25 @@
 -- What was kept of lines, answered again.
-use Rattle.std.specs.Prelude.{◌≡◌, ◌≢◌, ℕ, Bool, true, false, List, [], ◌∷◌, ◌++◌, All}
+use Rattle.std.specs.Prelude.{◌≡◌, ℕ, Bool, true, false, List, [], ◌∷◌, ◌++◌}
 use Rattle.list_base.specs.Lines.{Line, lines_of}
 use Rattle.kept_lines.specs.Answers.{AnswersLines, LineRule}
 
--- the line has one LF, at its end
-pub record IsWholeLine (line : Line) : Type 0 where
-  pub body : List ℕ
-  pub unended : All (λ byte. byte ≢ 10) body
-  pub ended : line ≡ body ++ 10 ∷ []
+-- the line has its LF
+abbrev pub EndsWithLf : Line → Type 0
+EndsWithLf line = (body : List ℕ) × (line ≡ body ++ 10 ∷ [])
 
 -- a line that is kept has its LF, and one that is not kept leaves the state as it is
 pub record KeepsOrStays {S : Type 0} (answers : LineRule S) : Type 0 where
   pub keeps : (s : S) (line : Line) (reply : List ℕ) (next : S) → answers s line reply true next →
-      IsWholeLine line
+      EndsWithLf line
   pub stays : (s : S) (line : Line) (reply : List ℕ) (next : S) → answers s line reply false next →
       next ≡ s
 
--- what was kept of lines, answered again, is all kept again, and leads to the same state
+-- what was kept of the first lines of a text, answered again, is all kept again, and leads to the
+-- same state
 abbrev pub KeptLinesReplay : {S : Type 0} → LineRule S → Type 0
 KeptLinesReplay {S} answers =
-    (s : S) (lines : List Line) (out acts : List ℕ) (end : S) →
-    AnswersLines answers s lines out acts end →
+    (s : S) (text : List ℕ) (lines later : List Line) (out acts : List ℕ) (end : S) →
+    lines_of text ≡ lines ++ later → AnswersLines answers s lines out acts end →
     (again : List ℕ) × AnswersLines answers s (lines_of acts) again acts end
 
 -- from this state on, wherever lines lead, a line has one outcome

@@ -16,9 +16,9 @@ pub fn lines_join()
     ensures { LinesJoin }
 {}
 
-/// A law: what was kept of lines, answered again, is all kept again, and leads to the same state,
-/// if each line is kept, as one line with its LF, or leaves the state as it is; lines have one
-/// outcome, if each of them has.
+/// A law: what was kept of the first lines of a text, answered again, is all kept again, and leads
+/// to the same state, if each line that is kept has its LF and each other leaves the state as it
+/// is; lines have one outcome, if each of them has.
 pub fn kept_lines_replay<A: Responder>()
     ensures replay { KeepsOrStays A.answers → KeptLinesReplay A.answers }
     ensures once { LinesHaveOneOutcome A.answers }
