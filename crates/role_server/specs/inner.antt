@@ -1,2 +1,4 @@
 -- What only private functions cite.
 pub mod Acts
+pub mod LiveActs
+pub mod LiveUnread
