@@ -5,3 +5,7 @@ pub mod OneEmission
 pub mod OneReply
 pub mod StaysConsistent
 pub mod Determined
+pub mod LiveLemmas
+pub mod LiveEvents
+pub mod LiveAnswers
+pub mod LiveLaws

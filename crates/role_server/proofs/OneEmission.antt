@@ -123,7 +123,7 @@ one_emission s message key outs m n one_value one two =
     λ i. record { instance = record { message = messages i; key = keys i; values = values i }; stamp = stamps i; number = counts i }
 
 -- what is known first is known
-known_from_first : (x : Expanded) (history : List Event) (key : List Value) (p : ℕ) (v : Value) → IsFirstKnown x history key p v → IsKnown x history key p
+pub known_from_first : (x : Expanded) (history : List Event) (key : List Value) (p : ℕ) (v : Value) → IsFirstKnown x history key p v → IsKnown x history key p
 known_from_first x history key p v f =
     let event = f.knows.event in
     let here_it_is = here_same f.event f.after event (only f.event event f.knows.among) in (

@@ -5,4 +5,5 @@ pub mod Served
 pub mod Stream
 pub mod Live
 pub mod Laws
+pub mod LiveLaws
 pub mod inner

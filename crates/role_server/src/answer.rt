@@ -54,7 +54,7 @@ fn answer_act(store: &mut Store, most_keys: u32, act: &Act) -> Result<Reply, NoM
 }
 
 /// The key under which the act is.
-fn key_of(act: &Act) -> &Key
+pub(crate) fn key_of(act: &Act) -> &Key
     ensures { result.now ≡ act_key act.now }
 {
     match act {
@@ -72,7 +72,7 @@ fn has_no_room(store: &Store, most_keys: u32, key: &Key, row: Option<usize>) -> 
 }
 
 /// Whether the clock, or the stamp that comes, is at its last value.
-fn is_last(store: &Store, act: &Act) -> bool
+pub(crate) fn is_last(store: &Store, act: &Act) -> bool
     ensures exact { IsTrue result ↔ IsLast store.now act.now }
     ensures before { ¬ IsTrue result → IsBeforeLast store.now act.now }
 {
@@ -107,7 +107,7 @@ fn hold(store: &mut Store, key: &Key, row: Option<usize>) -> Result<(), NoMemory
 
 /// Does the act, and gives the reply to it.
 #[tactic(auto, using(crate::proofs::ActLemmas::receipt_keeps))]
-fn reply_to(store: &mut Store, act: &Act) -> Reply
+pub(crate) fn reply_to(store: &mut Store, act: &Act) -> Reply
     requires { IsReady store.old act.now }
     ensures reply { Acts store.old act.now result store.new }
     ensures role { KeepsRole store.old store.new }
