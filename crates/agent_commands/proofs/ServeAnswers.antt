@@ -91,10 +91,11 @@ empty_front (b ∷ front) rest is = absurd (cc)
 -- what was served from bytes in memory alone
 pub all_replied : (store end : StoreState) (lines source sink text rest : List ℕ) → source ≡ [] → sink ≡ [] → ServesAll store lines (record { remaining = Some source; remaining_after = Some rest; contents = Some sink; contents_after = Some text }) end → AreReplies store lines text
 all_replied store end lines source sink text rest no_source no_sink all =
-    let none : all.bytes ≡ [] = empty_front all.bytes rest (sym all.taken ∙ no_source) in
-    let whole : lines ++ all.bytes ≡ lines = ap (λ (t : List ℕ). lines ++ t) none ∙ append-nil lines in
-    let out : all.out ≡ text = sym (all.written ∙ ap (λ (t : List ℕ). t ++ all.out) no_sink) in
-    (end, subst (λ (t : List ℕ). Served store lines t end) out (subst (λ (t : List ℕ). Served store t all.out end) whole all.served))
+    let none : all.flowed.bytes ≡ [] = empty_front all.flowed.bytes rest (sym all.flowed.taken ∙ no_source) in
+    let whole : lines ++ all.flowed.bytes ≡ lines = ap (λ (t : List ℕ). lines ++ t) none ∙ append-nil lines in
+    let out : all.flowed.out ≡ text = sym (all.written ∙ ap (λ (t : List ℕ). t ++ all.flowed.out) no_sink) in
+    let served : Served store (lines ++ all.flowed.bytes) all.flowed.out all.flowed.now = (all.flowed.acts, rw all.all at all.flowed.answered) in
+    (all.flowed.now, subst (λ (t : List ℕ). Served store lines t all.flowed.now) out (subst (λ (t : List ℕ). Served store t all.flowed.out all.flowed.now) whole served))
 
 -- a counter that stays at 0 has counted nothing
 pub nothing_counted : ¬ HasCounted 0 0
@@ -103,7 +104,7 @@ nothing_counted counted = ⊎_elim (λ rose. omega (arith, rose)) (λ (full : (0
 -- lines that are no more than may come, and nothing after them, are not too long
 pub never_too_long : (store : StoreState) (lines source sink text rest : List ℕ) → source ≡ [] → length lines ≤ input_limit → ¬ Stops store lines (record { remaining = Some source; remaining_after = Some rest; contents = Some sink; contents_after = Some text }) TooLong
 never_too_long store lines source sink text rest no_source short stops =
-    let first = stops.0 in
-    let none : first.bytes ≡ [] = empty_front first.bytes rest (sym first.taken ∙ no_source) in
-    let whole : length (lines ++ first.bytes) ≡ length lines = ap (λ (t : List ℕ). length (lines ++ t)) none ∙ ap length (append-nil lines) in
+    let flowed = stops.0.flowed in
+    let none : flowed.bytes ≡ [] = empty_front flowed.bytes rest (sym flowed.taken ∙ no_source) in
+    let whole : length (lines ++ flowed.bytes) ≡ length lines = ap (λ (t : List ℕ). length (lines ++ t)) none ∙ ap length (append-nil lines) in
     omega (arith, short, stops.1, whole)

@@ -9,10 +9,10 @@ returns-in-Ok c =
     all_replied c.args.store c.in-Ok.field-0 c.args.lines.now c.new-nothing.result c.args.replies.now c.serve_from.new.output c.serve_from.new.input nothing c.requires.empty c.in-Ok.ensures.ok
 
 pub unreachable-requires : goal.unreachable-requires
-unreachable-requires c = nothing_counted (c.in-Err-ReadFault.ensures.faults.read (ap Err c.in-Err-ReadFault.field-0-is))
+unreachable-requires c = nothing_counted (c.in-Err-ReadFault.ensures.faults.read.counted (ap Err c.in-Err-ReadFault.field-0-is))
 
 pub unreachable-requires-in-Err-WriteFault : goal.unreachable-requires-in-Err-WriteFault
-unreachable-requires-in-Err-WriteFault c = nothing_counted (c.in-Err-WriteFault.ensures.faults.write (ap Err c.in-Err-WriteFault.field-0-is))
+unreachable-requires-in-Err-WriteFault c = nothing_counted (c.in-Err-WriteFault.ensures.faults.write.counted (ap Err c.in-Err-WriteFault.field-0-is))
 
 pub unreachable-requires-in-Err-TooLong : goal.unreachable-requires-in-Err-TooLong
 unreachable-requires-in-Err-TooLong c =
