@@ -51,6 +51,14 @@ impl Store {
         self.near_row(key, guess)
     }
 
+    /// The key of the row.
+    pub fn key_at(&self, row: usize) -> Key
+        requires { row < length self.now.keys }
+        ensures { slice_get self.now.keys row ≡ Some result }
+    {
+        self.keys.at(row)
+    }
+
     /// Whether the message was emitted under the row's key.
     pub fn emitted_at(&self, row: usize, message: u32) -> bool
         requires { row < length self.now.keys }
