@@ -1,6 +1,6 @@
 ghost use Rattle.std.specs.Prelude.{◌≡◌, ◌<◌, length, IfOk};
 ghost use Rattle.local_store.specs.Consistent.{IsConsistent};
-ghost use Rattle.role_server.specs.Live.{first_live_store};
+ghost use Rattle.role_server.specs.Live.{first_live_store, with_live_room};
 
 use super::live_reply::reply_live;
 use super::reply::{push_text, push_told};
@@ -40,6 +40,13 @@ impl LiveRole {
             reader: LineReader::new(alloc),
             store: Store::new(alloc, a, role)?,
         })
+    }
+
+    /// Lends the role's store. Contracts see it with all the room that a live role may use.
+    pub fn store(&self) -> &Store
+        ensures { with_live_room result.now ≡ self.now }
+    {
+        &self.store
     }
 
     /// A law: what is known of a role is a consistent store.

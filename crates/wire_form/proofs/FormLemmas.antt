@@ -4,7 +4,8 @@ use Rattle.serde_json.specs.Data.{Data, Items, string}
 use Rattle.serde_json.specs.View.{items_of, items_view, members_view}
 use Rattle.serde_json.specs.declared.value.Value.{Value}
 use Rattle.wire_form.specs.Request.{NamedField, attempt_data, fields_data, sent_data}
-use Rattle.wire_form.specs.inner.Found.{AttemptForm, IsText, SentForm, attempt_form, fields_in, sent_form, texts_in}
+use Rattle.wire_form.specs.Texts.{IsText, texts_in}
+use Rattle.wire_form.specs.inner.Found.{AttemptForm, SentForm, attempt_form, fields_in, sent_form}
 use Rattle.wire_form.proofs.TextLemmas.{Entry, fields_are, items_are_texts, members_are_texts, texts_are}
 
 -- the number or the values of a receipt are not right

@@ -17,7 +17,8 @@ use Rattle.serde_json.specs.View.{items_of}
 use Rattle.list_base.specs.Numeral.{numeral}
 use Rattle.wire_form.specs.Request.{attempt_data, fields_data, sent_data, texts_data}
 use Rattle.wire_form.specs.declared.asked.Field.{Field as TextField}
-use Rattle.wire_form.specs.inner.Asked.{fields_of, texts_of}
+use Rattle.wire_form.specs.Texts.{texts_of}
+use Rattle.wire_form.specs.inner.Asked.{fields_of}
 use Rattle.wire_form.specs.inner.Sorted.{members_in}
 use Rattle.wire_form.proofs.DecimalLemmas.{decimal_read}
 

@@ -30,7 +30,8 @@ use Rattle.bspl_types.specs.ValueSpelling.{value_spelling}
 use Rattle.wire_form.specs.Meaning.{IsGiven}
 use Rattle.wire_form.specs.Request.{NamedField, fields_data}
 use Rattle.wire_form.specs.declared.asked.Field.{Field as TextField}
-use Rattle.wire_form.specs.inner.Asked.{fields_of, texts_of}
+use Rattle.wire_form.specs.Texts.{texts_of}
+use Rattle.wire_form.specs.inner.Asked.{fields_of}
 
 -- the index of the message of that name
 abbrev pub index_named : Expanded → List ℕ → Option ℕ

@@ -9,7 +9,7 @@ use Rattle.serde_json.specs.View.{items_of}
 use Rattle.wire_form.specs.Request.{Asks, NamedField, Request, emit, fields_data, receive, request_data}
 
 -- texts are known by their strings
-texts_once : (ts us : List (List ℕ)) → items_of (map string ts) ≡ items_of (map string us) → ts ≡ us
+pub texts_once : (ts us : List (List ℕ)) → items_of (map string ts) ≡ items_of (map string us) → ts ≡ us
 texts_once [] [] same = refl
 texts_once [] (u ∷ us) same = absurd (cc)
 texts_once (t ∷ ts) [] same = absurd (cc)

@@ -3,14 +3,15 @@ use Rattle.std.proofs.lemmas.List.{length-map}
 use Rattle.std.proofs.Common.{◌≡◌, ℕ, List, [], ◌∷◌, length, map, All, String, Global, is_some, unwrap_or, string_bytes, refl, sym, ap₂, subst}
 use Rattle.std.specs.Prelude.{IsTrue}
 use Rattle.std.proofs.lemmas.List.Elements.{All-nil, All-cons, All-head, All-tail}
-use Rattle.serde_json.specs.Data.{Data, null, boolean, number, string, array, object, item, member}
+use Rattle.serde_json.specs.Data.{Data, Items, null, boolean, number, string, array, object, item, member}
 use Rattle.serde_json.specs.Find.{as_str}
 use Rattle.serde_json.specs.View.{view, items_of, items_view, members_view}
 use Rattle.serde_json.specs.declared.value.Value.{Value}
 use Rattle.wire_form.specs.Request.{NamedField, fields_data}
+use Rattle.wire_form.specs.Texts.{IsText, texts_in}
 use Rattle.wire_form.specs.declared.asked.Field.{Field as TextField}
 use Rattle.wire_form.specs.inner.Asked.{fields_of}
-use Rattle.wire_form.specs.inner.Found.{IsText, fields_in, texts_in}
+use Rattle.wire_form.specs.inner.Found.{fields_in}
 
 -- an entry of an object
 abbrev pub Entry : Type 0
@@ -42,6 +43,10 @@ items_are_texts (v ∷ vs) (text ∷ texts) same =
     let first : view v ≡ string text = cc in
     let rest : items_view vs ≡ items_of (map string texts) = cc in
     All-cons IsText v vs (string_some (view v) text first) (items_are_texts vs texts rest)
+
+-- arrays are known by their items
+pub array_items : (one other : Items) → array one ≡ array other → one ≡ other
+array_items one other same = cc
 
 -- fields are the members
 pub fields_are : (es : List Entry) → All (λ e. IsText e.1) es → fields_data (fields_in es) ≡ members_view es

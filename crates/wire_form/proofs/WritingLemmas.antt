@@ -1,11 +1,11 @@
 -- What a byte of a string is written as.
-use Rattle.std.proofs.Common.{◌≡◌, ℕ, ◌/◌, ◌%◌, ◌<◌, ◌≤◌, List, [], ◌∷◌, ◌++◌, false, codes, ◌∙◌, ap}
+use Rattle.std.proofs.Common.{◌≡◌, ℕ, ◌/◌, ◌%◌, ◌<◌, ◌≤◌, List, [], ◌∷◌, ◌++◌, false, codes, refl, ◌∙◌}
 use Rattle.std.specs.Prelude.{decimal}
 use Rattle.std.specs.Char.{digit_char}
 use Rattle.std.proofs.lemmas.Bool.{cond-false, cond-true, lt-ltb, le-ltb}
 use Rattle.std.proofs.lemmas.List.{append_assoc}
 use Rattle.json.specs.Print.{escape_byte, escape_letter, quoted}
-use Rattle.serde_json.specs.Data.{Members}
+use Rattle.serde_json.specs.Data.{Data, Members}
 use Rattle.serde_json.specs.Written.{compact_text, members_text}
 use Rattle.wire_form.specs.Reply.{only}
 use Rattle.wire_form.specs.Request.{sent_data}
@@ -25,15 +25,16 @@ pub escaped_plain : (x : ℕ) → escape_letter x ≤ 0 → 32 ≤ x → escape_
 unfolding escape_byte
 escaped_plain x none high = cond-false _ _ _ (le-ltb 0 (escape_letter x) none) ∙ cond-false _ _ _ (le-ltb x 32 high)
 
--- the parts of the text of a message that was sent
-pub sent_text : (m : List ℕ) (n s : ℕ) (vs : Members) → compact_text (only (codes "sent") (sent_data m n s vs)) ≡
-    codes "{\"sent\":{\"message\":" ++ (quoted m ++ (codes ",\"number\":" ++ (decimal n ++ (codes ",\"stamp\":" ++ (decimal s ++ (codes ",\"values\":{" ++ (members_text false vs ++ codes "}}")))))))
+-- the parts of the text of a message
+pub message_text : (m : List ℕ) (n s : ℕ) (vs : Members) → compact_text (sent_data m n s vs) ≡
+    codes "{\"message\":" ++ (quoted m ++ (codes ",\"number\":" ++ (decimal n ++ (codes ",\"stamp\":" ++ (decimal s ++ (codes ",\"values\":{" ++ (members_text false vs ++ 125 ∷ [])))))))
 unfolding escape_byte
-sent_text m n s vs =
-    ap (λ (t : List ℕ). codes "{\"sent\":{\"message\":" ++ t) (append_assoc (quoted m) _ (125 ∷ [])
-    ∙ ap (λ (t : List ℕ). quoted m ++ (codes ",\"number\":" ++ t)) (append_assoc (decimal n) _ (125 ∷ [])
-    ∙ ap (λ (t : List ℕ). decimal n ++ (codes ",\"stamp\":" ++ t)) (append_assoc (decimal s) _ (125 ∷ [])
-    ∙ ap (λ (t : List ℕ). decimal s ++ (codes ",\"values\":{" ++ t)) (append_assoc (members_text false vs) (125 ∷ []) (125 ∷ [])))))
+message_text m n s vs = refl
+
+-- the text of what was sent
+pub sent_text : (text : List ℕ) (d : Data) → ((text ++ codes "{\"sent\":") ++ compact_text d) ++ 125 ∷ [] ≡ text ++ compact_text (only (codes "sent") d)
+unfolding escape_byte
+sent_text text d = append_assoc (text ++ codes "{\"sent\":") (compact_text d) (125 ∷ []) ∙ append_assoc text (codes "{\"sent\":") (compact_text d ++ 125 ∷ [])
 
 -- ten parts, one after another
 pub parts_are : (t a b c d e f g h i : List ℕ) → (((((((((t ++ a) ++ b) ++ c) ++ d) ++ e) ++ f) ++ g) ++ h) ++ i) ≡ t ++ (a ++ (b ++ (c ++ (d ++ (e ++ (f ++ (g ++ (h ++ i))))))))

@@ -3,9 +3,10 @@ ghost use Rattle.std.specs.List.{All};
 ghost use Rattle.serde_json.specs.View.{items_view, members_view, view};
 ghost use Rattle.wire_form.specs.Request.{NamedField, IsNumbered, Request, attempt_data, fields_data};
 ghost use Rattle.wire_form.specs.Request.{request_data, sent_data};
+ghost use Rattle.wire_form.specs.Texts.{IsText, texts_in};
 ghost use Rattle.wire_form.specs.inner.Asked.{request_of};
-ghost use Rattle.wire_form.specs.inner.Found.{AttemptForm, IsText, SentForm, attempt_form, fields_in};
-ghost use Rattle.wire_form.specs.inner.Found.{request_in, sent_form, texts_in};
+ghost use Rattle.wire_form.specs.inner.Found.{AttemptForm, SentForm, attempt_form, fields_in};
+ghost use Rattle.wire_form.specs.inner.Found.{request_in, sent_form};
 
 use super::asked::{Asked, AskedEmission, AskedReceipt};
 use super::texts::{are_texts, fields_of, has_texts, texts_of};

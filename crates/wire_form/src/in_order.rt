@@ -4,7 +4,8 @@ ghost use Rattle.serde_json.specs.Data.{object};
 ghost use Rattle.serde_json.specs.Read.{of_json, read};
 ghost use Rattle.wire_form.specs.Request.{IsNumbered, attempt_data, fields_data, request_data};
 ghost use Rattle.wire_form.specs.Request.{sent_data, texts_data};
-ghost use Rattle.wire_form.specs.inner.Asked.{fields_of, request_of, texts_of};
+ghost use Rattle.wire_form.specs.Texts.{texts_of};
+ghost use Rattle.wire_form.specs.inner.Asked.{fields_of, request_of};
 
 use super::asked::{Asked, AskedEmission, AskedReceipt, Field};
 use super::json_parts::{items_of, member_named, members_of, number_in, text_in};

@@ -1,4 +1,4 @@
-ghost use Rattle.wire_form.specs.Laws.{LineAsksOnce, LineHasOneAct};
+ghost use Rattle.wire_form.specs.Laws.{ArraysOfTexts, LineAsksOnce, LineHasOneAct};
 
 use bspl_types::spells_once;
 use role_journal::fitting_instances_are_one;
@@ -13,3 +13,8 @@ pub fn asks_once()
     // law: the message and the values of an instance tell its key
     fitting_instances_are_one();
 }
+
+/// A law: which arrays of JSON are those of texts.
+pub fn arrays_have_texts()
+    ensures { ArraysOfTexts }
+{}

@@ -5,8 +5,9 @@ ghost use Rattle.bspl_types.specs.Expansion.{message_name};
 ghost use Rattle.wire_form.specs.declared.act.Act.{Act as SpecAct};
 ghost use Rattle.wire_form.specs.Meaning.{Means};
 ghost use Rattle.wire_form.specs.Request.{IsNumbered, emit, receive};
+ghost use Rattle.wire_form.specs.Texts.{texts_of};
 ghost use Rattle.wire_form.specs.inner.Arriving.{IsArriving};
-ghost use Rattle.wire_form.specs.inner.Asked.{fields_of, request_of, texts_of};
+ghost use Rattle.wire_form.specs.inner.Asked.{fields_of, request_of};
 
 use super::act::Act;
 use super::asked::{Asked, AskedEmission, AskedReceipt};

@@ -5,7 +5,8 @@ ghost use Rattle.bspl_types.specs.Adornment.{valued};
 ghost use Rattle.bspl_types.specs.Limits.{carried_limit};
 ghost use Rattle.bspl_types.specs.ValueSpelling.{SpellsValue};
 ghost use Rattle.wire_form.specs.Meaning.{IsGiven};
-ghost use Rattle.wire_form.specs.inner.Asked.{fields_of, texts_of};
+ghost use Rattle.wire_form.specs.Texts.{texts_of};
+ghost use Rattle.wire_form.specs.inner.Asked.{fields_of};
 
 use super::asked::Field;
 use super::member::Member;
@@ -13,7 +14,7 @@ use super::names::param_name;
 use bspl_types::{Carried, Expanded, Value, Values};
 
 /// The values that the texts spell.
-pub(crate) fn spelled_values(texts: &[&str]) -> Option<Values>
+pub fn spelled_values(texts: &[&str]) -> Option<Values>
     requires few { length texts.now ≤ carried_limit }
     ensures read { MatchOption result
         ((values : List SpecValue) → ¬ AllZip SpellsValue (texts_of texts.now) values)

@@ -33,8 +33,24 @@ impl Member for NamedValue<'_> {
     }
 }
 
+/// Writes the values of these parameters as members of an object, in the order of their names, with
+/// the bracket that ends it.
+pub fn push_values(
+    alloc: Global,
+    text: &mut Bytes,
+    x: &Expanded,
+    carried: &[Carried],
+    values: &[Value],
+) -> Result<(), NoMemory>
+    ensures { OnOk result (text.new ≡ text.old ++ members_text false
+        (put_values x.now (zip (valued carried.now) values.now) no_members)) }
+{
+    let sorted = by_name(alloc, x, carried, values)?;
+    push_members(alloc, text, sorted.as_slice())
+}
+
 /// The values of these parameters, in the order of their names.
-pub(crate) fn by_name<'a>(
+fn by_name<'a>(
     alloc: Global,
     x: &'a Expanded,
     carried: &[Carried],
@@ -59,11 +75,7 @@ pub(crate) fn by_name<'a>(
 }
 
 /// Writes the values as members of an object, with the bracket that ends it.
-pub(crate) fn push_members(
-    alloc: Global,
-    text: &mut Bytes,
-    sorted: &[NamedValue<'_>],
-) -> Result<(), NoMemory>
+fn push_members(alloc: Global, text: &mut Bytes, sorted: &[NamedValue<'_>]) -> Result<(), NoMemory>
     ensures { OnOk result (text.new ≡ text.old ++ members_text false (named_members sorted.now)) }
 {
     let mut later = false;

@@ -4,7 +4,7 @@ ghost use Rattle.bspl_types.specs.Expansion.{message_name, param_name};
 use bspl_types::Expanded;
 
 /// The name of the parameter of that number, or none past the last.
-pub(crate) fn param_name(x: &Expanded, param: u32) -> &[u8]
+pub fn param_name(x: &Expanded, param: u32) -> &[u8]
     ensures { result.now ≡ param_name x.now param }
 {
     match x.params.as_slice().get(param as usize) {
@@ -14,7 +14,7 @@ pub(crate) fn param_name(x: &Expanded, param: u32) -> &[u8]
 }
 
 /// The name of the message of that number, or none past the last.
-pub(crate) fn message_name(x: &Expanded, message: u32) -> &[u8]
+pub fn message_name(x: &Expanded, message: u32) -> &[u8]
     ensures { result.now ≡ message_name x.now message }
 {
     match x.messages.as_slice().get(message as usize) {

@@ -8,7 +8,7 @@ use list_base::{Bytes, NoMemory};
 use std::alloc::Global;
 
 /// Writes the bytes as a string of JSON.
-pub(crate) fn push_quoted(text: &mut Bytes, bytes: &[u8]) -> Result<(), NoMemory>
+pub fn push_quoted(text: &mut Bytes, bytes: &[u8]) -> Result<(), NoMemory>
     ensures { OnOk result (text.new ≡ text.old ++ quoted bytes.now) }
 {
     text.push(b'"')?;
@@ -19,7 +19,7 @@ pub(crate) fn push_quoted(text: &mut Bytes, bytes: &[u8]) -> Result<(), NoMemory
 }
 
 /// Writes the spelling of the value as a string of JSON.
-pub(crate) fn push_value(alloc: Global, text: &mut Bytes, value: &Value) -> Result<(), NoMemory>
+pub fn push_value(alloc: Global, text: &mut Bytes, value: &Value) -> Result<(), NoMemory>
     ensures { OnOk result (text.new ≡ text.old ++ quoted (value_spelling value.now)) }
 {
     let mut spelled = Bytes::new(alloc);

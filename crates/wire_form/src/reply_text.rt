@@ -1,21 +1,18 @@
-ghost use Rattle.std.specs.Prelude.{◌≡◌, ◌++◌, false, codes, OnOk};
-ghost use Rattle.serde_json.specs.Data.{no_members, string};
-ghost use Rattle.serde_json.specs.Written.{compact_text, members_text};
-ghost use Rattle.bspl_types.specs.Expansion.{message_of};
-ghost use Rattle.bspl_types.specs.Instance.{pairs};
-ghost use Rattle.wire_form.specs.Reply.{block_data, message_data, only, put_values};
+ghost use Rattle.std.specs.Prelude.{◌≡◌, ◌++◌, codes, OnOk};
+ghost use Rattle.serde_json.specs.Data.{string};
+ghost use Rattle.serde_json.specs.Written.{compact_text};
+ghost use Rattle.wire_form.specs.Reply.{block_data, message_data, only};
 ghost use Rattle.wire_form.specs.Reply.{receipt_data, refusal_code, reply_text};
 
-use super::named_values::{by_name, push_members};
-use super::names::{message_name, param_name};
+use super::message_text::push_message;
+use super::names::param_name;
 use super::quoted::{push_quoted, push_value};
 use super::reply::{Refusal, Reply};
-use bspl_types::{Carried, Expanded, Stamped};
+use bspl_types::{Expanded, Stamped};
 use list_base::{Bytes, NoMemory};
 use local_store::Receipt;
 use role_knowledge::Block;
 use std::alloc::Global;
-use text_lines::{numerals_are_decimals, push_decimal};
 
 /// Writes the line of the reply.
 pub fn push_reply(
@@ -100,7 +97,6 @@ fn push_block(alloc: Global, text: &mut Bytes, x: &Expanded, block: &Block) -> R
 }
 
 /// Writes a message that was sent.
-#[tactic(auto, unfolding(json::specs::Print::escape_byte))]
 fn push_sent(
     alloc: Global,
     text: &mut Bytes,
@@ -110,41 +106,7 @@ fn push_sent(
     ensures { OnOk result (text.new ≡
         text.old ++ compact_text (only (codes "sent") (message_data x.now message.now))) }
 {
-    // law: the numerals of 64 bits are those of the standard library
-    numerals_are_decimals();
-    text.append(b"{\"sent\":{\"message\":")?;
-    push_quoted(text, message_name(x, message.instance.message))?;
-    text.append(b",\"number\":")?;
-    push_decimal(text, u64::from(message.number))?;
-    text.append(b",\"stamp\":")?;
-    push_decimal(text, message.stamp)?;
-    text.append(b",\"values\":{")?;
-    push_values(alloc, text, x, message)?;
-    text.append(b"}}")
-}
-
-/// Writes the values of a message as members of an object, with the bracket that ends it.
-fn push_values(
-    alloc: Global,
-    text: &mut Bytes,
-    x: &Expanded,
-    message: &Stamped,
-) -> Result<(), NoMemory>
-    ensures { OnOk result (text.new ≡ text.old ++ members_text false
-        (put_values x.now (pairs x.now message.now.instance) no_members)) }
-{
-    let values = message.instance.values.as_slice();
-    let carried = carried_of(x, message.instance.message);
-    let sorted = by_name(alloc, x, carried, values)?;
-    push_members(alloc, text, sorted.as_slice())
-}
-
-/// The parameters of the message of that number, or none past the last.
-fn carried_of(x: &Expanded, message: u32) -> &[Carried]
-    ensures { result.now ≡ (message_of x.now message).carried }
-{
-    match x.messages.as_slice().get(message as usize) {
-        Some(message) => message.carried.as_slice(),
-        None => &[],
-    }
+    text.append(b"{\"sent\":")?;
+    push_message(alloc, text, x, message)?;
+    text.push(b'}')
 }

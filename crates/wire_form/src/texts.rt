@@ -1,7 +1,8 @@
 ghost use Rattle.std.specs.Prelude.{◌≡◌, ◌↔◌, IfOk, IsTrue};
 ghost use Rattle.std.specs.List.{All};
-ghost use Rattle.wire_form.specs.inner.Asked.{fields_of, texts_of};
-ghost use Rattle.wire_form.specs.inner.Found.{IsText, fields_in, text_in, texts_in};
+ghost use Rattle.wire_form.specs.Texts.{IsText, text_in, texts_in, texts_of};
+ghost use Rattle.wire_form.specs.inner.Asked.{fields_of};
+ghost use Rattle.wire_form.specs.inner.Found.{fields_in};
 
 use super::asked::Field;
 use list_base::NoMemory;
@@ -16,7 +17,7 @@ pub(crate) fn text_in(value: &Value) -> &str
 }
 
 /// Whether each of the values is a string.
-pub(crate) fn are_texts(values: &[Value]) -> bool
+pub fn are_texts(values: &[Value]) -> bool
     ensures { IsTrue result ↔ All IsText values.now }
 {
     values.iter().all(|value| value.is_string())
@@ -35,7 +36,7 @@ pub(crate) fn has_texts(members: &Map<String, Value>) -> bool
 }
 
 /// The texts of the values.
-pub(crate) fn texts_of(alloc: Global, values: &[Value]) -> Result<Vec<&str>, NoMemory>
+pub fn texts_of(alloc: Global, values: &[Value]) -> Result<Vec<&str>, NoMemory>
     ensures { IfOk result (λ texts. texts_of texts.items ≡ texts_in values.now) }
 {
     let mut texts = Vec::new(alloc);

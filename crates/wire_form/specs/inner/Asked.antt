@@ -1,18 +1,14 @@
 -- A request as its texts.
-use Rattle.std.specs.Prelude.{ℕ, List, map}
-use Rattle.std.specs.Borrow.{Bor}
+use Rattle.std.specs.Prelude.{List, map}
 use Rattle.wire_form.specs.declared.asked.Asked.{Asked}
 use Rattle.wire_form.specs.declared.asked.Asked.TheVariants.{Emission, Receipt}
 use Rattle.wire_form.specs.declared.asked.Field.{Field as TextField}
 use Rattle.wire_form.specs.Request.{NamedField, Request, emit, receive}
+use Rattle.wire_form.specs.Texts.{texts_of}
 
 -- the name and the text of each field
 abbrev pub fields_of : List TextField → List NamedField
 fields_of fields = map (λ f. (f.name.now, f.text.now)) fields
-
--- each text
-abbrev pub texts_of : List (Bor (List ℕ)) → List (List ℕ)
-texts_of texts = map (λ text. text.now) texts
 
 -- what is asked for
 abbrev pub request_of : Asked → Request

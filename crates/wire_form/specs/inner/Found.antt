@@ -1,13 +1,12 @@
 -- What was found in a JSON value of what a line asks for.
-use Rattle.std.specs.Prelude.{ℕ, List, [], map, unwrap_or, is_some, IsTrue, codes, String, string_bytes}
+use Rattle.std.specs.Prelude.{ℕ, List, map, codes, String, string_bytes}
 use Rattle.std.specs.declared.alloc.Global.{Global}
 use Rattle.serde_json.specs.Data.{Data, Items, Members, array, member, no_members, object, string}
-use Rattle.serde_json.specs.Find.{as_str}
-use Rattle.serde_json.specs.View.{view}
 use Rattle.serde_json.specs.declared.value.Value.{Value}
 use Rattle.wire_form.specs.declared.any_order.Found.{Found}
 use Rattle.wire_form.specs.declared.any_order.Found.TheVariants.{Emission, Receipt}
 use Rattle.wire_form.specs.Request.{NamedField, Request, emit, receive, sent_data}
+use Rattle.wire_form.specs.Texts.{text_in, texts_in}
 
 -- the members that tell of a message that was sent
 pub record SentForm : Type 0 where
@@ -32,18 +31,6 @@ attempt_form f = object
     (member (codes "key") (array f.key)
     (member (codes "message") (string f.message)
     (member (codes "outs") (array f.outs) no_members)))
-
--- the text of a string
-abbrev pub text_in : Value → List ℕ
-text_in value = unwrap_or (as_str (view value)) []
-
--- the value is a string
-abbrev pub IsText : Value → Type 0
-IsText value = IsTrue (is_some (as_str (view value)))
-
--- the texts of strings
-abbrev pub texts_in : List Value → List (List ℕ)
-texts_in values = map text_in values
 
 -- the members of an object as fields
 abbrev pub fields_in : List (String Global × Value) → List NamedField

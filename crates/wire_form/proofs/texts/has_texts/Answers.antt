@@ -2,7 +2,7 @@
 use Rattle.std.proofs.Common.{rules, ◌≡◌, [], ◌∷◌, ◌++◌, sym, ap, ◌∙◌}
 use Rattle.std.proofs.lemmas.List.{append_assoc}
 use Rattle.std.proofs.lemmas.List.Elements.{All-push}
-use Rattle.wire_form.specs.inner.Found.{IsText}
+use Rattle.wire_form.specs.Texts.{IsText}
 use Rattle.wire_form.proofs.TextLemmas.{Entry}
 use Rattle.wire_form.proofs.texts.has_texts.Goals as goal
 

@@ -1,6 +1,6 @@
 -- Which members were passed.
 use Rattle.std.proofs.Common.{◌≡◌, ◌++◌, List, All}
-use Rattle.wire_form.specs.inner.Found.{IsText}
+use Rattle.wire_form.specs.Texts.{IsText}
 use Rattle.wire_form.proofs.TextLemmas.{Entry}
 use Rattle.wire_form.proofs.texts.has_texts.Given as goal
 

@@ -2,8 +2,7 @@
 use Rattle.std.proofs.Common.{ℕ, List, [], ◌∷◌, ◌++◌, ◌+◌, drop, sym, ap, ◌∙◌}
 use Rattle.std.specs.Borrow.{Bor}
 use Rattle.std.proofs.lemmas.List.{append-nil, append_assoc, drop_all, drop_more, map-append}
-use Rattle.wire_form.specs.inner.Asked.{texts_of}
-use Rattle.wire_form.specs.inner.Found.{texts_in}
+use Rattle.wire_form.specs.Texts.{texts_in, texts_of}
 use Rattle.wire_form.proofs.texts.texts_of.Goals as goal
 
 pub loop-value-preserved : goal.loop-value-preserved

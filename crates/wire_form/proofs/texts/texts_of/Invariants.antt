@@ -1,7 +1,6 @@
 -- Which values were passed.
 use Rattle.std.proofs.Common.{◌≡◌, ◌++◌, drop}
-use Rattle.wire_form.specs.inner.Asked.{texts_of}
-use Rattle.wire_form.specs.inner.Found.{texts_in}
+use Rattle.wire_form.specs.Texts.{texts_in, texts_of}
 use Rattle.wire_form.proofs.texts.texts_of.Given as goal
 
 -- with the texts of those that are left it is all of them

@@ -1,6 +1,0 @@
-mod ListedLemmas
-mod KnownLemmas
-mod InsLemmas
-mod WithinLemmas
-mod EnabledLemmas
-mod LawLemmas

@@ -1,6 +1,0 @@
--- The forms are what is filled in.
-use Rattle.role_forms.proofs.LawLemmas.{filled_forms}
-use Rattle.role_forms.proofs.laws.forms_are_enabled.Goals as goal
-
-pub returns : goal.returns
-returns c = filled_forms

@@ -1,0 +1,10 @@
+mod ListedLemmas
+mod KnownLemmas
+mod InsLemmas
+mod WithinLemmas
+mod EnabledLemmas
+mod LawLemmas
+mod QuestionLemmas
+mod MeaningLemmas
+mod PartLemmas
+mod WrittenLemmas

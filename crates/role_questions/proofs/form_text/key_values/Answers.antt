@@ -1,0 +1,10 @@
+-- A key without further values.
+use Rattle.std.proofs.Common.{rules, ◌≡◌, [], drop, sym, ◌∙◌}
+use Rattle.role_questions.proofs.WrittenLemmas.{nothing_left}
+use Rattle.role_questions.proofs.form_text.key_values.Goals as goal
+
+pub returns-in_default : goal.returns-in_default
+returns-in_default c =
+    let l = c.loop-param in
+    let none : l.left.now ≡ [] = search rules in
+    sym (nothing_left (drop l.param-index c.args.keys.now) l.left.now l.list none) ∙ l.invariant

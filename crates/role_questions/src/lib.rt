@@ -1,0 +1,26 @@
+//! Questions to a live role: what it may send now, what it knows, and what it did.
+#![tactic(auto)]
+
+mod answer;
+mod event_text;
+mod form;
+mod form_list;
+mod form_text;
+mod found;
+mod key_text;
+mod knowledge;
+mod laws;
+mod line;
+mod list_part;
+mod permission;
+mod question;
+mod status_text;
+mod value_text;
+
+pub use answer::push_answer;
+pub use form::{Form, FormList, KnownValue, KnownValueList};
+pub use form_list::forms;
+pub use knowledge::known;
+pub use laws::{forms_are_enabled, question_is_one};
+pub use line::read_question;
+pub use question::{Question, QuestionReading};
