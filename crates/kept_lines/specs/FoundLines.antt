@@ -14,7 +14,7 @@ abbrev pub found_len : FoundLines → ℕ
 found_len found = length found.head + length found.lines
 
 -- the text of the image is this head and these lines, and these are the calls
-pub record IsFound (head image : List ℕ) (calls : Option (List FileCall)) (found : FoundLines)
+pub record HasFoundLines (head image : List ℕ) (calls : Option (List FileCall)) (found : FoundLines)
     : Type 0 where
   pub head_is : found.head ≡ head
   pub text : image_text image ≡ head ++ found.lines

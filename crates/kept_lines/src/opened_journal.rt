@@ -2,7 +2,7 @@ ghost use Rattle.std.specs.Prelude.{◌≡◌, true, IfOk, IsErrOf, IsOkAnd};
 ghost use Rattle.kept_lines.specs.FileCalls.{Cut, noted};
 ghost use Rattle.kept_lines.specs.FileJournal.{IsBegunFile};
 ghost use Rattle.kept_lines.specs.FileKind.{HasHead, IsOfKind};
-ghost use Rattle.kept_lines.specs.FoundLines.{IsFound, found_len, made_lines};
+ghost use Rattle.kept_lines.specs.FoundLines.{HasFoundLines, found_len, made_lines};
 ghost use Rattle.kept_lines.specs.Text.{AreTextLines};
 
 use super::file_head::ensure_head;
@@ -57,7 +57,7 @@ impl<F: LineFile + Drop> OpenedJournal<F> {
         requires { AreTextLines head.now }
         ensures head { IfOk result (λ opened. opened.head ≡ head.now) }
         ensures found { IsOfKind head.now image FileKind.Journal →
-            IsOkAnd result (IsFound head.now image (F.calls file)) }
+            IsOkAnd result (HasFoundLines head.now image (F.calls file)) }
         ensures made { IsOfKind head.now image FileKind.Unmade →
             IfOk result (λ opened. opened ≡ made_lines head.now (F.calls file)) }
         ensures other { IsOfKind head.now image FileKind.Other →
@@ -73,7 +73,7 @@ impl<F: LineFile + Drop> OpenedJournal<F> {
     fn found(file: F, image: Bytes, head: &[u8]) -> OpenedJournal<F>
         requires head { AreTextLines head.now }
         requires begins { HasHead head.now image }
-        ensures { IsFound head.now image (F.calls file) result }
+        ensures { HasFoundLines head.now image (F.calls file) result }
     {
         let text_len = text_len(image.as_slice());
         OpenedJournal {

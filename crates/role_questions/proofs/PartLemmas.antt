@@ -5,11 +5,11 @@ use Rattle.std.proofs.lemmas.Option.{get_or_from_slice_get}
 use Rattle.serde_json.specs.Data.{Data}
 use Rattle.serde_json.specs.View.{items_of}
 use Rattle.serde_json.specs.Written.{comma_if, compact_text, items_text}
-use Rattle.role_questions.specs.Answers.{part}
+use Rattle.role_questions.specs.Answers.{items_from}
 use Rattle.role_questions.specs.inner.Written.{between}
 
 -- where a part ends
-pub part_between : {X : Type 0} (from most end : ℕ) (list : List X) → end ≡ min (from + most) (length list) → between from end list ≡ part from most list
+pub part_between : {X : Type 0} (from most end : ℕ) (list : List X) → end ≡ min (from + most) (length list) → between from end list ≡ items_from from most list
 part_between from most end list is = ap (λ n. drop from (take n list)) is ∙ ap (λ l. drop from l) (take_min (from + most) list) ∙ drop-take from most list
 
 -- the next item comes first in what is left

@@ -13,7 +13,7 @@ use Rattle.wire_form.specs.Request.{Asks, Request, emit, receive, request_data}
 use Rattle.role_questions.specs.declared.question.Question.{Question}
 use Rattle.role_questions.specs.declared.question.Question.TheVariants.{Enabled, Known}
 use Rattle.role_questions.specs.Laws.{LinePutsOneQuestion, QuestionIsNoRequest}
-use Rattle.role_questions.specs.Meaning.{Means, SpellsKey}
+use Rattle.role_questions.specs.Meaning.{MeansAsked, SpellsKey}
 use Rattle.role_questions.specs.Questions.{Puts, TextQuestion, ask_enabled, ask_history, ask_keys, ask_known, ask_status, question_data}
 
 -- texts are known by the array of their strings
@@ -91,7 +91,7 @@ module _ (once : ValuesAreSpelledOnce) where
   key_once texts one other spells also = one_list SpellsValue (λ t v w s r. once v w s.value r.value (sym s.spelled ∙ r.spelled)) texts one other spells also
 
   -- what is asked means one question
-  means_once : (asked : TextQuestion) (one other : Question) → Means asked one → Means asked other → one ≡ other
+  means_once : (asked : TextQuestion) (one other : Question) → MeansAsked asked one → MeansAsked asked other → one ≡ other
   means_once (ask_enabled texts) one other means also = means.2 ∙ ap Enabled (key_once texts means.0 also.0 means.1 also.1) ∙ sym also.2
   means_once (ask_known texts) one other means also = means.2 ∙ ap Known (key_once texts means.0 also.0 means.1 also.1) ∙ sym also.2
   means_once (ask_keys from most) one other means also = means ∙ sym also
@@ -102,4 +102,4 @@ module _ (once : ValuesAreSpelledOnce) where
   pub one_question_is_put : LinePutsOneQuestion
   one_question_is_put x line one other puts also =
       let same = question_once puts.asked also.asked (read_once line puts.puts.body also.puts.body (question_data puts.asked) (question_data also.asked) puts.puts.ended also.puts.ended puts.puts.reads also.puts.reads) in
-      means_once also.asked one other (subst (λ (asked : TextQuestion). Means asked one) same puts.means) also.means
+      means_once also.asked one other (subst (λ (asked : TextQuestion). MeansAsked asked one) same puts.means) also.means

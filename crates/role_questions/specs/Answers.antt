@@ -80,8 +80,8 @@ abbrev pub entry_data : Expanded → Entry → Data
 entry_data x e = event_data x e.event (message_data x (stamped_of e))
 
 -- some items of a list from an index on
-abbrev pub part : {X : Type 0} → ℕ → ℕ → List X → List X
-part from most list = take most (drop from list)
+abbrev pub items_from : {X : Type 0} → ℕ → ℕ → List X → List X
+items_from from most list = take most (drop from list)
 
 -- these under a name, and of how many they are a part
 abbrev pub part_data : List ℕ → List Data → ℕ → Data
@@ -100,20 +100,20 @@ status_members s = object
     (member (codes "version") (count_data 1) no_members))))))
 
 -- the JSON answers the question
-abbrev pub IsAnswer : StoreState → Question → Data → Type 0
-IsAnswer s (Enabled key) d = (forms : List Form) × AreForms s key forms × (d ≡
+abbrev pub AnswersAsked : StoreState → Question → Data → Type 0
+AnswersAsked s (Enabled key) d = (forms : List Form) × AreForms s key forms × (d ≡
     only (codes "enabled") (array (items_of (map (form_data s.protocol key) forms))))
-IsAnswer s (Known key) d = (list : List KnownValue) ×
+AnswersAsked s (Known key) d = (list : List KnownValue) ×
     IsKnowledge s.protocol (acts_of s) key list ×
     (d ≡ only (codes "known") (values_data s.protocol list))
-IsAnswer s (Keys from most) d =
-    d ≡ part_data (codes "keys") (map key_data (part from most s.keys)) (length s.keys)
-IsAnswer s (History from most) d = d ≡ part_data (codes "history")
-    (map (entry_data s.protocol) (part from most s.entries)) (length s.entries)
-IsAnswer s Status d = d ≡ only (codes "status") (status_members s)
+AnswersAsked s (Keys from most) d =
+    d ≡ part_data (codes "keys") (map key_data (items_from from most s.keys)) (length s.keys)
+AnswersAsked s (History from most) d = d ≡ part_data (codes "history")
+    (map (entry_data s.protocol) (items_from from most s.entries)) (length s.entries)
+AnswersAsked s Status d = d ≡ only (codes "status") (status_members s)
 
 -- the line of a right answer: it has no blanks, and ends with LF
 pub record IsAnswerText (s : StoreState) (q : Question) (text : List ℕ) : Type 0 where
   pub answer : Data
-  pub answers : IsAnswer s q answer
+  pub answers : AnswersAsked s q answer
   pub written : text ≡ compact_text answer ++ 10 ∷ []

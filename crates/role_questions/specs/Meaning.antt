@@ -17,12 +17,12 @@ abbrev pub SpellsKey : List (List ℕ) → List Value → Type 0
 SpellsKey texts key = AllZip SpellsValue texts key
 
 -- the question, with its key spelled
-abbrev pub Means : TextQuestion → Question → Type 0
-Means (ask_enabled texts) q = (key : List Value) × SpellsKey texts key × (q ≡ Enabled key)
-Means (ask_known texts) q = (key : List Value) × SpellsKey texts key × (q ≡ Known key)
-Means (ask_keys from most) q = q ≡ Keys from most
-Means (ask_history from most) q = q ≡ History from most
-Means ask_status q = q ≡ Status
+abbrev pub MeansAsked : TextQuestion → Question → Type 0
+MeansAsked (ask_enabled texts) q = (key : List Value) × SpellsKey texts key × (q ≡ Enabled key)
+MeansAsked (ask_known texts) q = (key : List Value) × SpellsKey texts key × (q ≡ Known key)
+MeansAsked (ask_keys from most) q = q ≡ Keys from most
+MeansAsked (ask_history from most) q = q ≡ History from most
+MeansAsked ask_status q = q ≡ Status
 
 -- a key that is asked about has a value for each of the protocol's
 abbrev pub HasWholeKey : Expanded → Question → Type 0
@@ -36,14 +36,14 @@ HasWholeKey x Status = ⊤
 pub record PutsQuestion (x : Expanded) (line : Line) (q : Question) : Type 0 where
   pub asked : TextQuestion
   pub puts : Puts line asked
-  pub means : Means asked q
+  pub means : MeansAsked asked q
   pub whole : HasWholeKey x q
 
 -- the line puts a question that means nothing for the protocol
 pub record PutsInVain (x : Expanded) (line : Line) : Type 0 where
   pub asked : TextQuestion
   pub puts : Puts line asked
-  pub nothing : (q : Question) → Means asked q → ¬ HasWholeKey x q
+  pub nothing : (q : Question) → MeansAsked asked q → ¬ HasWholeKey x q
 
 -- the line puts no question
 abbrev pub PutsNothing : Line → Type 0

@@ -10,7 +10,7 @@ use Rattle.list_base.specs.Lines.{Line}
 use Rattle.wire_form.specs.declared.act.Act.{Act}
 use Rattle.wire_form.specs.Meaning.{AsksFor}
 use Rattle.wire_form.specs.Request.{Asks, Request, texts_data}
-use Rattle.wire_form.specs.Texts.{IsText, texts_in}
+use Rattle.wire_form.specs.Texts.{IsStringItem, texts_in}
 
 -- two requests of a line are one
 abbrev pub LineAsksOnce : Type 0
@@ -25,4 +25,4 @@ LineHasOneAct = (x : Expanded) (role : ℕ) (line : Line) (one other : Act) → 
 abbrev pub ArraysOfTexts : Type 0
 ArraysOfTexts = (values : List Value) (texts : List (List ℕ)) →
     (array (items_view values) ≡ texts_data texts) ↔
-    (All IsText values × (texts ≡ texts_in values))
+    (All IsStringItem values × (texts ≡ texts_in values))

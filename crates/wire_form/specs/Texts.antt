@@ -6,8 +6,8 @@ use Rattle.serde_json.specs.View.{view}
 use Rattle.serde_json.specs.declared.value.Value.{Value}
 
 -- the value is a string
-abbrev pub IsText : Value → Type 0
-IsText value = IsTrue (is_some (as_str (view value)))
+abbrev pub IsStringItem : Value → Type 0
+IsStringItem value = IsTrue (is_some (as_str (view value)))
 
 -- the text of a string
 abbrev pub text_in : Value → List ℕ

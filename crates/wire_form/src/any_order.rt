@@ -3,7 +3,7 @@ ghost use Rattle.std.specs.List.{All};
 ghost use Rattle.serde_json.specs.View.{items_view, members_view, view};
 ghost use Rattle.wire_form.specs.Request.{NamedField, IsNumbered, Request, attempt_data, fields_data};
 ghost use Rattle.wire_form.specs.Request.{request_data, sent_data};
-ghost use Rattle.wire_form.specs.Texts.{IsText, texts_in};
+ghost use Rattle.wire_form.specs.Texts.{IsStringItem, texts_in};
 ghost use Rattle.wire_form.specs.inner.Asked.{request_of};
 ghost use Rattle.wire_form.specs.inner.Found.{AttemptForm, SentForm, attempt_form, fields_in};
 ghost use Rattle.wire_form.specs.inner.Found.{request_in, sent_form};
@@ -98,7 +98,7 @@ fn emission_in(value: &Value) -> Option<FoundEmission<'_>>
 /// Whether the values of the emission are strings.
 fn has_only_texts(found: &FoundEmission<'_>) -> bool
     ensures { IsTrue result ↔
-        (All IsText found.now.key.now.items × All IsText found.now.outs.now.items) }
+        (All IsStringItem found.now.key.now.items × All IsStringItem found.now.outs.now.items) }
 {
     are_texts(found.key.as_slice()) && are_texts(found.outs.as_slice())
 }

@@ -1,6 +1,6 @@
 ghost use Rattle.std.specs.Prelude.{◌≡◌, ◌↔◌, IfOk, IsTrue};
 ghost use Rattle.std.specs.List.{All};
-ghost use Rattle.wire_form.specs.Texts.{IsText, text_in, texts_in, texts_of};
+ghost use Rattle.wire_form.specs.Texts.{IsStringItem, text_in, texts_in, texts_of};
 ghost use Rattle.wire_form.specs.inner.Asked.{fields_of};
 ghost use Rattle.wire_form.specs.inner.Found.{fields_in};
 
@@ -18,14 +18,14 @@ pub(crate) fn text_in(value: &Value) -> &str
 
 /// Whether each of the values is a string.
 pub fn are_texts(values: &[Value]) -> bool
-    ensures { IsTrue result ↔ All IsText values.now }
+    ensures { IsTrue result ↔ All IsStringItem values.now }
 {
     values.iter().all(|value| value.is_string())
 }
 
 /// Whether each member is a string.
 pub(crate) fn has_texts(members: &Map<String, Value>) -> bool
-    ensures { IsTrue result ↔ All (λ e. IsText e.1) members.now.entries }
+    ensures { IsTrue result ↔ All (λ e. IsStringItem e.1) members.now.entries }
 {
     for (name, value) in members.iter() {
         if !value.is_string() {

@@ -6,7 +6,7 @@ use Rattle.bspl_types.specs.declared.value.Value.{Value}
 use Rattle.role_questions.specs.declared.found.Found.{Found}
 use Rattle.role_questions.specs.declared.found.Found.TheVariants.{Enabled, History, Keys, Known, Status}
 use Rattle.role_questions.specs.declared.question.Question.{Question}
-use Rattle.role_questions.specs.Meaning.{HasWholeKey, Means, SpellsKey}
+use Rattle.role_questions.specs.Meaning.{HasWholeKey, MeansAsked, SpellsKey}
 use Rattle.role_questions.specs.Questions.{TextQuestion, ask_enabled, ask_history, ask_keys}
 use Rattle.role_questions.specs.Questions.{ask_known, ask_status}
 
@@ -25,5 +25,5 @@ pub record IsKeyOf (x : Expanded) (texts : List (List ℕ)) (key : List Value) :
 
 -- the question is what the texts mean
 pub record IsMeantBy (x : Expanded) (asked : TextQuestion) (q : Question) : Type 0 where
-  pub means : Means asked q
+  pub means : MeansAsked asked q
   pub whole : HasWholeKey x q

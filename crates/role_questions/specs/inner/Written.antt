@@ -13,12 +13,12 @@ use Rattle.local_store.specs.State.{StoreState}
 use Rattle.role_questions.specs.declared.form.Form.{Form}
 use Rattle.role_questions.specs.declared.form.KnownValue.{KnownValue}
 use Rattle.role_questions.specs.declared.question.Question.{Question}
-use Rattle.role_questions.specs.Answers.{IsAnswer}
+use Rattle.role_questions.specs.Answers.{AnswersAsked}
 
 -- a right answer is at the end, but for its LF
 pub record AddsAnswer (s : StoreState) (q : Question) (old new : List ℕ) : Type 0 where
   pub answer : Data
-  pub answers : IsAnswer s q answer
+  pub answers : AnswersAsked s q answer
   pub added : new ≡ old ++ compact_text answer
 
 -- the items of a list between two indices
