@@ -10,10 +10,10 @@ use Rattle.wire_form.specs.declared.reply.Refusal.TheVariants.{F1, F2, F3, F4}
 use Rattle.wire_form.specs.declared.reply.Reply.TheVariants.{Refused}
 use Rattle.wire_form.specs.Meaning.{AsksFor, AsksInVain, AsksNothing}
 use Rattle.wire_form.specs.Reply.{reply_text}
-use Rattle.role_server.specs.Live.{LiveReplies, live_limit}
+use Rattle.role_server.specs.Live.{LiveReplies, RepliesLive, live_limit}
 use Rattle.role_server.specs.Replies.{HasNoRoom, IsLast, act_key, answered, done, in_vain, last, no_room, nothing}
 use Rattle.role_server.specs.Served.{tells_event}
-use Rattle.role_server.specs.inner.LiveActs.{AnswersLive, DoesLive, RepliesLive}
+use Rattle.role_server.specs.inner.LiveActs.{AnswersLive, DoesLive}
 
 -- what is done is answered
 pub answers_done : {E : Type 0} (s : StoreState) (act : Act) (result : Result Reply E) (next : StoreState) → (¬ HasNoRoom live_limit s (act_key act)) → (¬ IsLast s act) → IfOk result (λ reply. DoesLive s act reply next) → IfOk result (λ reply. AnswersLive s act reply next)

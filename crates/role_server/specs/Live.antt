@@ -20,6 +20,17 @@ with_live_room s = record s { spare = live_limit - length s.entries }
 abbrev pub first_live_store : Expanded → ℕ → StoreState
 first_live_store x role = with_live_room (new_store x role)
 
+-- the store after a reply: that after the act if the reply tells of an event, or else this one
+abbrev pub next_store : StoreState → Reply → StoreState → StoreState
+next_store s reply after = if tells_event reply then after else s
+
+-- the line gets this reply, and leaves the store, without its key, if it makes no event
+pub record RepliesLive (s : StoreState) (line : Line) (reply : Reply) (next : StoreState)
+    : Type 0 where
+  pub after : StoreState
+  pub replies : Replies live_limit s line reply after
+  pub next_is : next ≡ next_store s reply after
+
 -- the line gets the text of its reply; one that makes an event is kept, and each other leaves the
 -- store as it was, without its key
 pub record LiveReplies (s : StoreState) (line : Line) (text : List ℕ) (is_kept : Bool)

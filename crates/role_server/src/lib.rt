@@ -17,4 +17,5 @@ pub use laws::replies_are_determined;
 pub use live::LiveRole;
 pub use live_laws::live_replies_are_determined;
 pub use refusal::ServeRefusal;
+pub use reply::push_told;
 pub use stream::{serve, serve_from, store_with_room};

@@ -1,6 +1,6 @@
-ghost use Rattle.std.specs.Prelude.{◌≡◌, ◌<◌, length, IfOk};
+ghost use Rattle.std.specs.Prelude.{◌≡◌, ◌++◌, ◌∷◌, ◌<◌, [], length, IfOk};
 ghost use Rattle.local_store.specs.Consistent.{IsConsistent};
-ghost use Rattle.role_server.specs.Live.{first_live_store, with_live_room};
+ghost use Rattle.role_server.specs.Live.{RepliesLive, first_live_store, with_live_room};
 
 use super::live_reply::reply_live;
 use super::reply::{push_text, push_told};
@@ -40,6 +40,14 @@ impl LiveRole {
             reader: LineReader::new(alloc),
             store: Store::new(alloc, a, role)?,
         })
+    }
+
+    /// Answers the line with this body, and an LF after it.
+    pub fn reply(&mut self, body: &[u8]) -> Result<Reply, NoMemory>
+        ensures { IfOk result (λ reply.
+            RepliesLive self.old (body.now ++ 10 ∷ []) reply self.new) }
+    {
+        reply_live(&mut self.reader, &mut self.store, body)
     }
 
     /// Lends the role's store. Contracts see it with all the room that a live role may use.

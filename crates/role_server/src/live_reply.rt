@@ -1,9 +1,9 @@
 ghost use Rattle.std.specs.Prelude.{◌≡◌, ◌↔◌, ◌++◌, ◌∷◌, [], IfOk, IsSome, IsTrue, OnErr};
 ghost use Rattle.std.specs.List.{Contains};
-ghost use Rattle.role_server.specs.Live.{live_limit, with_live_room};
+ghost use Rattle.role_server.specs.Live.{RepliesLive, live_limit, with_live_room};
 ghost use Rattle.role_server.specs.Replies.{HasNoRoom, KeepsRole};
 ghost use Rattle.role_server.specs.inner.Acts.{IsOwn};
-ghost use Rattle.role_server.specs.inner.LiveActs.{AnswersLive, RepliesLive};
+ghost use Rattle.role_server.specs.inner.LiveActs.{AnswersLive};
 
 use super::answer::{is_last, key_of};
 use super::live_act::{LIVE_LIMIT, act_under_held_key, act_under_new_key};

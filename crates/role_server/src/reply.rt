@@ -20,7 +20,7 @@ pub(crate) fn push_text(
 }
 
 /// Appends the text of the reply, and gives whether the reply says that its line made an event.
-pub(crate) fn push_told(
+pub fn push_told(
     alloc: Global,
     text: &mut Bytes,
     store: &Store,

@@ -1,25 +1,19 @@
--- What a live role does with an act and with a line.
-use Rattle.std.specs.Prelude.{◌≡◌, ◌≢◌, ◌<◌, ⊤, if◌then◌else◌, List, ◌∷◌, ◌++◌, length}
+-- What a live role does with an act.
+use Rattle.std.specs.Prelude.{◌≡◌, ◌≢◌, ◌<◌, ⊤, List, ◌∷◌, ◌++◌, length}
 use Rattle.std.specs.List.{All}
 use Rattle.bspl_types.specs.declared.expanded.Expanded.{Expanded}
 use Rattle.bspl_types.specs.declared.protocol.Adornment.TheVariants.{In}
 use Rattle.bspl_types.specs.declared.protocol.Carried.{Carried}
 use Rattle.bspl_types.specs.Expansion.{message_of}
-use Rattle.list_base.specs.Lines.{Line}
 use Rattle.local_store.specs.State.{StoreState}
 use Rattle.role_knowledge.specs.declared.block.Block.{Block}
 use Rattle.role_knowledge.specs.declared.block.Block.TheVariants.{Missing}
 use Rattle.wire_form.specs.declared.act.Act.{Act}
 use Rattle.wire_form.specs.declared.act.Act.TheVariants.{Arrival, Attempt}
 use Rattle.wire_form.specs.declared.reply.Reply.{Reply}
-use Rattle.role_server.specs.Live.{live_limit}
-use Rattle.role_server.specs.Replies.{AnswersAct, IsDone, Replies}
-use Rattle.role_server.specs.Served.{tells_event}
+use Rattle.role_server.specs.Live.{live_limit, next_store}
+use Rattle.role_server.specs.Replies.{AnswersAct, IsDone}
 use Rattle.role_server.specs.inner.Acts.{IsBeforeLast, IsOwn}
-
--- the store after a reply: that after the act if the reply tells of an event, or else this one
-abbrev pub next_store : StoreState → Reply → StoreState → StoreState
-next_store s reply after = if tells_event reply then after else s
 
 -- the act is done, and leaves the store if it makes no event
 pub record DoesLive (s : StoreState) (act : Act) (reply : Reply) (next : StoreState) : Type 0 where
@@ -32,13 +26,6 @@ pub record AnswersLive (s : StoreState) (act : Act) (reply : Reply) (next : Stor
     : Type 0 where
   pub after : StoreState
   pub answers : AnswersAct live_limit s act reply after
-  pub next_is : next ≡ next_store s reply after
-
--- the line is answered, and leaves the store if it makes no event
-pub record RepliesLive (s : StoreState) (line : Line) (reply : Reply) (next : StoreState)
-    : Type 0 where
-  pub after : StoreState
-  pub replies : Replies live_limit s line reply after
   pub next_is : next ≡ next_store s reply after
 
 -- the act is one of the role's, and its event has a number and a stamp
