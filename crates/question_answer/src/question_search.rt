@@ -69,9 +69,9 @@ impl<'a> QuestionSearch<'a> {
         })
     }
 
-    /// Looks for models that answer several of the questions each, where there are many, so that fewer
-    /// searches are needed. In a round the last is asked that no model answers, of those that ask
-    /// whether one thing happened, and then whether all can happen that still have no answer.
+    /// Looks for models that answer several of the questions each, if there are many, so that fewer
+    /// searches are needed. What is open is each question whether one thing happened that no model
+    /// answers. A round asks the last that is open, and then whether all can happen that still is.
     pub fn prepare(&mut self, alloc: Global, questions: &[Question]) -> Result<(), NoMemory>
         requires { All (IsAbout self.old) questions.now }
         ensures { self.new ≡ self.old }
