@@ -40,11 +40,13 @@ def in_turn(name):
 
 def keep(room, to):
     """Links to the program, if it is there by now, under a name of its own."""
-    for path in room.rglob("program*"):
-        with contextlib.suppress(OSError):
-            if path.is_file() and os.access(path, os.X_OK) and not (to.exists() and path.samefile(to)):
-                to.unlink(missing_ok=True)
-                os.link(path, to)
+    # a folder may go while it is searched; then the next call searches again
+    with contextlib.suppress(OSError):
+        for path in room.rglob("program*"):
+            with contextlib.suppress(OSError):
+                if path.is_file() and os.access(path, os.X_OK) and not (to.exists() and path.samefile(to)):
+                    to.unlink(missing_ok=True)
+                    os.link(path, to)
 
 
 def end(process):

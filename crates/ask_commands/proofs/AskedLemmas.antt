@@ -2,6 +2,7 @@
 use Rattle.std.proofs.Common.{◌≡◌, ℕ, zero, suc, ◌+◌, ◌<◌, List, [], ◌∷◌, ◌++◌, get_or, length, take, drop, sym, ap, subst, ◌∙◌, arith}
 use Rattle.std.specs.List.{All, AllZip}
 use Rattle.std.proofs.lemmas.List.{drop_more, take_more, take-append-drop}
+use Rattle.std.proofs.lemmas.List.Elements.{All-cons, All-nil}
 use Rattle.bspl_types.specs.declared.expanded.Expanded.{Expanded}
 use Rattle.protocol_rules.specs.declared.rule.Rule.{Rule}
 use Rattle.question_text.specs.Tree.{phrase_of}
@@ -71,3 +72,10 @@ pub question_about : (x : Expanded) (rules : List Rule) (questions : List Questi
 question_about x [] questions k q all within is = absurd (omega (arith, within))
 question_about x (rule ∷ rules) questions k q all within is =
     subst (IsAbout x) (sym is) (zip_at (IsQuestionOf x) (rule ∷ rules) questions k rule q all within).1.about
+
+-- each question is about the protocol
+pub questions_about : (x : Expanded) (rules : List Rule) (questions : List Question) → AllZip (IsQuestionOf x) rules questions → All (IsAbout x) questions
+questions_about x [] [] all = All-nil (IsAbout x)
+questions_about x [] (q ∷ questions) all = absurd all
+questions_about x (rule ∷ rules) [] all = All-nil (IsAbout x)
+questions_about x (rule ∷ rules) (q ∷ questions) all = All-cons (IsAbout x) q questions all.0.about (questions_about x rules questions all.1)

@@ -46,6 +46,7 @@ fn judge_rules(
         AreJudged protocol.now options rules.now reply.text reply.status) }
 {
     let mut searches = QuestionSearch::new(alloc, protocol)?;
+    searches.prepare(alloc, questions)?;
     let mut so_far = Judged::none(alloc, protocol.expanded())?;
     for index in 0..rules.len() {
         let answer = searches.answer(alloc, &questions[index], options.conflicts.conflicts())?;

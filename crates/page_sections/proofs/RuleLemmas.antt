@@ -1,8 +1,8 @@
 -- The rules are shown one after the other.
 use Rattle.std.proofs.Common.{◌≡◌, ℕ, zero, suc, ◌+◌, ◌<◌, ◌≤◌, List, [], ◌∷◌, ◌++◌, append-nil, get_or, length, map, take, refl, sym, ap, subst, ◌∙◌, arith}
-use Rattle.std.specs.List.{AllZip, flat_map}
+use Rattle.std.specs.List.{All, AllZip, flat_map}
 use Rattle.std.proofs.lemmas.List.{length-map, map_push, take_all, take_more}
-use Rattle.std.proofs.lemmas.List.Elements.{All-push}
+use Rattle.std.proofs.lemmas.List.Elements.{All-cons, All-nil, All-push}
 use Rattle.ask_commands.specs.AskedRules.{IsQuestionOf}
 use Rattle.ask_commands.specs.Judgement.{IsRightlyJudged, JudgedRule, said_of}
 use Rattle.bspl_types.specs.declared.expanded.Expanded.{Expanded}
@@ -100,3 +100,10 @@ some_section x budget rules old middle new some begins shown =
       };
       text = then_written old middle new start items begins shown.text;
     }
+
+-- each question is about the protocol
+pub questions_about : (x : Expanded) (rules : List Rule) (questions : List Question) → AllZip (IsQuestionOf x) rules questions → All (IsAbout x) questions
+questions_about x [] [] all = All-nil (IsAbout x)
+questions_about x [] (q ∷ questions) all = absurd all
+questions_about x (rule ∷ rules) [] all = All-nil (IsAbout x)
+questions_about x (rule ∷ rules) (q ∷ questions) all = All-cons (IsAbout x) q questions all.0.about (questions_about x rules questions all.1)

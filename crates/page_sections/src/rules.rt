@@ -78,6 +78,7 @@ fn push_judged(
     ensures { OnOk result (AreShown a.now conflicts rules.now text.old text.new) }
 {
     let mut searches = QuestionSearch::new(alloc, a)?;
+    searches.prepare(alloc, questions)?;
     for index in 0..rules.len() {
         let answer = searches.answer(alloc, &questions[index], conflicts)?;
         let pushed = push_rule(alloc, text, a, &rules[index], &answer);

@@ -1,6 +1,6 @@
 -- Models of earlier questions, and the condition that they may meet.
-use Rattle.std.proofs.Common.{◌≡◌, ℕ, ◌<◌, ◌≤◌, Bool, List, [], ◌∷◌, ◌++◌, length, sym, ap, ◌∙◌, subst, arith, All, length-append}
-use Rattle.std.proofs.lemmas.List.Elements.{All-push, All-weaker}
+use Rattle.std.proofs.Common.{◌≡◌, ℕ, ◌<◌, ◌≤◌, Bool, List, [], ◌∷◌, ◌++◌, length, Some, sym, ap, ◌∙◌, subst, arith, All, length-append}
+use Rattle.std.proofs.lemmas.List.Elements.{All-pop, All-push, All-weaker}
 use Rattle.bspl_types.specs.declared.expanded.Expanded.{Expanded}
 use Rattle.circuit_clauses.specs.Condition.{Condition, Literal, Both, Either, Always, Never, IsOver}
 use Rattle.clause_encoding.specs.declared.variables.Variables.{Variables}
@@ -10,7 +10,8 @@ use Rattle.question_formula.specs.Conditions.{asked}
 use Rattle.question_formula.specs.Formula.{question_condition}
 use Rattle.question_formula.specs.Laws.{ConditionVariablesExist}
 use Rattle.questions.specs.declared.question.Question.{Question}
-use Rattle.questions.specs.Subject.{IsAbout}
+use Rattle.questions.specs.declared.question.Happening.{Happening}
+use Rattle.questions.specs.Subject.{IsAbout, IsAboutHappening}
 use Rattle.question_answer.specs.declared.question_search.TheConstants.{MOST_MODELS}
 use Rattle.question_answer.specs.inner.Models.{IsSearchOf, IsSharedModel}
 
@@ -41,3 +42,7 @@ kept x formulas models model search_of shared room = record {
   few = omega (arith, room, length-append models (model ∷ []));
   each = All-push (IsSharedModel x) models model search_of.each shared;
 }
+
+-- of what is open, the last and the others are of the protocol
+pub last_and_others : (x : Expanded) (all others : List Happening) (last : Happening) → all ≡ others ++ last ∷ [] → All (IsAboutHappening x) all → All (IsAboutHappening x) others × IsAboutHappening x last
+last_and_others x all others last is known = All-pop (IsAboutHappening x) all others (Some last) is known

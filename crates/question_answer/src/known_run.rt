@@ -39,7 +39,7 @@ pub(crate) fn known_run(
 }
 
 /// The first of the models that meets the condition.
-fn first_met<'m>(models: &'m [Assignment], c: &Circuit) -> Option<&'m Assignment>
+pub(crate) fn first_met<'m>(models: &'m [Assignment], c: &Circuit) -> Option<&'m Assignment>
     requires { All (λ model. IsOver (length model) (condition_of c.now)) models.now }
     ensures { MatchOption result
         (All (λ model. ¬ Meets (valuation model) (condition_of c.now)) models.now)

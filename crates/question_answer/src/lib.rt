@@ -4,6 +4,7 @@
 mod answer;
 mod answering_run;
 mod check;
+mod common_question;
 mod first_yes;
 mod known_run;
 mod laws;

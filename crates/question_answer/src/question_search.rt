@@ -1,5 +1,6 @@
 use super::answer::Answer;
 use super::answering_run::answering_run;
+use super::common_question::{all_happened, open_happenings};
 use super::known_run::known_run;
 use bspl_types::Admitted;
 use circuit_clauses::Circuit;
@@ -18,6 +19,12 @@ use verdict::{numbers_in_range, search_model};
 
 /// How many models are kept at most, since each of them is tried before a search.
 const MOST_MODELS: usize = 64;
+
+/// To how many questions there is one round of a preparation.
+const ROUND: usize = 16;
+
+/// How many conflicts a search in it may have.
+const PREPARING_CONFLICTS: u32 = 100;
 
 /// Searches of one protocol, which make the clauses that all questions share once, and keep the
 /// models that they find: one that meets the condition of a later question answers it with no
@@ -41,7 +48,7 @@ impl<'a> Model for QuestionSearch<'a> {
 }
 
 impl<'a> QuestionSearch<'a> {
-    ghost use Rattle.std.specs.Prelude.{◌≡◌, ◌≤◌, IfOk};
+    ghost use Rattle.std.specs.Prelude.{◌≡◌, ◌≤◌, All, IfOk};
     ghost use Rattle.circuit_clauses.specs.Condition.{condition_of};
     ghost use Rattle.question_formula.specs.Formula.{question_condition};
     ghost use Rattle.questions.specs.Subject.{IsAbout};
@@ -60,6 +67,48 @@ impl<'a> QuestionSearch<'a> {
             formulas,
             models,
         })
+    }
+
+    /// Looks for models that answer several of the questions each, if there are many, so that fewer
+    /// searches are needed. What is open is each question whether one thing happened that no model
+    /// answers. A round asks the last that is open, and then whether all can happen that still is.
+    pub fn prepare(&mut self, alloc: Global, questions: &[Question]) -> Result<(), NoMemory>
+        requires { All (IsAbout self.old) questions.now }
+        ensures { self.new ≡ self.old }
+    {
+        for _ in 0..questions.len() / ROUND {
+            if !self.is_last_possible(alloc, questions)? {
+                return Ok(());
+            }
+            self.ask_together(alloc, questions)?;
+        }
+        Ok(())
+    }
+
+    /// Answers the last of the questions that is open, and says whether it is possible.
+    fn is_last_possible(&mut self, alloc: Global, questions: &[Question]) -> Result<bool, NoMemory>
+        requires { All (IsAbout self.old) questions.now }
+        ensures { self.new ≡ self.old }
+    {
+        let mut open = open_happenings(alloc, self.protocol, self.models.as_slice(), questions)?;
+        let Some(last) = open.pop() else {
+            return Ok(false);
+        };
+        let answer = self.answer(alloc, &Question::Happened(last), PREPARING_CONFLICTS)?;
+        Ok(matches!(answer, Answer::Possible(_)))
+    }
+
+    /// Asks whether all can happen that is open in the questions.
+    fn ask_together(&mut self, alloc: Global, questions: &[Question]) -> Result<(), NoMemory>
+        requires { All (IsAbout self.old) questions.now }
+        ensures { self.new ≡ self.old }
+    {
+        let mut open = open_happenings(alloc, self.protocol, self.models.as_slice(), questions)?;
+        if let Some(last) = open.pop() {
+            let all = all_happened(alloc, last, open.as_slice())?;
+            self.answer(alloc, &all, PREPARING_CONFLICTS)?;
+        }
+        Ok(())
     }
 
     /// Decides whether some legal run gives the answer yes at some key, by the model of an earlier

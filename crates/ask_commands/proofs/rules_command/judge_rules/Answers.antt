@@ -1,19 +1,24 @@
 -- One rule more is judged.
-use Rattle.std.proofs.Common.{◌≡◌, refl, sym, ◌∙◌, subst, arith}
+use Rattle.std.proofs.Common.{◌≡◌, All, refl, sym, ◌∙◌, subst, arith}
 use Rattle.std.proofs.lemmas.Slice.Zip.{AllZip-long}
 use Rattle.questions.specs.Subject.{IsAbout}
 use Rattle.bspl_types.specs.declared.expanded.Expanded.{Expanded}
 use Rattle.ask_commands.specs.AskAnswer.{asked_protocol_line}
 use Rattle.ask_commands.specs.AskedRules.{IsQuestionOf}
-use Rattle.ask_commands.proofs.AskedLemmas.{question_about, question_at}
+use Rattle.ask_commands.proofs.AskedLemmas.{question_about, question_at, questions_about}
 use Rattle.ask_commands.proofs.JudgedLemmas.{all_judged, none_judged, one_judged}
 use Rattle.ask_commands.proofs.rules_command.judge_rules.Goals as goal
+
+pub prepare-requires : goal.prepare-requires
+prepare-requires c =
+    subst (λ (x : Expanded). All (IsAbout x) c.args.questions.now) (sym c.in_ok-searches.ensures)
+    (questions_about c.args.protocol.now c.args.rules.now c.args.questions.now c.requires)
 
 pub loop-index-init : goal.loop-index-init
 loop-index-init c =
     let so_far = c.in_ok-so_far.so_far in
     let line = subst (λ (x : Expanded). so_far.text ≡ asked_protocol_line x) c.expanded.ensures.same c.in_ok-so_far.ensures.text in
-    (none_judged c.args.protocol.now c.args.options c.args.rules.now so_far line c.in_ok-so_far.ensures.broken c.in_ok-so_far.ensures.unjudged, c.in_ok-searches.ensures)
+    (none_judged c.args.protocol.now c.args.options c.args.rules.now so_far line c.in_ok-so_far.ensures.broken c.in_ok-so_far.ensures.unjudged, c.prepare.ensures ∙ c.in_ok-searches.ensures)
 
 pub bounds-questions-index : goal.bounds-questions-index
 bounds-questions-index c = let long = AllZip-long (IsQuestionOf c.args.protocol.now) c.args.rules.now c.args.questions.now c.requires in omega (arith, long, c.loop-index-test.true)

@@ -1,14 +1,19 @@
 -- One rule more is shown.
-use Rattle.std.proofs.Common.{sym, ◌∙◌, subst, arith}
+use Rattle.std.proofs.Common.{All, sym, ◌∙◌, subst, arith}
 use Rattle.std.proofs.lemmas.Slice.Zip.{AllZip-long}
 use Rattle.ask_commands.specs.AskedRules.{IsQuestionOf}
 use Rattle.bspl_types.specs.declared.expanded.Expanded.{Expanded}
 use Rattle.questions.specs.Subject.{IsAbout}
-use Rattle.page_sections.proofs.RuleLemmas.{all_shown, none_shown, one_shown, question_about, question_at}
+use Rattle.page_sections.proofs.RuleLemmas.{all_shown, none_shown, one_shown, question_about, question_at, questions_about}
 use Rattle.page_sections.proofs.rules.push_judged.Goals as goal
 
+pub prepare-requires : goal.prepare-requires
+prepare-requires c =
+    subst (λ (x : Expanded). All (IsAbout x) c.args.questions.now) (sym c.in_ok-searches.ensures)
+    (questions_about c.args.a.now c.args.rules.now c.args.questions.now c.requires.questions)
+
 pub loop-index-init : goal.loop-index-init
-loop-index-init c = (none_shown c.args.a.now c.args.conflicts c.args.rules.now c.args.text.now, c.in_ok-searches.ensures)
+loop-index-init c = (none_shown c.args.a.now c.args.conflicts c.args.rules.now c.args.text.now, c.prepare.ensures ∙ c.in_ok-searches.ensures)
 
 pub bounds-questions-index : goal.bounds-questions-index
 bounds-questions-index c = let long = AllZip-long (IsQuestionOf c.args.a.now) c.args.rules.now c.args.questions.now c.requires.questions in omega (arith, long, c.loop-index-test.true)
