@@ -32,7 +32,8 @@ unread_asks line (inr lacks) request asks =
     (Contains-push asks.body 10) refl)
 
 -- so it is refused, is not kept, and changes nothing
-pub unread_replies : LeavesUnread ServesLine (λ (s : StoreState). reply_text s.protocol (Refused F1))
+pub unread_replies :
+    LeavesUnread ServesLine (λ (s : StoreState). reply_text s.protocol (Refused F1))
 unread_replies s line unread = record {
   reply = Refused F1;
   replies = nothing (unread_asks line unread) refl refl;
