@@ -14,9 +14,9 @@ use Rattle.bspl_types.specs.declared.value.Value.{Value}
 use Rattle.bspl_types.specs.Expansion.{message_of}
 use Rattle.bspl_types.specs.Knowledge.{CanEmit, IsKnown}
 use Rattle.role_knowledge.specs.Blocked.{IsPermitted, Permits}
-use Rattle.local_store.specs.State.{StoreState, acts_of}
+use Rattle.local_store.specs.State.{StoreState}
 use Rattle.role_questions.specs.declared.form.Form.{Form}
-use Rattle.role_questions.specs.Forms.{AreEnabled, AreForms, IsForm, MaySend}
+use Rattle.role_questions.specs.Forms.{AreForms, IsForm, MaySend}
 use Rattle.role_questions.specs.inner.FormOf.{IsFormOf}
 
 module _ (x : Expanded) (history : List Event) (m : ℕ) (key : List Value) where

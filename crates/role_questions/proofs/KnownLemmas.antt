@@ -1,5 +1,5 @@
 -- Lists of known values that grow by one parameter.
-use Rattle.std.proofs.Common.{◌≡◌, ◌<◌, ◌≤◌, ◌+◌, ◌⊎◌, ℕ, List, [], ◌∷◌, ◌++◌, inl, inr, length, get_or, take, sym, ap, subst, ◌∙◌, arith}
+use Rattle.std.proofs.Common.{◌≡◌, ◌<◌, ◌+◌, ◌⊎◌, ℕ, List, [], ◌∷◌, ◌++◌, inl, inr, length, get_or, take, sym, ap, subst, arith}
 use Rattle.std.specs.Prelude.{◌↔◌}
 use Rattle.std.specs.List.{AllPairs, Contains}
 use Rattle.std.proofs.lemmas.Bool.{cases_eq}
@@ -9,14 +9,13 @@ use Rattle.std.proofs.lemmas.List.Quantifiers.{all_pairs_push}
 use Rattle.list_base.proofs.Members.{nowhere}
 use Rattle.bspl_types.specs.declared.event.Event.{Event}
 use Rattle.bspl_types.specs.declared.expanded.Expanded.{Expanded}
-use Rattle.bspl_types.specs.declared.protocol.Adornment.{Adornment}
 use Rattle.bspl_types.specs.declared.protocol.Adornment.TheVariants.{In}
 use Rattle.bspl_types.specs.declared.protocol.Carried.{Carried}
 use Rattle.bspl_types.specs.declared.value.Value.{Value}
 use Rattle.bspl_types.specs.Knowledge.{IsKnown, Knows}
 use Rattle.stamped_history.specs.Local.{KnowsOneValue}
 use Rattle.role_questions.specs.declared.form.KnownValue.{KnownValue}
-use Rattle.role_questions.specs.Known.{IsKnowledge, ListsValue}
+use Rattle.role_questions.specs.Known.{ListsValue}
 use Rattle.role_questions.specs.inner.Added.{AddsKnown}
 
 -- a parameter with its value

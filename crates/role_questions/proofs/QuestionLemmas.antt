@@ -9,12 +9,12 @@ use Rattle.serde_json.specs.Read.{read}
 use Rattle.serde_json.specs.View.{items_of}
 use Rattle.bspl_types.specs.declared.value.Value.{Value}
 use Rattle.bspl_types.specs.ValueSpelling.{SpellsValue, ValuesAreSpelledOnce}
-use Rattle.wire_form.specs.Request.{Asks, Request, emit, receive, request_data}
+use Rattle.wire_form.specs.Request.{Request, emit, receive, request_data}
 use Rattle.role_questions.specs.declared.question.Question.{Question}
 use Rattle.role_questions.specs.declared.question.Question.TheVariants.{Enabled, Known}
 use Rattle.role_questions.specs.Laws.{LinePutsOneQuestion, QuestionIsNoRequest}
 use Rattle.role_questions.specs.Meaning.{MeansAsked, SpellsKey}
-use Rattle.role_questions.specs.Questions.{Puts, TextQuestion, ask_enabled, ask_history, ask_keys, ask_known, ask_status, question_data}
+use Rattle.role_questions.specs.Questions.{TextQuestion, ask_enabled, ask_history, ask_keys, ask_known, ask_status, question_data}
 
 -- texts are known by the array of their strings
 texts_are_one : (ts us : List (List ℕ)) → items_of (map string ts) ≡ items_of (map string us) → ts ≡ us

@@ -21,7 +21,8 @@ use Rattle.wire_form.specs.Reply.{message_data, only, put_values, value_data}
 use Rattle.role_questions.specs.declared.form.Form.{Form}
 use Rattle.role_questions.specs.declared.form.KnownValue.{KnownValue}
 use Rattle.role_questions.specs.declared.question.Question.{Question}
-use Rattle.role_questions.specs.declared.question.Question.TheVariants.{Enabled, History, Keys, Known, Status}
+use Rattle.role_questions.specs.declared.question.Question.TheVariants.{Enabled, History}
+use Rattle.role_questions.specs.declared.question.Question.TheVariants.{Keys, Known, Status}
 use Rattle.role_questions.specs.Forms.{AreForms}
 use Rattle.role_questions.specs.Known.{IsKnowledge}
 

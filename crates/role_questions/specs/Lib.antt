@@ -1,5 +1,5 @@
--- Questions to a live role, what they mean and how they are answered; the forms of what the role may
--- send, and what it knows; laws.
+-- Questions to a live role, what they mean and how they are answered; the forms of what the role
+-- may send, and what it knows; laws.
 pub mod Questions
 pub mod Meaning
 pub mod Answers

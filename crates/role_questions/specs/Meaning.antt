@@ -6,9 +6,11 @@ use Rattle.bspl_types.specs.declared.value.Value.{Value}
 use Rattle.bspl_types.specs.ValueSpelling.{SpellsValue}
 use Rattle.list_base.specs.Lines.{Line}
 use Rattle.role_questions.specs.declared.question.Question.{Question}
-use Rattle.role_questions.specs.declared.question.Question.TheVariants.{Enabled, History, Keys, Known, Status}
+use Rattle.role_questions.specs.declared.question.Question.TheVariants.{Enabled, History}
+use Rattle.role_questions.specs.declared.question.Question.TheVariants.{Keys, Known, Status}
 use Rattle.role_questions.specs.declared.question.QuestionReading.{QuestionReading}
-use Rattle.role_questions.specs.declared.question.QuestionReading.TheVariants.{Meant, NotMeant, NotRead}
+use Rattle.role_questions.specs.declared.question.QuestionReading.TheVariants.{Meant}
+use Rattle.role_questions.specs.declared.question.QuestionReading.TheVariants.{NotMeant, NotRead}
 use Rattle.role_questions.specs.Questions.{Puts, TextQuestion, ask_enabled, ask_history, ask_keys}
 use Rattle.role_questions.specs.Questions.{ask_known, ask_status}
 

@@ -1,4 +1,5 @@
-ghost use Rattle.role_questions.specs.Laws.{FormsAreEnabled, LinePutsOneQuestion, QuestionIsNoRequest};
+ghost use Rattle.role_questions.specs.Laws.{FormsAreEnabled, LinePutsOneQuestion};
+ghost use Rattle.role_questions.specs.Laws.{QuestionIsNoRequest};
 
 use bspl_types::spells_once;
 

@@ -4,7 +4,8 @@ use Rattle.wire_form.specs.Texts.{texts_in}
 use Rattle.bspl_types.specs.declared.expanded.Expanded.{Expanded}
 use Rattle.bspl_types.specs.declared.value.Value.{Value}
 use Rattle.role_questions.specs.declared.found.Found.{Found}
-use Rattle.role_questions.specs.declared.found.Found.TheVariants.{Enabled, History, Keys, Known, Status}
+use Rattle.role_questions.specs.declared.found.Found.TheVariants.{Enabled, History, Keys}
+use Rattle.role_questions.specs.declared.found.Found.TheVariants.{Known, Status}
 use Rattle.role_questions.specs.declared.question.Question.{Question}
 use Rattle.role_questions.specs.Meaning.{HasWholeKey, MeansAsked, SpellsKey}
 use Rattle.role_questions.specs.Questions.{TextQuestion, ask_enabled, ask_history, ask_keys}

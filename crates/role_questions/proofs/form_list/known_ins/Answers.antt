@@ -1,15 +1,12 @@
 -- One parameter further, and all of them.
 use Rattle.std.proofs.Common.{◌≡◌, ◌+◌, ◌∙◌, ◌∷◌, ◌++◌, [], ℕ, List, ap, get_or, map, subst, sym}
-use Rattle.std.specs.Prelude.{◌↔◌}
-use Rattle.std.specs.List.{All, Contains, filter}
+use Rattle.std.specs.List.{filter}
 use Rattle.std.proofs.lemmas.Bool.{true≢false}
 use Rattle.std.proofs.lemmas.List.{take_all}
 use Rattle.std.proofs.lemmas.List.Elements.{All-get_or}
 use Rattle.list_base.proofs.Members.{nowhere}
 use Rattle.bspl_types.specs.declared.protocol.Adornment.TheVariants.{In}
 use Rattle.bspl_types.specs.declared.protocol.Carried.{Carried}
-use Rattle.bspl_types.specs.declared.value.Value.{Value}
-use Rattle.bspl_types.specs.Knowledge.{Knows}
 use Rattle.local_store.specs.State.{acts_of}
 use Rattle.role_knowledge.specs.Blocked.{IsPermitted}
 use Rattle.role_questions.specs.Forms.{ListsIns, is_adorned_in}
