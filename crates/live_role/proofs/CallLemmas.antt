@@ -1,17 +1,13 @@
 -- How a call ends, and which faults are counted.
-use Rattle.std.proofs.Common.{◌≡◌, ℕ, List, Option, Result, Ok, Err, IsErrOf, refl, sym, ap, subst, ◌∙◌}
+use Rattle.std.proofs.Common.{◌≡◌, ℕ, List, Result, Ok, Err, refl, sym, ap, subst}
 use Rattle.bspl_io.specs.Traffic.{Traffic}
 use Rattle.kept_lines.specs.Flow.{IsCountedIf, StreamFaults}
 use Rattle.kept_lines.specs.Stream.{NamesItsFault}
 use Rattle.kept_lines.specs.declared.stream_refusal.StreamRefusal.{StreamRefusal}
 use Rattle.kept_lines.specs.declared.stream_refusal.StreamRefusal.TheVariants as refusal
-use Rattle.list_base.specs.declared.memory.NoMemory.{NoMemory as OutOfMemory}
-use Rattle.program_frame.specs.Prepared.{AreReadsCounted, AreWritesCounted}
-use Rattle.program_frame.specs.Reply.{IsWritten}
 use Rattle.program_frame.specs.declared.ending.Ending.{Ending}
 use Rattle.program_frame.specs.declared.ending.Ending.TheVariants as ending
 use Rattle.program_frame.specs.declared.ending.Ending.TheVariants.{Answered, NoMemory, ReadFault, WriteFault}
-use Rattle.program_frame.specs.declared.reply.Reply.{Reply}
 use Rattle.tool_input.specs.declared.status.Status.{Status}
 use Rattle.live_role.specs.Call.{IsRoleCall, NamesRoleFault, declined, unread}
 use Rattle.live_role.specs.Journal.{JournalsAt}
@@ -23,34 +19,12 @@ use Rattle.live_role.specs.declared.role_end.RoleEnding.TheVariants.{Ended, NotK
 use Rattle.live_role.specs.declared.role_journal.RoleJournal.TheVariants.{Unkept}
 use Rattle.live_role.specs.inner.Prepared.{EndsUnserved}
 
--- a count that is the same was counted for nothing
-uncounted : (fault : Type 0) (count after : ℕ) → (fault → ⊥) → after ≡ count → IsCountedIf fault count after
-uncounted fault count after none same = record { counted = λ is. absurd (none is); still = λ _. same }
-
 -- what is counted for one fault is counted for another that comes with it
 counted_as : (fault other : Type 0) (count after : ℕ) → (other → fault) → (fault → other) → IsCountedIf fault count after → IsCountedIf other count after
 counted_as fault other count after to from is = record { counted = λ it. is.counted (to it); still = λ none. is.still (λ it. none (from it)) }
 
--- a reply does not end with a fault of reading
-not_unread : {S : Type 0} (made : Result (Reply S) OutOfMemory) (old new : Option (List ℕ)) (end : Ending S) → IsWritten made old new end → end ≡ ending.ReadFault → ⊥
-not_unread (Ok reply) old new end written fault =
-    let none : IsWritten (Ok reply) old new ending.ReadFault = subst (IsWritten (Ok reply) old new) fault written in none
-not_unread (Err e) old new end written fault = let memory : end ≡ ending.NoMemory = written.0 in cc
-
--- the ending of the frame within that of a role
-inner_end : (end other : Ending Status) → Ended end ≡ Ended other → end ≡ other
-inner_end end other is = cc
-
--- after a reply the faults of writing are counted
-pub reply_names : (c : StreamFaults) (made : Result (Reply Status) OutOfMemory) (old new : Option (List ℕ)) (end : Ending Status) → IsWritten made old new end → c.reads_after ≡ c.reads → AreWritesCounted c.writes c.writes_after end → c.keeps_after ≡ c.keeps → NamesRoleFault c (Ended end)
-reply_names c made old new end written reads writes keeps = record {
-  read = uncounted (Ended end ≡ Ended ending.ReadFault) c.reads c.reads_after (λ is. not_unread made old new end written (inner_end end ending.ReadFault is)) reads;
-  write = record { counted = λ is. writes.fault (inner_end end ending.WriteFault is); still = λ none. writes.no_fault (λ is. none (ap Ended is)) };
-  keep = uncounted (Ended end ≡ NotKept) c.keeps c.keeps_after (λ is. absurd cc) keeps;
-}
-
--- after serving those of all three
-pub serving_names : {X : Type 0} (c : StreamFaults) (served : Result X StreamRefusal) → NamesItsFault c served → NamesRoleFault c (serving_ending served)
+-- after serving the one fault that was counted is named
+serving_names : {X : Type 0} (c : StreamFaults) (served : Result X StreamRefusal) → NamesItsFault c served → NamesRoleFault c (serving_ending served)
 serving_names c (Ok x) is = record {
   read = counted_as _ _ c.reads c.reads_after (λ it. absurd cc) (λ it. absurd cc) is.read;
   write = counted_as _ _ c.writes c.writes_after (λ it. absurd cc) (λ it. absurd cc) is.write;
@@ -81,6 +55,15 @@ serving_names c (Err refusal.NoMemory) is = record {
   write = counted_as _ _ c.writes c.writes_after (λ it. absurd cc) (λ it. absurd cc) is.write;
   keep = counted_as _ _ c.keeps c.keeps_after (λ it. absurd cc) (λ it. absurd cc) is.keep;
 }
+
+-- so it is with the counts from before, when no fault of reading or keeping had been counted
+pub served_names : {X : Type 0} (reads reads_then reads_after writes writes_after keeps keeps_after : ℕ) (served : Result X StreamRefusal) (end : RoleEnding) → reads_then ≡ reads → keeps ≡ 0 → end ≡ serving_ending served → NamesItsFault (record { reads = reads_then; reads_after = reads_after; writes = writes; writes_after = writes_after; keeps = keeps; keeps_after = keeps_after }) served → NamesRoleFault (record { reads = reads; reads_after = reads_after; writes = writes; writes_after = writes_after; keeps = 0; keeps_after = keeps_after }) end
+served_names reads reads_then reads_after writes writes_after keeps keeps_after served end same none is names =
+    let after : NamesRoleFault (record { reads = reads_then; reads_after = reads_after; writes = writes; writes_after = writes_after; keeps = keeps; keeps_after = keeps_after }) (serving_ending served) =
+    serving_names (record { reads = reads_then; reads_after = reads_after; writes = writes; writes_after = writes_after; keeps = keeps; keeps_after = keeps_after }) served names in
+    subst (NamesRoleFault (record { reads = reads; reads_after = reads_after; writes = writes; writes_after = writes_after; keeps = 0; keeps_after = keeps_after })) (sym is)
+    (subst (λ (k : ℕ). NamesRoleFault (record { reads = reads; reads_after = reads_after; writes = writes; writes_after = writes_after; keeps = k; keeps_after = keeps_after }) (serving_ending served)) none
+    (subst (λ (r : ℕ). NamesRoleFault (record { reads = r; reads_after = reads_after; writes = writes; writes_after = writes_after; keeps = keeps; keeps_after = keeps_after }) (serving_ending served)) same after))
 
 -- a call that ended before it wrote
 pub ended_call : {J : Type 0} (at : JournalsAt J) (args : List (List ℕ)) (r : RoleRequest) (t : Traffic) (tool_end : Ending Status) (end : RoleEnd J) → RequestsRole args r → EndsUnserved t.remaining t.remaining_after tool_end → t.contents_after ≡ t.contents → end ≡ record { ending = Ended tool_end; journal = Unkept } → IsRoleCall at args t end

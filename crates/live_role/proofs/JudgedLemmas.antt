@@ -5,7 +5,6 @@ use Rattle.bspl_types.specs.Limits.{input_limit}
 use Rattle.list_base.specs.declared.memory.NoMemory.{NoMemory as OutOfMemory}
 use Rattle.local_store.specs.State.{StoreState}
 use Rattle.program_frame.specs.declared.reply.Reply.{Reply}
-use Rattle.program_frame.specs.Prepared.{AreReadsCounted}
 use Rattle.tool_input.specs.declared.status.Status.{Status}
 use Rattle.tool_input.specs.declared.status.Status.TheVariants as status
 use Rattle.tool_input.specs.declared.parts.Part.TheVariants.{Wire}
@@ -16,25 +15,14 @@ use Rattle.live_role.specs.Judgement.{Accepts}
 use Rattle.live_role.specs.Opening.{EndsUnopened, IsUnopenedTooLong, TakesOpening}
 use Rattle.live_role.specs.Request.{JournalRequest, RoleRequest}
 use Rattle.live_role.specs.Serving.{BeginsRole}
-use Rattle.live_role.specs.declared.begun.Begun.{Begun}
 use Rattle.live_role.specs.declared.begun.Unbegun.TheVariants.{Refused}
 use Rattle.live_role.specs.declared.journal_refusal.JournalRefusal.{JournalRefusal}
 use Rattle.live_role.specs.declared.role_journal.RoleJournal.{RoleJournal}
 use Rattle.live_role.specs.inner.Begun.{CannotBegin}
 use Rattle.live_role.specs.inner.Judged.{IsReply}
-use Rattle.live_role.specs.inner.Prepared.{HasNoFault, IsPrepared, prepared_of}
+use Rattle.live_role.specs.inner.Prepared.{IsPrepared, prepared_of}
 
 module _ {J : Type 0} (at : JournalsAt J) (r : RoleRequest) (old new : Option (List ℕ)) where
-  -- the input ended before the line
-  pub ended : (made : Result (Reply Status) OutOfMemory) → EndsUnopened old new → IfOk made (IsReply (rejection_line (lacks_part Wire)) status.Refused) → IsPrepared at r old new (prepared_of made)
-  ended (Ok reply) ends is = no_line ends is.is_text is.is_status
-  ended (Err e) ends is = tt
-
-  -- too many bytes came before it
-  pub too_many : (made : Result (Reply Status) OutOfMemory) → IsUnopenedTooLong old new → IfOk made (IsReply (rejection_line (over_limit input_limit)) status.Refused) → IsPrepared at r old new (prepared_of made)
-  too_many (Ok reply) long is = too_long long is.is_text is.is_status
-  too_many (Err e) long is = tt
-
   module _ (text ahead : List ℕ) (x : Expanded) (index : ℕ) (opening : TakesOpening text ahead old new) (accepted : Accepts r text x index) where
     -- the role begins
     pub begins : (store : StoreState) (journal : RoleJournal J) → BeginsFrom at r.journal x index store journal → BeginsRole at r old new store journal ahead
@@ -45,13 +33,3 @@ module _ {J : Type 0} (at : JournalsAt J) (r : RoleRequest) (old new : Option (L
     refused_journal None refusal made same cannot is = absurd cannot
     refused_journal (Some j) refusal (Ok reply) same cannot is = unopened text ahead opening x index accepted j same refusal cannot is.is_text is.is_status
     refused_journal (Some j) refusal (Err e) same cannot is = tt
-
--- neither of these is a fault of reading
-pub replied_counted : {J : Type 0} (made : Result (Reply Status) OutOfMemory) (reads after : ℕ) → after ≡ reads → AreReadsCounted {Begun J} reads after (prepared_of made)
-replied_counted (Ok reply) reads after same = record { fault = λ is. absurd (cc); no_fault = λ _. same }
-replied_counted (Err e) reads after same = record { fault = λ is. absurd (cc); no_fault = λ _. same }
-
--- and neither has a journal
-pub replied_unfailed : {J : Type 0} (faults : J → ℕ) (made : Result (Reply Status) OutOfMemory) → HasNoFault faults (prepared_of made)
-replied_unfailed faults (Ok reply) = tt
-replied_unfailed faults (Err e) = tt

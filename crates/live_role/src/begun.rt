@@ -1,7 +1,7 @@
-ghost use Rattle.std.specs.Prelude.{◌≡◌, ◌<◌, length, IfErr, IfOk, Some};
+ghost use Rattle.std.specs.Prelude.{◌≡◌, ◌+◌, ◌<◌, ◌≤◌, length, IfErr, IfOk, Some};
 ghost use Rattle.role_server.specs.Live.{first_live_store};
 ghost use Rattle.live_role.specs.Journal.{BeginsFrom, faults_by, journals_at, lf_count};
-ghost use Rattle.live_role.specs.inner.Begun.{CannotBegin, unrestored_by};
+ghost use Rattle.live_role.specs.inner.Begun.{CannotBegin, NamesLineOf, unrestored_by};
 ghost use Rattle.live_role.specs.inner.Request.{journal_said};
 
 use super::journal_head::journal_head;
@@ -108,7 +108,9 @@ fn begin_with<F: Journals>(
     let found = journals.find(wanted.path, head.as_slice())?;
     let live = match restore(alloc, live, F::lines(&found)) {
         Ok(live) => live,
-        Err(refusal) => return Err(unrestored(head.as_slice(), refusal)),
+        Err(refusal) => {
+            return Err(unrestored(head.as_slice(), F::lines(&found), refusal));
+        }
     };
     match F::begin(alloc, found, wanted.syncs) {
         Ok(journal) => Ok(Begun {
@@ -121,15 +123,25 @@ fn begin_with<F: Journals>(
 }
 
 /// Why lines behind the head are not restored. A line is named by its number in the file.
-fn unrestored(head: &[u8], refusal: RestoreRefusal) -> Unbegun
+fn unrestored(head: &[u8], lines: &[u8], refusal: RestoreRefusal) -> Unbegun
+    requires { NamesLineOf lines.now refusal }
     ensures { result ≡ unrestored_by head.now refusal }
 {
     match refusal {
         RestoreRefusal::NotKept { line } => Unbegun::Refused(JournalRefusal::NoEvent {
-            line: line.saturating_add(line_count(head)),
+            line: line_in_file(head, lines, line),
         }),
         RestoreRefusal::NoMemory => Unbegun::NoMemory,
     }
+}
+
+/// The number in the file of a line behind the head.
+#[tactic(auto, using(crate::proofs::BegunLemmas::lf_few))]
+fn line_in_file(head: &[u8], lines: &[u8], line: u64) -> u64
+    requires { line ≤ length lines.now }
+    ensures { result ≡ lf_count head.now + line }
+{
+    line_count(head) + line
 }
 
 /// How many LFs are among the bytes.

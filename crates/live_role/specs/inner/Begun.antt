@@ -1,5 +1,5 @@
 -- Why a role does not begin.
-use Rattle.std.specs.Prelude.{ℕ, ◌+◌, List, Option, None, Some, min, ⊤}
+use Rattle.std.specs.Prelude.{ℕ, ◌+◌, ◌≤◌, List, Option, None, Some, length, ⊤}
 use Rattle.bspl_types.specs.declared.expanded.Expanded.{Expanded}
 use Rattle.kept_lines.specs.declared.kept_text.RestoreRefusal.{RestoreRefusal}
 use Rattle.kept_lines.specs.declared.kept_text.RestoreRefusal.TheVariants as restoring
@@ -27,6 +27,10 @@ unbegun_by opening.NoMemory = NoMemory
 
 -- what becomes of a refusal to restore its lines, which are numbered behind the head
 abbrev pub unrestored_by : List ℕ → RestoreRefusal → Unbegun
-unrestored_by head (restoring.NotKept line) =
-    Refused (NoEvent (min (line + lf_count head) 18446744073709551615))
+unrestored_by head (restoring.NotKept number) = Refused (NoEvent (lf_count head + number))
 unrestored_by head restoring.NoMemory = NoMemory
+
+-- a line that is named is not past the end of the lines, each of which has a byte
+abbrev pub NamesLineOf : List ℕ → RestoreRefusal → Type 0
+NamesLineOf lines (restoring.NotKept number) = number ≤ length lines
+NamesLineOf lines restoring.NoMemory = ⊤
