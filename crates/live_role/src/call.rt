@@ -36,11 +36,11 @@ pub fn bspl_role<F: Journals, R: Source, W: Sink>(
 ) -> RoleEnd<F::Kept>
     ensures call { IsRoleCall (journals_at F.finds F.refuses F.Kept.kept journals.now)
         (map string_bytes args.now) (record {
-      remaining = R.remaining input.old;
-      remaining_after = R.remaining input.new;
-      contents = W.contents output.old;
-      contents_after = W.contents output.new;
-    }) result }
+          remaining = R.remaining input.old;
+          remaining_after = R.remaining input.new;
+          contents = W.contents output.old;
+          contents_after = W.contents output.new;
+        }) result }
     ensures faults { NamesRoleFault (record {
       reads = R.faults input.old;
       reads_after = R.faults input.new;

@@ -54,28 +54,39 @@ const ROWS: &[Row] = &[
 {"refused":"F1"}
 {"sent":{"message":"ping","number":1,"stamp":2,"values":{"ID":"2"}}}
 "#,
-        kept: Some(br#"{"emit":{"key":["1"],"message":"ping","outs":[]}}
+        kept: Some(
+            br#"{"emit":{"key":["1"],"message":"ping","outs":[]}}
 {"emit":{"key":["2"],"message":"ping","outs":[]}}
-"#),
+"#,
+        ),
         ..SERVED
     },
     // Started again, the role has its event, and its clock goes on.
     Row {
-        place: Place { lines: FIRST, ..Place::NEW },
+        place: Place {
+            lines: FIRST,
+            ..Place::NEW
+        },
         lines: br#"{"emit":{"key":["1"],"message":"ping","outs":[]}}
 {"emit":{"key":["2"],"message":"ping","outs":[]}}
 "#,
         output: br#"{"blocked":"bound","kept":"1","param":"ID"}
 {"sent":{"message":"ping","number":1,"stamp":2,"values":{"ID":"2"}}}
 "#,
-        kept: Some(br#"{"emit":{"key":["1"],"message":"ping","outs":[]}}
+        kept: Some(
+            br#"{"emit":{"key":["1"],"message":"ping","outs":[]}}
 {"emit":{"key":["2"],"message":"ping","outs":[]}}
-"#),
+"#,
+        ),
         ..SERVED
     },
     // If keeping fails, the line has no reply.
     Row {
-        place: Place { lines: FIRST, calls: 0, ..Place::NEW },
+        place: Place {
+            lines: FIRST,
+            calls: 0,
+            ..Place::NEW
+        },
         lines: br#"{"emit":{"key":["2"],"message":"ping","outs":[]}}
 "#,
         ending: RoleEnding::NotKept,
@@ -95,14 +106,20 @@ const ROWS: &[Row] = &[
     },
     // A journal of another role is left alone.
     Row {
-        place: Place { head: b"role A\n", ..Place::NEW },
+        place: Place {
+            head: b"role A\n",
+            ..Place::NEW
+        },
         output: b"refused J2\n",
         ..REFUSED
     },
     // The role comes before its journal.
     Row {
         args: "Ping C --journal kept",
-        place: Place { head: b"role A\n", ..Place::NEW },
+        place: Place {
+            head: b"role A\n",
+            ..Place::NEW
+        },
         output: b"refused F5\n",
         ..REFUSED
     },
