@@ -8,7 +8,8 @@ use Rattle.kept_lines.specs.declared.kept_text.RestoreRefusal.TheVariants as res
 use Rattle.kept_lines.specs.Restored.{FailsToRestore}
 use Rattle.list_base.specs.Lines.{lines_of}
 use Rattle.role_server.specs.Live.{LiveReplies, first_live_store}
-use Rattle.live_role.specs.Journal.{FindsJournal, JournalsAt, lf_count}
+use Rattle.live_role.specs.Journal.{FindsJournal, JournalsAt}
+use Rattle.live_role.specs.RefusedJournal.{lf_count}
 use Rattle.live_role.specs.Request.{JournalRequest}
 use Rattle.live_role.specs.inner.Begun.{CannotBegin, NamesLineOf, unrestored_by}
 

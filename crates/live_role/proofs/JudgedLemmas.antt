@@ -10,9 +10,10 @@ use Rattle.tool_input.specs.declared.status.Status.TheVariants as status
 use Rattle.tool_input.specs.declared.parts.Part.TheVariants.{Wire}
 use Rattle.tool_input.specs.Rejection.{lacks_part, over_limit, rejection_line}
 use Rattle.live_role.specs.Call.{no_line, too_long, unopened}
-use Rattle.live_role.specs.Journal.{BeginsFrom, JournalsAt, journal_line}
+use Rattle.live_role.specs.Journal.{BeginsFrom, JournalsAt}
 use Rattle.live_role.specs.Judgement.{Accepts}
 use Rattle.live_role.specs.Opening.{EndsUnopened, IsUnopenedTooLong, TakesOpening}
+use Rattle.live_role.specs.RefusedJournal.{journal_line}
 use Rattle.live_role.specs.Request.{JournalRequest, RoleRequest}
 use Rattle.live_role.specs.Serving.{BeginsRole}
 use Rattle.live_role.specs.declared.begun.Unbegun.TheVariants.{Refused}

@@ -13,9 +13,10 @@ use Rattle.tool_input.specs.declared.status.Status.{Status}
 use Rattle.tool_input.specs.declared.status.Status.TheVariants.{Refused, Usage}
 use Rattle.tool_input.specs.declared.parts.Part.TheVariants.{Wire}
 use Rattle.tool_input.specs.Rejection.{lacks_part, over_limit, rejection_line}
-use Rattle.live_role.specs.Journal.{JournalsAt, RefusesJournal, journal_line}
+use Rattle.live_role.specs.Journal.{JournalsAt}
 use Rattle.live_role.specs.Judgement.{Accepts, Declines}
 use Rattle.live_role.specs.Opening.{EndsUnopened, IsUnopenedTooLong, TakesOpening, TakesUnopened}
+use Rattle.live_role.specs.RefusedJournal.{RefusesJournal, journal_line}
 use Rattle.live_role.specs.Request.{JournalRequest, RequestsNothing, RequestsRole, RoleRequest}
 use Rattle.live_role.specs.Serving.{ServesRole}
 use Rattle.live_role.specs.declared.journal_refusal.JournalRefusal.{JournalRefusal}

@@ -1,19 +1,13 @@
--- How a role begins: with no journal, or with the lines of one; and when a journal is refused.
-use Rattle.std.specs.Prelude.{◌≡◌, ℕ, ◌+◌, ◌==◌, List, ◌++◌, Option, None, Some, IfSome, codes, length}
-use Rattle.std.specs.Fmt.{decimal}
-use Rattle.std.specs.List.{filter}
+-- How a role begins: with no journal, or with the lines of one.
+use Rattle.std.specs.Prelude.{◌≡◌, ℕ, List, ◌++◌, Option, None, Some, IfSome, codes}
 use Rattle.bspl_types.specs.declared.expanded.Expanded.{Expanded}
 use Rattle.history_audit.specs.HistoryText.{role_line}
 use Rattle.kept_lines.specs.declared.open_refusal.OpenRefusal.{OpenRefusal}
-use Rattle.kept_lines.specs.declared.open_refusal.OpenRefusal.TheVariants as opening
-use Rattle.kept_lines.specs.Restored.{RestoresText, StopsAtLine}
+use Rattle.kept_lines.specs.Restored.{RestoresText}
 use Rattle.local_store.specs.State.{StoreState}
 use Rattle.protocol_expand.specs.Printed.{IsPrinted}
 use Rattle.role_server.specs.Live.{LiveReplies, first_live_store}
-use Rattle.tool_input.specs.Lines.{line}
 use Rattle.live_role.specs.Request.{JournalRequest}
-use Rattle.live_role.specs.declared.journal_refusal.JournalRefusal.{JournalRefusal}
-use Rattle.live_role.specs.declared.journal_refusal.JournalRefusal.TheVariants.{NoEvent, AnotherJournal, InUse, Failed}
 use Rattle.live_role.specs.declared.role_journal.RoleJournal.{RoleJournal}
 use Rattle.live_role.specs.declared.role_journal.RoleJournal.TheVariants.{Unkept, Kept}
 
@@ -33,8 +27,8 @@ journals_at finds refuses kept place = record {
   kept = kept;
 }
 
--- the head of the journals of a role: the expansion of the protocol, as `bspl expand` prints it, and
--- the lines after which an input of `bspl serve` goes on with the lines for the role
+-- the head of the journals of a role: the expansion of the protocol, as `bspl expand` prints it,
+-- and the lines after which an input of `bspl serve` goes on with the lines for the role
 pub record IsJournalHead (x : Expanded) (role : ℕ) (head : List ℕ) : Type 0 where
   pub expansion : List ℕ
   pub printed : IsPrinted x expansion
@@ -45,43 +39,6 @@ pub record FindsJournal {J : Type 0} (at : JournalsAt J) (path : List ℕ) (x : 
     (head lines : List ℕ) : Type 0 where
   pub is_head : IsJournalHead x role head
   pub found : at.finds path head lines
-
--- how many LFs are among the bytes
-abbrev pub lf_count : List ℕ → ℕ
-lf_count bytes = length (filter (λ byte. byte == 10) bytes)
-
--- the line of the file with this number, from 1, makes no event, and each line before it and behind
--- the head makes one
-pub record MakesNoEvent {J : Type 0} (at : JournalsAt J) (path : List ℕ) (x : Expanded) (role : ℕ)
-    (number : ℕ) : Type 0 where
-  pub head : List ℕ
-  pub lines : List ℕ
-  pub found : FindsJournal at path x role head lines
-  pub behind_head : ℕ
-  pub stops : StopsAtLine LiveReplies (first_live_store x role) lines behind_head
-  pub number_is : number ≡ lf_count head + behind_head
-
--- a journal of the role at the path is refused
-pub record RefusesHead {J : Type 0} (at : JournalsAt J) (path : List ℕ) (x : Expanded) (role : ℕ)
-    (refusal : OpenRefusal) : Type 0 where
-  pub head : List ℕ
-  pub is_head : IsJournalHead x role head
-  pub refused : at.refuses path head refusal
-
--- why the journal at the path is refused; of what the system refuses nothing is known
-abbrev pub RefusesJournal : {J : Type 0} → JournalsAt J → List ℕ → Expanded → ℕ → JournalRefusal →
-    Type 0
-RefusesJournal at path x role (NoEvent number) = MakesNoEvent at path x role number
-RefusesJournal at path x role AnotherJournal = RefusesHead at path x role opening.AnotherJournal
-RefusesJournal at path x role InUse = RefusesHead at path x role opening.InUse
-RefusesJournal at path x role Failed = Unit {0}
-
--- the line in which a refused journal is reported
-abbrev pub journal_line : JournalRefusal → List ℕ
-journal_line (NoEvent number) = line (codes "refused J1 " ++ decimal number)
-journal_line AnotherJournal = line (codes "refused J2")
-journal_line InUse = line (codes "refused J3")
-journal_line Failed = line (codes "refused J4")
 
 -- the lines that every crash leaves, if there is a journal and they are known
 abbrev pub kept_by : {J : Type 0} → (J → Option (List ℕ)) → RoleJournal J → Option (List ℕ)

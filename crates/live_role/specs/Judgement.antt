@@ -41,7 +41,7 @@ pub data Declines (r : RoleRequest) (text out : List ℕ) (status : Status) : Ty
   not_safe : (x : Expanded) (index : ℕ) → Declares r.name text x → IsRoleNamed x r.role index
       → r.checked ≡ true → IsNotFoundSafe x out status → Declines r text out status
 
--- the text declares the protocol, the role is one of it, and a protocol that is to be judged is safe
+-- the text declares the protocol, the role is one of it, and a protocol to be judged is safe
 pub record Accepts (r : RoleRequest) (text : List ℕ) (x : Expanded) (index : ℕ) : Type 0 where
   pub declared : Declares r.name text x
   pub is_role : IsRoleNamed x r.role index

@@ -7,5 +7,6 @@ pub mod Wire
 pub mod Opening
 pub mod Judgement
 pub mod Journal
+pub mod RefusedJournal
 pub mod End
 pub mod inner

@@ -7,8 +7,8 @@ pub record JournalRequest : Type 0 where
   pub path : List ℕ
   pub syncs : Bool
 
--- the names of a protocol and of one of its roles, whether the protocol is judged before the role is
--- served, and where lines are kept, if they are
+-- the names of a protocol and of one of its roles, whether the protocol is judged before the role
+-- is served, and where lines are kept, if they are
 pub record RoleRequest : Type 0 where
   pub name : List ℕ
   pub role : List ℕ

@@ -1,6 +1,7 @@
 ghost use Rattle.std.specs.Prelude.{◌≡◌, ◌+◌, ◌<◌, ◌≤◌, length, IfErr, IfOk, Some};
 ghost use Rattle.role_server.specs.Live.{first_live_store};
-ghost use Rattle.live_role.specs.Journal.{BeginsFrom, faults_by, journals_at, lf_count};
+ghost use Rattle.live_role.specs.Journal.{BeginsFrom, faults_by, journals_at};
+ghost use Rattle.live_role.specs.RefusedJournal.{lf_count};
 ghost use Rattle.live_role.specs.inner.Begun.{CannotBegin, NamesLineOf, unrestored_by};
 ghost use Rattle.live_role.specs.inner.Request.{journal_said};
 

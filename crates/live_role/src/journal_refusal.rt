@@ -1,5 +1,5 @@
 ghost use Rattle.std.specs.Prelude.{◌≡◌, IfOk};
-ghost use Rattle.live_role.specs.Journal.{journal_line};
+ghost use Rattle.live_role.specs.RefusedJournal.{journal_line};
 
 use list_base::{Bytes, NoMemory};
 use std::alloc::Global;

@@ -6,8 +6,9 @@ ghost use Rattle.program_frame.specs.declared.prepared.Prepared.TheVariants.{End
 ghost use Rattle.tool_input.specs.Rejection.{lacks_part, over_limit, rejection_line};
 ghost use Rattle.tool_input.specs.declared.parts.Part.TheVariants.{Wire};
 ghost use Rattle.tool_input.specs.declared.status.Status.TheVariants.{Refused};
-ghost use Rattle.live_role.specs.Journal.{journal_line, journals_at};
+ghost use Rattle.live_role.specs.Journal.{journals_at};
 ghost use Rattle.live_role.specs.Opening.{TakesOpening};
+ghost use Rattle.live_role.specs.RefusedJournal.{journal_line};
 ghost use Rattle.live_role.specs.inner.Judged.{IsReply};
 ghost use Rattle.live_role.specs.inner.Prepared.{HasNoFault, IsPrepared, prepared_of};
 ghost use Rattle.live_role.specs.inner.Request.{request_said};

@@ -5,7 +5,8 @@ use Rattle.kept_lines.specs.declared.kept_text.RestoreRefusal.{RestoreRefusal}
 use Rattle.kept_lines.specs.declared.kept_text.RestoreRefusal.TheVariants as restoring
 use Rattle.kept_lines.specs.declared.open_refusal.OpenRefusal.{OpenRefusal}
 use Rattle.kept_lines.specs.declared.open_refusal.OpenRefusal.TheVariants as opening
-use Rattle.live_role.specs.Journal.{JournalsAt, RefusesJournal, lf_count}
+use Rattle.live_role.specs.Journal.{JournalsAt}
+use Rattle.live_role.specs.RefusedJournal.{RefusesJournal, lf_count}
 use Rattle.live_role.specs.Request.{JournalRequest}
 use Rattle.live_role.specs.declared.begun.Unbegun.{Unbegun}
 use Rattle.live_role.specs.declared.begun.Unbegun.TheVariants.{Refused, NoMemory}
