@@ -142,7 +142,7 @@ def is_unsafe(row):
 
 def endings(path, all_rows):
     """The calls that end by themselves: status 1, 3 and 4."""
-    usage = b"usage: bspl_role NAME ROLE [--unchecked]\n"
+    usage = b"usage: bspl_role NAME ROLE [--unchecked] [--journal FILE [--no-sync]]\n"
     yield lambda: wrong_end(path, ["Ping"], b"", 3, usage)
     yield lambda: wrong_end(path, ["Ping", "A", "--brief"], b"", 3, usage)
     yield lambda: wrong_end(path, ["Ping", "C"], OPENING, 4, b"refused F5\n")

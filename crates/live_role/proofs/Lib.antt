@@ -1,5 +1,5 @@
-pub mod RequestLemmas
 pub mod OpeningLemmas
 pub mod ReadingLemmas
+pub mod BegunLemmas
 pub mod JudgedLemmas
 pub mod CallLemmas

@@ -1,7 +1,8 @@
--- When a role is not served, in the order in which the reasons are judged.
-use Rattle.std.specs.Prelude.{◌≡◌, ◌≢◌, ℕ, Bool, true, List, Some}
+-- When a role is accepted and when it is declined, in the order in which the reasons are judged.
+use Rattle.std.specs.Prelude.{◌≡◌, ◌≢◌, ℕ, true, List, Some}
 use Rattle.bspl_types.specs.declared.expanded.Expanded.{Expanded}
 use Rattle.bspl_types.specs.declared.refusals.Refusal.{Refusal}
+use Rattle.enactment_model.specs.Safety.{SafeProtocol}
 use Rattle.refutation_log.specs.declared.refutation.Log.{Log}
 use Rattle.report.specs.ExitStatus.{verdict_status}
 use Rattle.report.specs.VerdictText.{verdict_text}
@@ -16,6 +17,7 @@ use Rattle.tool_input.specs.TextRefusal.{RefusesText}
 use Rattle.verdict.specs.declared.outcome.Safety.TheVariants as safety
 use Rattle.verdict.specs.declared.outcome.Verdicts.{Verdicts}
 use Rattle.verdict.specs.Verdicts.{AreRightAnswers}
+use Rattle.live_role.specs.Request.{RoleRequest}
 
 -- the answer is that of right verdicts, with 10000 conflicts each, and it is not found safe
 pub record IsNotFoundSafe (x : Expanded) (out : List ℕ) (status : Status) : Type 0 where
@@ -26,16 +28,21 @@ pub record IsNotFoundSafe (x : Expanded) (out : List ℕ) (status : Status) : Ty
   pub ends : status ≡ verdict_status verdicts.safety verdicts.liveness
 
 -- what is answered in place of serving a role of the protocol in the text
-pub data Declines (name role : List ℕ) (checked : Bool) (text out : List ℕ) (status : Status)
-    : Type 0 where
+pub data Declines (r : RoleRequest) (text out : List ℕ) (status : Status) : Type 0 where
   -- the text declares nothing for the name
-  no_protocol : (refusal : Refusal) (r : Rejection) → RefusesText name text refusal
-      → text_rejection refusal ≡ Some r → out ≡ rejection_line r → status ≡ Refused
-      → Declines name role checked text out status
+  no_protocol : (refusal : Refusal) (rejection : Rejection) → RefusesText r.name text refusal
+      → text_rejection refusal ≡ Some rejection → out ≡ rejection_line rejection
+      → status ≡ Refused → Declines r text out status
   -- its protocol has no such role
-  no_role : (x : Expanded) → Declares name text x → ((r : ℕ) → ¬ IsRoleNamed x role r)
-      → out ≡ rejection_line unknown_role → status ≡ Refused
-      → Declines name role checked text out status
+  no_role : (x : Expanded) → Declares r.name text x
+      → ((index : ℕ) → ¬ IsRoleNamed x r.role index)
+      → out ≡ rejection_line unknown_role → status ≡ Refused → Declines r text out status
   -- the protocol is to be judged, and is not found safe
-  not_safe : (x : Expanded) (r : ℕ) → Declares name text x → IsRoleNamed x role r
-      → checked ≡ true → IsNotFoundSafe x out status → Declines name role checked text out status
+  not_safe : (x : Expanded) (index : ℕ) → Declares r.name text x → IsRoleNamed x r.role index
+      → r.checked ≡ true → IsNotFoundSafe x out status → Declines r text out status
+
+-- the text declares the protocol, the role is one of it, and a protocol to be judged is safe
+pub record Accepts (r : RoleRequest) (text : List ℕ) (x : Expanded) (index : ℕ) : Type 0 where
+  pub declared : Declares r.name text x
+  pub is_role : IsRoleNamed x r.role index
+  pub safe : r.checked ≡ true → SafeProtocol x

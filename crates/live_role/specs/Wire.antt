@@ -1,7 +1,7 @@
 -- The line after which a role is spoken to, and what stands before it.
 use Rattle.std.specs.Prelude.{◌≡◌, ◌≢◌, ◌⊎◌, ℕ, List, [], ◌++◌, All, codes}
 use Rattle.list_base.specs.Lines.{Line}
-use Rattle.role_server.specs.Served.{BeginsWith}
+use Rattle.kept_lines.specs.Answers.{StartsWithLines}
 
 -- the line is `%% wire`; it may have one CR before its LF
 abbrev pub IsWireLine : Line → Type 0
@@ -10,7 +10,7 @@ IsWireLine line = (line ≡ codes "%% wire\n") ⊎ (line ≡ codes "%% wire\r\n"
 -- the text has whole lines alone, and none is that line
 pub record HasNoWireLine (text : List ℕ) : Type 0 where
   pub lines : List Line
-  pub whole : BeginsWith text lines []
+  pub whole : StartsWithLines text lines []
   pub other : All (λ line. ¬ IsWireLine line) lines
 
 -- the first such line of the bytes stands between the text and the rest

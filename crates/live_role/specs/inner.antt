@@ -2,4 +2,5 @@
 pub mod Request
 pub mod Opening
 pub mod Judged
+pub mod Begun
 pub mod Prepared

@@ -1,17 +1,15 @@
-ghost use Rattle.std.specs.Prelude.{◌≡◌, ℕ, ◌<◌, List, length, IfOk, MatchOption};
+ghost use Rattle.std.specs.Prelude.{ℕ, List, IfOk, MatchOption};
 ghost use Rattle.enactment_model.specs.Safety.{SafeProtocol};
-ghost use Rattle.role_server.specs.Served.{first_store};
 ghost use Rattle.tool_input.specs.Input.{Declares};
 ghost use Rattle.live_role.specs.Judgement.{IsNotFoundSafe};
 ghost use Rattle.live_role.specs.inner.Judged.{IsJudged};
+ghost use Rattle.live_role.specs.inner.Request.{request_said};
 
 use super::request::Request;
 use bspl_types::Admitted;
 use list_base::NoMemory;
-use local_store::Store;
 use program_frame::Reply;
 use report::{right_runs_fit, verdict_status, verdict_text};
-use role_server::store_with_room;
 use std::alloc::Global;
 use tool_input::{Status, declared_protocol, refused, text_rejection, unknown_role};
 use verdict::{Safety, verify};
@@ -24,17 +22,16 @@ const CONFLICTS: u32 = 10_000;
 pub enum Judged {
     /// It is not served, and this is answered.
     Declined(Reply<Status>),
-    /// It is served, beginning with this store.
-    Served(Store),
+    /// It is this role of this protocol, and is served if its journal can be opened.
+    Accepted { protocol: Admitted, role: u32 },
 }
 
 /// Judges the text, then the name of the role, and then, if it is asked for, the protocol.
 pub fn judge(alloc: Global, request: &Request<'_>, text: &[u8]) -> Result<Judged, NoMemory>
-    ensures { IfOk result (IsJudged request.now.name.now request.now.role.now request.now.checked
-        text.now) }
+    ensures { IfOk result (IsJudged (request_said request.now) text.now) }
 {
     match declared_protocol(alloc, request.name, text) {
-        Ok(protocol) => judge_role(alloc, request, &protocol),
+        Ok(protocol) => judge_role(alloc, request, protocol),
         Err(refusal) => match text_rejection(refusal) {
             Some(rejection) => Ok(Judged::Declined(refused(alloc, &rejection)?)),
             None => Err(NoMemory),
@@ -43,29 +40,20 @@ pub fn judge(alloc: Global, request: &Request<'_>, text: &[u8]) -> Result<Judged
 }
 
 /// Judges the name of the role, and then, if it is asked for, the protocol.
-fn judge_role(alloc: Global, request: &Request<'_>, protocol: &Admitted) -> Result<Judged, NoMemory>
-    ensures { (text : List ℕ) → Declares request.now.name.now text protocol.now →
-        IfOk result (IsJudged request.now.name.now request.now.role.now request.now.checked
-        text) }
+fn judge_role(alloc: Global, request: &Request<'_>, protocol: Admitted) -> Result<Judged, NoMemory>
+    ensures { (text : List ℕ) → Declares request.now.name.now text protocol →
+        IfOk result (IsJudged (request_said request.now) text) }
 {
     let Some(role) = protocol.expanded().role_named(request.role) else {
         return Ok(Judged::Declined(refused(alloc, &unknown_role())?));
     };
     if !request.checked {
-        return begun(alloc, protocol, role);
+        return Ok(Judged::Accepted { protocol, role });
     }
-    match unsafe_reply(alloc, protocol)? {
+    match unsafe_reply(alloc, &protocol)? {
         Some(reply) => Ok(Judged::Declined(reply)),
-        None => begun(alloc, protocol, role),
+        None => Ok(Judged::Accepted { protocol, role }),
     }
-}
-
-/// The role is served from the first event on.
-fn begun(alloc: Global, protocol: &Admitted, role: u32) -> Result<Judged, NoMemory>
-    requires { role < length protocol.now.roles }
-    ensures { IfOk result (λ judged. judged ≡ Judged.Served (first_store protocol.now role)) }
-{
-    Ok(Judged::Served(store_with_room(alloc, protocol, role)?))
 }
 
 /// The reply on a protocol that is not found safe.

@@ -15,6 +15,10 @@ mod crash_image_tests;
 #[cfg(test)]
 mod gates;
 #[cfg(test)]
+mod journal_place;
+#[cfg(test)]
+mod journal_tests;
+#[cfg(test)]
 mod kept_file_tests;
 #[cfg(test)]
 mod kept_stream_tests;

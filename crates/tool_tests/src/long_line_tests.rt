@@ -1,11 +1,15 @@
 use super::args::args_of;
+use super::journal_place::Place;
 use super::role_rows::{sink, source};
 use list_base::{Bytes, NoMemory};
-use live_role::bspl_role;
+use live_role::{RoleEnding, bspl_role};
 use program_frame::Ending;
 use std::alloc::Global;
 use std::test::Fail;
 use tool_input::Status;
+
+/// How a role that was served to the end of its input ends.
+const SERVED: RoleEnding = RoleEnding::Ended(Ending::Answered(Status::Done));
 
 const HEAD: &[u8] = b"Ping { roles A, B parameters out ID key A -> B: ping[out ID] }\n%% wire\n";
 
@@ -25,8 +29,8 @@ fn is_output(alloc: Global, bytes: &[u8], piece: usize, output: &[u8]) -> Result
     let args = args_of(alloc, "Ping A")?;
     let mut source = source(alloc, bytes, piece, 0)?;
     let mut sink = sink(alloc, 65_536, 0)?;
-    let ending = bspl_role(alloc, args.as_slice(), &mut source, &mut sink);
-    Ok(ending == Ending::Answered(Status::Done) && sink.written() == output)
+    let end = bspl_role(alloc, args.as_slice(), &Place::NEW, &mut source, &mut sink);
+    Ok(end.ending == SERVED && sink.written() == output)
 }
 
 /// A line of 65,537 bytes is refused, and one of 65,536 is read; so it is in pieces.
@@ -44,10 +48,9 @@ fn long_lines_are_refused(rt: HostRuntime) -> Result<(), Fail> {
     Ok(())
 }
 
-/// Under 10,000 keys there is room, under one more there is none, and what is refused leaves room
-/// under the others.
+/// A role without a journal takes more keys than `serve` does: no key is refused after 10,000.
 #[test]
-fn one_key_too_many_is_refused(rt: HostRuntime) -> Result<(), Fail> {
+fn keys_have_no_small_limit(rt: HostRuntime) -> Result<(), Fail> {
     let alloc = rt.alloc();
     let args = args_of(alloc, "Ping A")?;
     let mut text = Bytes::from_slice(alloc, HEAD)?;
@@ -60,11 +63,11 @@ fn one_key_too_many_is_refused(rt: HostRuntime) -> Result<(), Fail> {
     push_line(&mut text, 0)?;
     let mut source = source(alloc, text.as_slice(), 65_536, 0)?;
     let mut sink = sink(alloc, 65_536, 0)?;
-    let ending = bspl_role(alloc, args.as_slice(), &mut source, &mut sink);
-    assert_eq!(rt; ending, Ending::Answered(Status::Done));
+    let end = bspl_role(alloc, args.as_slice(), &Place::NEW, &mut source, &mut sink);
+    assert_eq!(rt; end.ending, SERVED);
     let last = br#"
 {"sent":{"message":"ping","number":9999,"stamp":10000,"values":{"ID":"10000"}}}
-{"refused":"F3"}
+{"sent":{"message":"ping","number":10000,"stamp":10001,"values":{"ID":"10001"}}}
 {"blocked":"bound","kept":"1","param":"ID"}
 "#;
     assert!(rt; sink.written().ends_with(last));

@@ -1,10 +1,9 @@
 use super::args::args_of;
+use super::journal_place::Place;
 use bspl_io::{MemSink, MemSource};
 use list_base::{Bytes, NoMemory, NumberList};
-use live_role::bspl_role;
-use program_frame::Ending;
+use live_role::{RoleEnding, bspl_role};
 use std::alloc::Global;
-use tool_input::Status;
 
 /// A call, and how it ends.
 #[derive(Clone, Copy)]
@@ -15,7 +14,7 @@ pub(crate) struct Row {
     pub read_fault: u32,
     /// The number of the sink's call that fails, from 1, or 0.
     pub write_fault: u32,
-    pub ending: Ending<Status>,
+    pub ending: RoleEnding,
     pub output: &'static [u8],
 }
 
@@ -44,6 +43,6 @@ pub(crate) fn is_answered(alloc: Global, row: &Row, piece: usize) -> Result<bool
     let args = args_of(alloc, row.args)?;
     let mut source = source(alloc, row.input, piece, row.read_fault)?;
     let mut sink = sink(alloc, piece, row.write_fault)?;
-    let ending = bspl_role(alloc, args.as_slice(), &mut source, &mut sink);
-    Ok(ending == row.ending && sink.written() == row.output)
+    let end = bspl_role(alloc, args.as_slice(), &Place::NEW, &mut source, &mut sink);
+    Ok(end.ending == row.ending && sink.written() == row.output)
 }

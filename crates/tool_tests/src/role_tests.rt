@@ -1,4 +1,5 @@
 use super::role_rows::{Row, is_answered};
+use live_role::RoleEnding;
 use program_frame::Ending;
 use std::test::Fail;
 use tool_input::Status;
@@ -9,8 +10,16 @@ const SERVED: Row = Row {
     input: b"",
     read_fault: 0,
     write_fault: 0,
-    ending: Ending::Answered(Status::Done),
+    ending: RoleEnding::Ended(Ending::Answered(Status::Done)),
     output: b"",
+};
+
+/// Arguments that are invalid: nothing is read.
+const MISUSED: Row = Row {
+    read_fault: 1,
+    ending: RoleEnding::Ended(Ending::Answered(Status::Usage)),
+    output: b"usage: bspl_role NAME ROLE [--unchecked] [--journal FILE [--no-sync]]\n",
+    ..SERVED
 };
 
 /// What is answered to A, and refused.
@@ -109,7 +118,7 @@ const ROWS: &[Row] = &[
 %% wire
 {"emit":{"key":["1"],"message":"m","outs":[]}}
 "#,
-        ending: Ending::Answered(Status::Refuted),
+        ending: RoleEnding::Ended(Ending::Answered(Status::Refuted)),
         output: b"protocol Twin
 safety unsafe ID 1 2
 run 1
@@ -134,29 +143,38 @@ liveness live
     Row {
         args: "Pong C",
         input: b"Ping { roles A, B parameters out ID key A -> B: ping[out ID] }\n%% wire\n",
-        ending: Ending::Answered(Status::Refused),
+        ending: RoleEnding::Ended(Ending::Answered(Status::Refused)),
         output: b"refused E3 Pong\n",
         ..SERVED
     },
     Row {
         args: "Ping C",
         input: b"Ping { roles A, B parameters out ID key A -> B: ping[out ID] }\n%% wire\n",
-        ending: Ending::Answered(Status::Refused),
+        ending: RoleEnding::Ended(Ending::Answered(Status::Refused)),
         output: b"refused F5\n",
         ..SERVED
     },
     Row {
         input: b"Ping { roles A, B parameters out ID key A -> B: ping[out ID] }\n%% wire",
-        ending: Ending::Answered(Status::Refused),
+        ending: RoleEnding::Ended(Ending::Answered(Status::Refused)),
         output: b"refused P1 wire\n",
         ..SERVED
     },
     Row {
         args: "Ping A --checked",
-        read_fault: 1,
-        ending: Ending::Answered(Status::Usage),
-        output: b"usage: bspl_role NAME ROLE [--unchecked]\n",
-        ..SERVED
+        ..MISUSED
+    },
+    Row {
+        args: "Ping A --no-sync",
+        ..MISUSED
+    },
+    Row {
+        args: "Ping A --journal",
+        ..MISUSED
+    },
+    Row {
+        args: "Ping A --journal kept --unchecked",
+        ..MISUSED
     },
 ];
 
@@ -171,7 +189,7 @@ const FAULTS: &[Row] = &[
 {"emit":{"key":["2"],"message":"ping","outs":[]}}
 "#,
         read_fault: 2,
-        ending: Ending::ReadFault,
+        ending: RoleEnding::Ended(Ending::ReadFault),
         output: br#"{"sent":{"message":"ping","number":0,"stamp":1,"values":{"ID":"1"}}}
 {"blocked":"bound","kept":"1","param":"ID"}
 "#,
@@ -180,13 +198,13 @@ const FAULTS: &[Row] = &[
     Row {
         input: b"Ping { roles A, B parameters out ID key A -> B: ping[out ID] }\n%% wire\n\n",
         write_fault: 1,
-        ending: Ending::WriteFault,
+        ending: RoleEnding::Ended(Ending::WriteFault),
         ..SERVED
     },
     // The line `%% wire` has not come.
     Row {
         read_fault: 1,
-        ending: Ending::ReadFault,
+        ending: RoleEnding::Ended(Ending::ReadFault),
         ..SERVED
     },
 ];
