@@ -11,7 +11,7 @@ use Rattle.tool_input.specs.declared.parts.Part.TheVariants.{Wire}
 use Rattle.tool_input.specs.Rejection.{lacks_part, over_limit, rejection_line}
 use Rattle.live_role.specs.Call.{no_line, too_long, unopened}
 use Rattle.live_role.specs.Journal.{BeginsFrom, JournalsAt}
-use Rattle.live_role.specs.Judgement.{Accepts}
+use Rattle.live_role.specs.Judgement.{AcceptsRole}
 use Rattle.live_role.specs.Opening.{EndsUnopened, IsUnopenedTooLong, TakesOpening}
 use Rattle.live_role.specs.RefusedJournal.{journal_line}
 use Rattle.live_role.specs.Request.{JournalRequest, RoleRequest}
@@ -24,7 +24,7 @@ use Rattle.live_role.specs.inner.Judged.{IsReply}
 use Rattle.live_role.specs.inner.Prepared.{IsPrepared, prepared_of}
 
 module _ {J : Type 0} (at : JournalsAt J) (r : RoleRequest) (old new : Option (List ℕ)) where
-  module _ (text ahead : List ℕ) (x : Expanded) (index : ℕ) (opening : TakesOpening text ahead old new) (accepted : Accepts r text x index) where
+  module _ (text ahead : List ℕ) (x : Expanded) (index : ℕ) (opening : TakesOpening text ahead old new) (accepted : AcceptsRole r text x index) where
     -- the role begins
     pub begins : (store : StoreState) (journal : RoleJournal J) → BeginsFrom at r.journal x index store journal → BeginsRole at r old new store journal ahead
     begins store journal is = record { text = text; opening = opening; protocol = x; index = index; accepted = accepted; begins = is }

@@ -14,7 +14,7 @@ use Rattle.tool_input.specs.declared.status.Status.TheVariants.{Refused, Usage}
 use Rattle.tool_input.specs.declared.parts.Part.TheVariants.{Wire}
 use Rattle.tool_input.specs.Rejection.{lacks_part, over_limit, rejection_line}
 use Rattle.live_role.specs.Journal.{JournalsAt}
-use Rattle.live_role.specs.Judgement.{Accepts, Declines}
+use Rattle.live_role.specs.Judgement.{AcceptsRole, Declines}
 use Rattle.live_role.specs.Opening.{EndsUnopened, IsUnopenedTooLong, TakesOpening, TakesUnopened}
 use Rattle.live_role.specs.RefusedJournal.{RefusesJournal, journal_line}
 use Rattle.live_role.specs.Request.{JournalRequest, RequestsNothing, RequestsRole, RoleRequest}
@@ -43,7 +43,7 @@ pub data IsDeclined {J : Type 0} (at : JournalsAt J) (r : RoleRequest) (old new 
       → Declines r text out status → IsDeclined at r old new out status
   -- the role is accepted, and its journal is refused
   unopened : (text ahead : List ℕ) → TakesOpening text ahead old new
-      → (x : Expanded) (index : ℕ) → Accepts r text x index
+      → (x : Expanded) (index : ℕ) → AcceptsRole r text x index
       → (j : JournalRequest) → r.journal ≡ Some j
       → (refused : JournalRefusal) → RefusesJournal at j.path x index refused
       → out ≡ journal_line refused → status ≡ Refused → IsDeclined at r old new out status

@@ -42,7 +42,7 @@ pub data Declines (r : RoleRequest) (text out : List ℕ) (status : Status) : Ty
       → r.checked ≡ true → IsNotFoundSafe x out status → Declines r text out status
 
 -- the text declares the protocol, the role is one of it, and a protocol to be judged is safe
-pub record Accepts (r : RoleRequest) (text : List ℕ) (x : Expanded) (index : ℕ) : Type 0 where
+pub record AcceptsRole (r : RoleRequest) (text : List ℕ) (x : Expanded) (index : ℕ) : Type 0 where
   pub declared : Declares r.name text x
   pub is_role : IsRoleNamed x r.role index
   pub safe : r.checked ≡ true → SafeProtocol x

@@ -11,7 +11,7 @@ use Rattle.program_frame.specs.declared.ending.Ending.TheVariants as ending
 use Rattle.role_server.specs.Live.{LiveReplies}
 use Rattle.tool_input.specs.declared.status.Status.TheVariants.{Done, Refused}
 use Rattle.live_role.specs.Journal.{BeginsFrom, JournalsAt, kept_by}
-use Rattle.live_role.specs.Judgement.{Accepts}
+use Rattle.live_role.specs.Judgement.{AcceptsRole}
 use Rattle.live_role.specs.Opening.{TakesOpening}
 use Rattle.live_role.specs.Request.{RoleRequest}
 use Rattle.live_role.specs.declared.role_end.RoleEnd.{RoleEnd}
@@ -40,7 +40,7 @@ pub record BeginsRole {J : Type 0} (at : JournalsAt J) (r : RoleRequest)
   pub opening : TakesOpening text ahead old new
   pub protocol : Expanded
   pub index : ℕ
-  pub accepted : Accepts r text protocol index
+  pub accepted : AcceptsRole r text protocol index
   pub begins : BeginsFrom at r.journal protocol index store journal
 
 -- what passes while the role is served, from what remains after the opening on

@@ -2,7 +2,7 @@
 use Rattle.std.specs.Prelude.{◌≡◌, ℕ, List}
 use Rattle.program_frame.specs.declared.reply.Reply.{Reply}
 use Rattle.tool_input.specs.declared.status.Status.{Status}
-use Rattle.live_role.specs.Judgement.{Accepts, Declines}
+use Rattle.live_role.specs.Judgement.{AcceptsRole, Declines}
 use Rattle.live_role.specs.Request.{RoleRequest}
 use Rattle.live_role.specs.declared.judged.Judged.{Judged}
 use Rattle.live_role.specs.declared.judged.Judged.TheVariants.{Accepted, Declined}
@@ -15,4 +15,4 @@ pub record IsReply (text : List ℕ) (status : Status) (reply : Reply Status) : 
 -- there is a reason against it, or it is accepted
 abbrev pub IsJudged : RoleRequest → List ℕ → Judged → Type 0
 IsJudged r text (Declined reply) = Declines r text reply.text reply.status
-IsJudged r text (Accepted protocol role) = Accepts r text protocol role
+IsJudged r text (Accepted protocol role) = AcceptsRole r text protocol role
