@@ -16,7 +16,7 @@ use Rattle.live_role.specs.Serving.{serving_ending}
 use Rattle.live_role.specs.declared.role_end.RoleEnd.{RoleEnd}
 use Rattle.live_role.specs.declared.role_end.RoleEnding.{RoleEnding}
 use Rattle.live_role.specs.declared.role_end.RoleEnding.TheVariants.{Ended, NotKept}
-use Rattle.live_role.specs.declared.role_journal.RoleJournal.TheVariants.{Unkept}
+use Rattle.live_role.specs.declared.journal_choice.RoleJournal.TheVariants.{Unkept}
 use Rattle.live_role.specs.inner.Prepared.{EndsUnserved}
 
 -- what is counted for one fault is counted for another that comes with it

@@ -18,7 +18,7 @@ use Rattle.live_role.specs.Request.{JournalRequest, RoleRequest}
 use Rattle.live_role.specs.Serving.{BeginsRole}
 use Rattle.live_role.specs.declared.begun.Unbegun.TheVariants.{Refused}
 use Rattle.live_role.specs.declared.journal_refusal.JournalRefusal.{JournalRefusal}
-use Rattle.live_role.specs.declared.role_journal.RoleJournal.{RoleJournal}
+use Rattle.live_role.specs.declared.journal_choice.RoleJournal.{RoleJournal}
 use Rattle.live_role.specs.inner.Begun.{CannotBegin}
 use Rattle.live_role.specs.inner.Judged.{IsReply}
 use Rattle.live_role.specs.inner.Prepared.{IsPrepared, prepared_of}

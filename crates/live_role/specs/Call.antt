@@ -23,7 +23,7 @@ use Rattle.live_role.specs.declared.journal_refusal.JournalRefusal.{JournalRefus
 use Rattle.live_role.specs.declared.role_end.RoleEnd.{RoleEnd}
 use Rattle.live_role.specs.declared.role_end.RoleEnding.{RoleEnding}
 use Rattle.live_role.specs.declared.role_end.RoleEnding.TheVariants.{Ended, NotKept}
-use Rattle.live_role.specs.declared.role_journal.RoleJournal.TheVariants.{Unkept}
+use Rattle.live_role.specs.declared.journal_choice.RoleJournal.TheVariants.{Unkept}
 
 -- the line for invalid arguments
 abbrev pub role_usage : List ℕ

@@ -8,8 +8,8 @@ use Rattle.local_store.specs.State.{StoreState}
 use Rattle.protocol_expand.specs.Printed.{IsPrinted}
 use Rattle.role_server.specs.Live.{LiveReplies, first_live_store}
 use Rattle.live_role.specs.Request.{JournalRequest}
-use Rattle.live_role.specs.declared.role_journal.RoleJournal.{RoleJournal}
-use Rattle.live_role.specs.declared.role_journal.RoleJournal.TheVariants.{Unkept, Kept}
+use Rattle.live_role.specs.declared.journal_choice.RoleJournal.{RoleJournal}
+use Rattle.live_role.specs.declared.journal_choice.RoleJournal.TheVariants.{Unkept, Kept}
 
 -- what is known of the journals of a place: at a path, with a head, which lines are found, and why
 -- none is; and which lines every crash leaves of a journal

@@ -17,7 +17,7 @@ use Rattle.live_role.specs.Request.{RoleRequest}
 use Rattle.live_role.specs.declared.role_end.RoleEnd.{RoleEnd}
 use Rattle.live_role.specs.declared.role_end.RoleEnding.{RoleEnding}
 use Rattle.live_role.specs.declared.role_end.RoleEnding.TheVariants.{Ended, NotKept}
-use Rattle.live_role.specs.declared.role_journal.RoleJournal.{RoleJournal}
+use Rattle.live_role.specs.declared.journal_choice.RoleJournal.{RoleJournal}
 
 -- the most bytes that may come once the role is served: as many as are counted
 abbrev pub stream_limit : ℕ

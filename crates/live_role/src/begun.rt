@@ -5,11 +5,11 @@ ghost use Rattle.live_role.specs.RefusedJournal.{lf_count};
 ghost use Rattle.live_role.specs.inner.Begun.{CannotBegin, NamesLineOf, unrestored_by};
 ghost use Rattle.live_role.specs.inner.Request.{journal_said};
 
+use super::journal_choice::RoleJournal;
 use super::journal_head::journal_head;
 use super::journal_refusal::JournalRefusal;
 use super::journals::Journals;
 use super::request::JournalOption;
-use super::role_journal::RoleJournal;
 use bspl_types::{Admitted, Expanded};
 use kept_lines::{OpenRefusal, RestoreRefusal, restore};
 use list_base::NoMemory;

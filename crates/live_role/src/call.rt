@@ -4,14 +4,14 @@ ghost use Rattle.live_role.specs.Call.{IsRoleCall, NamesRoleFault, role_usage};
 ghost use Rattle.live_role.specs.Journal.{faults_by, journals_at};
 ghost use Rattle.live_role.specs.Serving.{serving_ending};
 ghost use Rattle.live_role.specs.declared.role_end.RoleEnding.TheVariants.{Ended};
-ghost use Rattle.live_role.specs.declared.role_journal.RoleJournal.TheVariants.{Unkept};
+ghost use Rattle.live_role.specs.declared.journal_choice.RoleJournal.TheVariants.{Unkept};
 ghost use Rattle.live_role.specs.inner.Judged.{IsReply};
 
+use super::journal_choice::RoleJournal;
 use super::journals::Journals;
 use super::prepared::prepare;
 use super::request::request_of;
 use super::role_end::{RoleEnd, RoleEnding};
-use super::role_journal::RoleJournal;
 use bspl_io::{Sink, Source};
 use kept_lines::{StreamRefusal, answer_stream};
 use list_base::{Bytes, NoMemory};

@@ -3,6 +3,7 @@
 
 mod begun;
 mod call;
+mod journal_choice;
 mod journal_head;
 mod journal_refusal;
 mod journals;
@@ -12,10 +13,9 @@ mod prepared;
 mod reading;
 mod request;
 mod role_end;
-mod role_journal;
 mod same;
 
 pub use call::bspl_role;
+pub use journal_choice::RoleJournal;
 pub use journals::Journals;
 pub use role_end::{RoleEnd, RoleEnding};
-pub use role_journal::RoleJournal;

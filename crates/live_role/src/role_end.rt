@@ -1,7 +1,7 @@
 ghost use Rattle.std.specs.Prelude.{◌≡◌};
 ghost use Rattle.live_role.specs.End.{role_exit};
 
-use super::role_journal::RoleJournal;
+use super::journal_choice::RoleJournal;
 use program_frame::Ending;
 use tool_input::Status;
 
