@@ -2,13 +2,16 @@
 
 The lines and the replies are those of the worked rows on `bspl serve`, which gives the same replies at the end of its
 input; then the status is 0. A role of an unsafe protocol (1), of a text that is refused (4), and for other arguments (3)
-has to end at once. So has one whose input (5) or output (6) is cut off after a reply.
+has to end at once. So has one whose input (5) or output (6) is cut off after a reply. A role with a journal is killed
+after a reply, and started again: it has to go on where it was, and the journal has to be an input of `bspl serve`.
 """
 import queue
 import re
 import socket
 import subprocess
+import tempfile
 import threading
+from pathlib import Path
 
 from faults import PING
 from rows import rows, without_evidence
@@ -125,6 +128,28 @@ def wrong_cut_output(path):
     return None if (ended, found) == (6, SENT) else f"bspl_role: its output is cut off: ended {ended} after {found}"
 
 
+def wrong_restart(paths):
+    """A role that is killed after a reply has the event of that reply when it is started again with its journal."""
+    blocked = b'{"blocked":"bound","kept":"1","param":"ID"}\n'
+    with tempfile.TemporaryDirectory() as folder:
+        journal = Path(folder) / "A.journal"
+        args = ["Ping", "A", "--journal", str(journal)]
+        first = Role(paths["bspl_role"], args)
+        found = [first.reply_to(OPENING + EMIT), first.reply_to(EMIT)]
+        first.process.kill()
+        first.process.wait()
+        again = Role(paths["bspl_role"], args)
+        found += [again.reply_to(OPENING + EMIT), *again.end()]
+        text = journal.read_bytes().split(b"\0", 1)[0]
+        served = subprocess.run([paths["bspl"], "serve", "Ping"], input=text, stdout=subprocess.PIPE, check=False)
+    wanted = [SENT, blocked, blocked, 0, b""]
+    if found != wanted:
+        return f"bspl_role, killed and started again: {found}, and not {wanted}"
+    if (served.returncode, served.stdout) != (0, SENT):
+        return f"bspl serve on a journal: {served.returncode} with {served.stdout}"
+    return None
+
+
 def is_on_whole_lines(row):
     """Whether the row's lines and replies can be paired: a role line, and a reply for each line after it."""
     text, found, wire = row.given.partition(WIRE)
@@ -162,4 +187,5 @@ def trials(paths):
                 yield lambda row=row: wrong_play(path, row, [])
     yield lambda: wrong_cut_input(path)
     yield lambda: wrong_cut_output(path)
+    yield lambda: wrong_restart(paths)
     yield from endings(path, all_rows)
