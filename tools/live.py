@@ -1,7 +1,7 @@
 """Trials of bspl_role with its input held open: each line has to have its reply before the next one is written.
 
 The lines and the replies are those of the worked rows on `bspl serve`, which gives the same replies at the end of its
-input; then the status is 0. A role of an unsafe protocol (1), of a text that is refused (4), and for other arguments (3)
+input as long as its limits are not met; then the status is 0. A role of an unsafe protocol (1), of a text that is refused (4), and for other arguments (3)
 has to end at once. So has one whose input (5) or output (6) is cut off after a reply. A role with a journal is killed
 after a reply, and started again: it has to go on where it was, and the journal has to be an input of `bspl serve`.
 """
@@ -159,6 +159,11 @@ def is_on_whole_lines(row):
     )
 
 
+def meets_a_limit(row):
+    """Whether the row meets a limit of `serve`, which a role line by line does not have."""
+    return b'{"refused":"F3"}' in row.output
+
+
 def is_unsafe(row):
     """Whether the row has a text of one protocol, which is found unsafe."""
     is_verdict = row.args[:2] == [b"bspl", b"verify"] and b"--brief" in row.args
@@ -181,7 +186,7 @@ def trials(paths):
     path = paths["bspl_role"]
     all_rows = list(rows())
     for row in all_rows:
-        if row.args[:2] == [b"bspl", b"serve"] and row.status == 0 and is_on_whole_lines(row):
+        if row.args[:2] == [b"bspl", b"serve"] and row.status == 0 and is_on_whole_lines(row) and not meets_a_limit(row):
             yield lambda row=row: wrong_play(path, row, [b"--unchecked"])
             if row.given.startswith(PING):
                 yield lambda row=row: wrong_play(path, row, [])
