@@ -1,9 +1,10 @@
 """Trials of bspl_role with its input held open: each line has to have its reply before the next one is written.
 
 The lines and the replies are those of the worked rows on `bspl serve`, which gives the same replies at the end of its
-input as long as its limits are not met; then the status is 0. A role of an unsafe protocol (1), of a text that is refused (4), and for other arguments (3)
-has to end at once. So has one whose input (5) or output (6) is cut off after a reply. A role with a journal is killed
-after a reply, and started again: it has to go on where it was, and the journal has to be an input of `bspl serve`.
+input as long as its limits are not met; then the status is 0. A role of an unsafe protocol (1), of a text that is
+refused (4), and for other arguments (3) has to end at once. So has one whose input (5) or output (6) is cut off after
+a reply. A role with a journal is killed after a reply, and started again: it has to go on where it was, and the
+journal has to be an input of `bspl serve`.
 """
 import queue
 import re
