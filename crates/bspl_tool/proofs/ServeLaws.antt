@@ -44,7 +44,7 @@ replies_are_block (line ∷ lines) s out acts end answers =
 -- the laws of the command
 pub serve_laws : CommandLaws OneServeAnswer serve_rules
 serve_laws = record {
-  honest = λ x part out status n answer. honest_nothing x out n (replies_are_block (lines_of answer.lines) (first_store x answer.role) out answer.replies.1 answer.replies.0 answer.replies.2).nothing;
+  honest = λ x part out status n answer. honest_nothing x out n (replies_are_block (lines_of answer.lines) (first_store x answer.role) out answer.replies.1.0 answer.replies.0 answer.replies.1.1).nothing;
   names = λ x part r refused. subst HasNames (sym refused.rejection_is) (record { first = tt; second = tt });
   distinct = λ once x part out status r admitted answer refused. refused.none answer.role answer.lines answer.opens;
   one_refusal = λ once x part r s admitted one other. one.rejection_is ∙ sym other.rejection_is;
