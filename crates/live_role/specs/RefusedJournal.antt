@@ -1,11 +1,13 @@
 -- When a journal is refused, and the line in which that is reported.
-use Rattle.std.specs.Prelude.{◌≡◌, ℕ, ◌+◌, ◌==◌, List, ◌++◌, codes, length}
+use Rattle.std.specs.Prelude.{◌≡◌, ◌⊎◌, ℕ, ◌+◌, ◌==◌, List, ◌++◌, codes, length}
 use Rattle.std.specs.Fmt.{decimal}
+use Rattle.std.specs.IoError.{Error}
 use Rattle.std.specs.List.{filter}
 use Rattle.bspl_types.specs.declared.expanded.Expanded.{Expanded}
 use Rattle.kept_lines.specs.declared.open_refusal.OpenRefusal.{OpenRefusal}
 use Rattle.kept_lines.specs.declared.open_refusal.OpenRefusal.TheVariants as opening
-use Rattle.kept_lines.specs.Restored.{StopsAtLine}
+use Rattle.kept_lines.specs.Restored.{RestoresText, StopsAtLine}
+use Rattle.local_store.specs.State.{StoreState}
 use Rattle.role_server.specs.Live.{LiveReplies, first_live_store}
 use Rattle.tool_input.specs.Lines.{line}
 use Rattle.live_role.specs.Journal.{FindsJournal, IsJournalHead, JournalsAt}
@@ -35,13 +37,21 @@ pub record RefusesHead {J : Type 0} (at : JournalsAt J) (path : List ℕ) (x : E
   pub is_head : IsJournalHead x role head
   pub refused : at.refuses path head refusal
 
--- why the journal at the path is refused; of what the system refuses nothing is known
+-- a journal of the role at the path cannot be opened, made or read; or it is there, each of its
+-- lines makes an event, and it cannot be gone on with
+abbrev pub FailsToUse : {J : Type 0} → JournalsAt J → List ℕ → Expanded → ℕ → Type 0
+FailsToUse at path x role =
+    ((error : Error) × RefusesHead at path x role (opening.Failed error)) ⊎
+    ((head lines : List ℕ) × (store : StoreState) × FindsJournal at path x role head lines ×
+    RestoresText LiveReplies (first_live_store x role) lines store)
+
+-- why the journal at the path is refused
 abbrev pub RefusesJournal : {J : Type 0} → JournalsAt J → List ℕ → Expanded → ℕ → JournalRefusal →
     Type 0
 RefusesJournal at path x role (NoEvent number) = MakesNoEvent at path x role number
 RefusesJournal at path x role AnotherJournal = RefusesHead at path x role opening.AnotherJournal
 RefusesJournal at path x role InUse = RefusesHead at path x role opening.InUse
-RefusesJournal at path x role Failed = Unit {0}
+RefusesJournal at path x role Failed = FailsToUse at path x role
 
 -- the line in which a refused journal is reported
 abbrev pub journal_line : JournalRefusal → List ℕ

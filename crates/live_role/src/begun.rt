@@ -69,10 +69,10 @@ pub fn begin_role<F: Journals>(
 ) -> Result<Begun<F::Kept>, Unbegun>
     requires { role < length protocol.now.roles }
     ensures ok { IfOk result (λ begun. BeginsFrom
-        (journals_at F.finds F.refuses F.Kept.kept journals.now) (journal_said wanted.entry)
+        (journals_at F.finds F.refuses F.Kept.kept F.is_synced journals.now) (journal_said wanted.entry)
         protocol.now role begun.role begun.journal) }
     ensures err { IfErr result (CannotBegin
-        (journals_at F.finds F.refuses F.Kept.kept journals.now) (journal_said wanted.entry)
+        (journals_at F.finds F.refuses F.Kept.kept F.is_synced journals.now) (journal_said wanted.entry)
         protocol.now role) }
     ensures faults { IfOk result (λ begun. faults_by F.Kept.faults begun.journal ≡ 0) }
 {
@@ -98,10 +98,10 @@ fn begin_with<F: Journals>(
 ) -> Result<Begun<F::Kept>, Unbegun>
     requires { live ≡ first_live_store x.now role }
     ensures ok { IfOk result (λ begun. BeginsFrom
-        (journals_at F.finds F.refuses F.Kept.kept journals.now) (journal_said (Some wanted.entry))
+        (journals_at F.finds F.refuses F.Kept.kept F.is_synced journals.now) (journal_said (Some wanted.entry))
         x.now role begun.role begun.journal) }
     ensures err { IfErr result (CannotBegin
-        (journals_at F.finds F.refuses F.Kept.kept journals.now) (journal_said (Some wanted.entry))
+        (journals_at F.finds F.refuses F.Kept.kept F.is_synced journals.now) (journal_said (Some wanted.entry))
         x.now role) }
     ensures faults { IfOk result (λ begun. faults_by F.Kept.faults begun.journal ≡ 0) }
 {

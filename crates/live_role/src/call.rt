@@ -34,7 +34,7 @@ pub fn bspl_role<F: Journals, R: Source, W: Sink>(
     input: &mut R,
     output: &mut W,
 ) -> RoleEnd<F::Kept>
-    ensures call { IsRoleCall (journals_at F.finds F.refuses F.Kept.kept journals.now)
+    ensures call { IsRoleCall (journals_at F.finds F.refuses F.Kept.kept F.is_synced journals.now)
         (map string_bytes args.now) (record {
           remaining = R.remaining input.old;
           remaining_after = R.remaining input.new;

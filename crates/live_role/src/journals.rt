@@ -1,9 +1,9 @@
 use kept_lines::{FileJournal, Journal, OpenRefusal, OpenedJournal, open_journal};
 use std::alloc::Global;
 
-/// A place where journals are found by their paths.
+/// Journals that are found by their paths.
 pub trait Journals {
-    ghost use Rattle.std.specs.Prelude.{◌≡◌, ℕ, List, IfErr, IfOk, IfSome};
+    ghost use Rattle.std.specs.Prelude.{◌≡◌, ℕ, Bool, List, IfErr, IfOk, IfSome};
     ghost use Rattle.kept_lines.specs.declared.open_refusal.OpenRefusal.{OpenRefusal};
 
     /// A journal that was found. No line of it was changed yet.
@@ -18,23 +18,29 @@ pub trait Journals {
     // At the path no journal with this head is found, for this reason.
     ghost refuses: { Self → List ℕ → List ℕ → OpenRefusal → Type 0 };
 
-    // The lines behind the head.
+    // The head, and the lines behind it.
+    ghost found_head: { Self.Found → List ℕ };
     ghost found_lines: { Self.Found → List ℕ };
+
+    // What is kept is synced, or is not.
+    ghost is_synced: { Self.Kept → Bool → Type 0 };
 
     /// Finds the journal at the path, or makes a new one with the head and no lines.
     fn find(&self, path: &str, head: &[u8]) -> Result<Self::Found, OpenRefusal>
         ensures found { IfOk result (λ found.
             finds self.now path.now head.now (found_lines found)) }
+        ensures head { IfOk result (λ found. found_head found ≡ head.now) }
         ensures refused { IfErr result (refuses self.now path.now head.now) };
 
     /// Lends the lines behind the head.
     fn lines(found: &Self::Found) -> &[u8]
         ensures { result.now ≡ found_lines found.now };
 
-    /// Goes on behind the lines. No fault was counted yet.
+    /// Goes on behind the lines, with or without syncs. No fault was counted yet.
     fn begin(alloc: Global, found: Self::Found, syncs: bool) -> Result<Self::Kept, OpenRefusal>
         ensures kept { IfOk result (λ journal.
             IfSome (Self.Kept.kept journal) (λ known. known ≡ found_lines found)) }
+        ensures synced { IfOk result (λ journal. is_synced journal syncs) }
         ensures faults { IfOk result (λ journal. Self.Kept.faults journal ≡ 0) };
 }
 
@@ -46,12 +52,16 @@ impl Journals for HostRuntime {
 
     type Kept = FileJournal;
 
-    // Nothing else is known of what is in a file.
+    // Of what is in a file nothing else is known, nor of why the system refuses one.
     ghost finds = { λ _ path head lines. AreTextLines lines };
 
     ghost refuses = { λ _ path head refusal. Unit {0} };
 
+    ghost found_head = { λ opened. opened.head };
+
     ghost found_lines = { λ opened. opened.lines };
+
+    ghost is_synced = { λ journal syncs. journal.syncs ≡ syncs };
 
     fn find(&self, path: &str, head: &[u8]) -> Result<OpenedJournal, OpenRefusal> {
         let found = open_journal(self, path, head)?;

@@ -33,7 +33,7 @@ pub fn prepare<F: Journals, R: Source>(
     journals: &F,
     input: &mut R,
 ) -> Prepared<Begun<F::Kept>, Status>
-    ensures known { IsPrepared (journals_at F.finds F.refuses F.Kept.kept journals.now)
+    ensures known { IsPrepared (journals_at F.finds F.refuses F.Kept.kept F.is_synced journals.now)
         (request_said request.now) (R.remaining input.old) (R.remaining input.new) result }
     ensures faults { AreReadsCounted (R.faults input.old) (R.faults input.new) result }
     ensures unfailed { HasNoFault F.Kept.faults result }
@@ -56,7 +56,7 @@ fn judged_role<F: Journals>(
     opened: Opened,
 ) -> Prepared<Begun<F::Kept>, Status>
     ensures known { (old new : Option (List ℕ)) → TakesOpening opened.text opened.ahead old new →
-        IsPrepared (journals_at F.finds F.refuses F.Kept.kept journals.now)
+        IsPrepared (journals_at F.finds F.refuses F.Kept.kept F.is_synced journals.now)
         (request_said request.now) old new result }
     ensures no_read { ¬ (result ≡ Ended ReadFault) }
     ensures unfailed { HasNoFault F.Kept.faults result }

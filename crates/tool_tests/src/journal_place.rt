@@ -33,6 +33,7 @@ impl Place {
 /// What is found at a place.
 #[derive(Drop)]
 pub(crate) struct Found {
+    head: &'static [u8],
     lines: &'static [u8],
     calls: u32,
 }
@@ -48,13 +49,19 @@ impl Journals for Place {
 
     ghost refuses = { λ _ path head refusal. Unit {0} };
 
+    ghost found_head = { λ found. found.head.now };
+
     ghost found_lines = { λ found. found.lines.now };
+
+    // A journal in memory has nothing to sync.
+    ghost is_synced = { λ _ syncs. Unit {0} };
 
     fn find(&self, _path: &str, head: &[u8]) -> Result<Found, OpenRefusal> {
         if head != self.head {
             return Err(OpenRefusal::AnotherJournal);
         }
         Ok(Found {
+            head: self.head,
             lines: self.lines,
             calls: self.calls,
         })
