@@ -2,6 +2,7 @@
 #![tactic(auto)]
 
 mod answer;
+mod asked_role;
 mod event_text;
 mod form;
 mod form_list;
@@ -18,6 +19,7 @@ mod status_text;
 mod value_text;
 
 pub use answer::push_answer;
+pub use asked_role::AskedRole;
 pub use form::{Form, FormList, KnownValue, KnownValueList};
 pub use form_list::forms;
 pub use knowledge::known;
