@@ -84,12 +84,7 @@ impl Responder for AskedRole {
 }
 
 /// Answers the line with this body, which asks for no act.
-fn ask(
-    alloc: Global,
-    store: &Store,
-    body: &[u8],
-    replies: &mut Bytes,
-) -> Result<bool, NoMemory>
+fn ask(alloc: Global, store: &Store, body: &[u8], replies: &mut Bytes) -> Result<bool, NoMemory>
     requires { AsksNothing (body.now ++ 10 ∷ []) }
     ensures { IfOk result (λ is_kept. RepliesTo AskedReplies (with_live_room store.now)
         (body.now ++ 10 ∷ []) replies.old replies.new is_kept (with_live_room store.now)) }
@@ -116,6 +111,11 @@ fn refuse(
         replies.old ++ reply_text store.now.protocol (Refused refusal)) }
     ensures kept { IfOk result (λ is_kept. is_kept ≡ false) }
 {
-    push_reply(alloc, replies, store.admitted().expanded(), &Reply::Refused(refusal))?;
+    push_reply(
+        alloc,
+        replies,
+        store.admitted().expanded(),
+        &Reply::Refused(refusal),
+    )?;
     Ok(false)
 }

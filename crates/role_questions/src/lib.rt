@@ -23,6 +23,6 @@ pub use asked_role::AskedRole;
 pub use form::{Form, FormList, KnownValue, KnownValueList};
 pub use form_list::forms;
 pub use knowledge::known;
-pub use laws::{forms_are_enabled, question_is_one};
+pub use laws::{asked_replies_are_determined, forms_are_enabled, question_is_one};
 pub use line::read_question;
 pub use question::{Question, QuestionReading};
