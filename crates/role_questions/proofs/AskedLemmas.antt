@@ -22,11 +22,9 @@ use Rattle.wire_form.specs.Reply.{reply_text}
 use Rattle.role_server.specs.Live.{LiveReplies, RepliesLive, live_limit}
 use Rattle.role_server.specs.Replies.{Acts, AnswersAct, Replies, answered as does, done, in_vain as means_nothing, last, no_room, nothing}
 use Rattle.role_server.specs.Served.{tells_event}
-use Rattle.role_questions.specs.declared.question.Question.{Question}
-use Rattle.role_questions.specs.Answers.{IsAnswerText}
-use Rattle.role_questions.specs.Asked.{AskedReplies, acted, answered, in_vain}
+use Rattle.role_questions.specs.Asked.{AskedReplies, acted, in_vain}
 use Rattle.role_questions.specs.Laws.{QuestionIsNoRequest}
-use Rattle.role_questions.specs.Meaning.{PutsInVain, PutsNothing, PutsQuestion}
+use Rattle.role_questions.specs.Meaning.{PutsInVain, PutsNothing}
 
 -- two keys are one, or they are not
 same_key : EqualValuesAreOne → (key other : List Value) → (key ≡ other) ⊎ (key ≢ other)
@@ -111,9 +109,14 @@ refused_asks s new line (nothing none is same) = none
 refused_asks s new line (means_nothing vain is same) = absurd (cc)
 refused_asks s new line (does act asks answers) = absurd (answer_tells s new act answers)
 
--- a role that refuses a line leaves its store, which has the protocol
-pub left_room : (s next : StoreState) (line : Line) → RepliesLive s line (Refused F1) next → AsksNothing line × (next ≡ s)
-left_room s next line is = (refused_asks s is.after line is.replies, is.next_is)
+pub left_asks : (s next : StoreState) (line : Line) → RepliesLive s line (Refused F1) next → AsksNothing line
+left_asks s next line is = refused_asks s is.after line is.replies
+
+-- it is answered from that store
+pub asked_left : {E : Type 0} (s next room : StoreState) (line : Line) (text text_after : List ℕ) (result : Result Bool E) → RepliesLive s line (Refused F1) next → room ≡ next → IfOk result (λ is_kept. RepliesTo AskedReplies room line text text_after is_kept room) → IfOk result (λ is_kept. RepliesTo AskedReplies s line text text_after is_kept next)
+asked_left s next room line text text_after result is same told =
+    let left : next ≡ s = is.next_is in
+    subst (λ (t : StoreState). IfOk result (λ is_kept. RepliesTo AskedReplies s line text text_after is_kept t)) (sym left) (subst (λ (t : StoreState). IfOk result (λ is_kept. RepliesTo AskedReplies t line text text_after is_kept t)) (same ∙ left) told)
 
 -- a line that asks for an act is answered by a live role
 pub asked_told : {E : Type 0} (s next : StoreState) (line : Line) (reply : Reply) (x : Expanded) (text text_after : List ℕ) (result : Result Bool E) → QuestionIsNoRequest → EqualValuesAreOne → RepliesLive s line reply next → reply ≢ Refused F1 → x ≡ next.protocol → OnOk result (text_after ≡ text ++ reply_text x reply) → IfOk result (λ is_event. is_event ≡ tells_event reply) → IfOk result (λ is_kept. RepliesTo AskedReplies s line text text_after is_kept next)

@@ -1,6 +1,5 @@
 -- An answer does not speak of how many events are spare.
 use Rattle.std.proofs.Common.{ℕ, List, map}
-use Rattle.std.specs.List.{All}
 use Rattle.std.proofs.lemmas.List.Elements.{All-weaker}
 use Rattle.bspl_types.specs.declared.value.Value.{Value}
 use Rattle.local_store.specs.State.{StoreState}

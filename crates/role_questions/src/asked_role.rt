@@ -1,6 +1,8 @@
-ghost use Rattle.std.specs.Prelude.{◌≡◌, ◌++◌, ◌∷◌, ◌<◌, [], false, length, IfOk, OnOk};
+ghost use Rattle.std.specs.Prelude.{◌≡◌, ◌↔◌, ◌++◌, ◌∷◌, ◌<◌, [], false, length, IfOk, OnOk};
+ghost use Rattle.std.specs.Prelude.{IsTrue};
 ghost use Rattle.kept_lines.specs.Answers.{RepliesTo};
 ghost use Rattle.role_server.specs.Live.{first_live_store, with_live_room};
+ghost use Rattle.wire_form.specs.declared.reply.Refusal.TheVariants.{F1};
 ghost use Rattle.wire_form.specs.declared.reply.Reply.TheVariants.{Refused};
 ghost use Rattle.wire_form.specs.Meaning.{AsksNothing};
 ghost use Rattle.wire_form.specs.Reply.{reply_text};
@@ -69,7 +71,7 @@ impl Responder for AskedRole {
         // law: `==` of keys is equality
         equal_values_are_one();
         match self.role.reply(body) {
-            Ok(Reply::Refused(Refusal::F1)) => ask(alloc, self.role.store(), body, replies),
+            Ok(reply) if says_no_request(&reply) => ask(alloc, self.role.store(), body, replies),
             Ok(reply) => push_told(alloc, replies, self.role.store(), &reply),
             Err(error) => Err(error),
         }
@@ -81,6 +83,13 @@ impl Responder for AskedRole {
     }
 
     ghost leaves_unread = { asked_unread };
+}
+
+/// Whether the reply says that its line asks for no act.
+fn says_no_request(reply: &Reply) -> bool
+    ensures { IsTrue result ↔ (reply.now ≡ Refused F1) }
+{
+    matches!(reply, Reply::Refused(Refusal::F1))
 }
 
 /// Answers the line with this body, which asks for no act.
