@@ -8,3 +8,6 @@ mod QuestionLemmas
 mod MeaningLemmas
 mod PartLemmas
 mod WrittenLemmas
+mod AskedLemmas
+mod RoomLemmas
+mod AskedLawLemmas

@@ -1,9 +1,11 @@
--- Questions to a live role, what they mean and how they are answered; the forms of what the role
--- may send, and what it knows; laws.
+-- Questions to a live role, what they mean and how they are answered; what it may send, and what it
+-- knows; what it replies to lines; laws.
 pub mod Questions
 pub mod Meaning
 pub mod Answers
 pub mod Known
 pub mod Forms
 pub mod Laws
+pub mod Asked
+pub mod AskedLaws
 pub mod inner

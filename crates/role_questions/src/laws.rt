@@ -1,7 +1,9 @@
+ghost use Rattle.role_questions.specs.AskedLaws.{AskedLinesKeepOrStay, AskedStatesAreOne};
 ghost use Rattle.role_questions.specs.Laws.{FormsAreEnabled, LinePutsOneQuestion};
 ghost use Rattle.role_questions.specs.Laws.{QuestionIsNoRequest};
 
 use bspl_types::spells_once;
+use role_server::live_replies_are_determined;
 
 /// A law: of the instances under a key of a role's messages, exactly those are enabled that fill in
 /// one of the forms under it.
@@ -16,4 +18,14 @@ pub fn question_is_one()
 {
     // law: values of one spelling are equal
     spells_once();
+}
+
+/// A law: a line of an asked role is always kept or never, and one store comes after it, whatever
+/// it puts. A line that is kept has its LF, and each other leaves the store.
+pub fn asked_replies_are_determined()
+    ensures states { AskedStatesAreOne }
+    ensures keeps { AskedLinesKeepOrStay }
+{
+    // law: a line of a live role has one outcome
+    live_replies_are_determined();
 }
