@@ -7,7 +7,8 @@ use Rattle.kept_lines.specs.declared.kept_text.RestoreRefusal.{RestoreRefusal}
 use Rattle.kept_lines.specs.declared.kept_text.RestoreRefusal.TheVariants as restoring
 use Rattle.kept_lines.specs.Restored.{FailsToRestore}
 use Rattle.list_base.specs.Lines.{lines_of}
-use Rattle.role_server.specs.Live.{LiveReplies, first_live_store}
+use Rattle.role_questions.specs.Asked.{AskedReplies}
+use Rattle.role_server.specs.Live.{first_live_store}
 use Rattle.live_role.specs.Journal.{FindsJournal, JournalsAt}
 use Rattle.live_role.specs.RefusedJournal.{lf_count}
 use Rattle.live_role.specs.Request.{JournalRequest}
@@ -35,13 +36,13 @@ lines_few (x ∷ xs) = short_both (x == 10) ((x ∷ []) ∷ lines_of xs) (onto_f
 
 module _ (x : Expanded) (role : ℕ) (lines : List ℕ) where
   -- the line that is named is one of the text
-  pub names_line : (refusal : RestoreRefusal) → FailsToRestore LiveReplies (first_live_store x role) lines refusal → NamesLineOf lines refusal
+  pub names_line : (refusal : RestoreRefusal) → FailsToRestore AskedReplies (first_live_store x role) lines refusal → NamesLineOf lines refusal
   names_line restoring.NoMemory stops = tt
   names_line (restoring.NotKept number) stops =
       let whole : length (lines_of lines) ≡ length (lines_of stops.before ++ stops.line ∷ stops.after) = ap length stops.whole in
       omega (arith, stops.numbered, whole, length-append (lines_of stops.before) (stops.line ∷ stops.after), lines_few lines)
 
   -- the journal is refused for it
-  pub no_event : {J : Type 0} (at : JournalsAt J) (j : JournalRequest) (head : List ℕ) (refusal : RestoreRefusal) → FindsJournal at j.path x role head lines → FailsToRestore LiveReplies (first_live_store x role) lines refusal → CannotBegin at (Some j) x role (unrestored_by head refusal)
+  pub no_event : {J : Type 0} (at : JournalsAt J) (j : JournalRequest) (head : List ℕ) (refusal : RestoreRefusal) → FindsJournal at j.path x role head lines → FailsToRestore AskedReplies (first_live_store x role) lines refusal → CannotBegin at (Some j) x role (unrestored_by head refusal)
   no_event at j head restoring.NoMemory found stops = tt
   no_event at j head (restoring.NotKept number) found stops = record { head = head; lines = lines; found = found; behind_head = number; stops = stops; number_is = refl }

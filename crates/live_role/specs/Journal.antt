@@ -6,7 +6,8 @@ use Rattle.kept_lines.specs.declared.open_refusal.OpenRefusal.{OpenRefusal}
 use Rattle.kept_lines.specs.Restored.{RestoresText}
 use Rattle.local_store.specs.State.{StoreState}
 use Rattle.protocol_expand.specs.Printed.{IsPrinted}
-use Rattle.role_server.specs.Live.{LiveReplies, first_live_store}
+use Rattle.role_questions.specs.Asked.{AskedReplies}
+use Rattle.role_server.specs.Live.{first_live_store}
 use Rattle.live_role.specs.Request.{JournalRequest}
 use Rattle.live_role.specs.declared.journal_choice.RoleJournal.{RoleJournal}
 use Rattle.live_role.specs.declared.journal_choice.RoleJournal.TheVariants.{Unkept, Kept}
@@ -60,7 +61,7 @@ pub record RestoresRole {J : Type 0} (at : JournalsAt J) (j : JournalRequest) (x
   pub head : List ℕ
   pub lines : List ℕ
   pub found : FindsJournal at j.path x role head lines
-  pub restored : RestoresText LiveReplies (first_live_store x role) lines store
+  pub restored : RestoresText AskedReplies (first_live_store x role) lines store
   pub kept : IfSome (at.kept journal) (λ known. known ≡ lines)
   pub synced : at.is_synced journal j.syncs
 

@@ -1,14 +1,15 @@
 -- When a journal is refused, and the line in which that is reported.
 use Rattle.std.specs.Prelude.{◌≡◌, ◌⊎◌, ℕ, ◌+◌, ◌==◌, List, ◌++◌, codes, length}
 use Rattle.std.specs.Fmt.{decimal}
-use Rattle.std.specs.IoError.{Error}
+use Rattle.std.specs.declared.io.error.Error.{Error}
 use Rattle.std.specs.List.{filter}
 use Rattle.bspl_types.specs.declared.expanded.Expanded.{Expanded}
 use Rattle.kept_lines.specs.declared.open_refusal.OpenRefusal.{OpenRefusal}
 use Rattle.kept_lines.specs.declared.open_refusal.OpenRefusal.TheVariants as opening
 use Rattle.kept_lines.specs.Restored.{RestoresText, StopsAtLine}
 use Rattle.local_store.specs.State.{StoreState}
-use Rattle.role_server.specs.Live.{LiveReplies, first_live_store}
+use Rattle.role_questions.specs.Asked.{AskedReplies}
+use Rattle.role_server.specs.Live.{first_live_store}
 use Rattle.tool_input.specs.Lines.{line}
 use Rattle.live_role.specs.Journal.{FindsJournal, IsJournalHead, JournalsAt}
 use Rattle.live_role.specs.declared.journal_refusal.JournalRefusal.{JournalRefusal}
@@ -27,7 +28,7 @@ pub record MakesNoEvent {J : Type 0} (at : JournalsAt J) (path : List ℕ) (x : 
   pub lines : List ℕ
   pub found : FindsJournal at path x role head lines
   pub behind_head : ℕ
-  pub stops : StopsAtLine LiveReplies (first_live_store x role) lines behind_head
+  pub stops : StopsAtLine AskedReplies (first_live_store x role) lines behind_head
   pub number_is : number ≡ lf_count head + behind_head
 
 -- a journal of the role at the path is refused
@@ -43,7 +44,7 @@ abbrev pub FailsToUse : {J : Type 0} → JournalsAt J → List ℕ → Expanded 
 FailsToUse at path x role =
     ((error : Error) × RefusesHead at path x role (opening.Failed error)) ⊎
     ((head lines : List ℕ) × (store : StoreState) × FindsJournal at path x role head lines ×
-    RestoresText LiveReplies (first_live_store x role) lines store)
+    RestoresText AskedReplies (first_live_store x role) lines store)
 
 -- why the journal at the path is refused
 abbrev pub RefusesJournal : {J : Type 0} → JournalsAt J → List ℕ → Expanded → ℕ → JournalRefusal →

@@ -8,7 +8,7 @@ use Rattle.kept_lines.specs.declared.stream_refusal.StreamRefusal.{StreamRefusal
 use Rattle.kept_lines.specs.declared.stream_refusal.StreamRefusal.TheVariants as refusal
 use Rattle.local_store.specs.State.{StoreState}
 use Rattle.program_frame.specs.declared.ending.Ending.TheVariants as ending
-use Rattle.role_server.specs.Live.{LiveReplies}
+use Rattle.role_questions.specs.Asked.{AskedReplies}
 use Rattle.tool_input.specs.declared.status.Status.TheVariants.{Done, Refused}
 use Rattle.live_role.specs.Journal.{BeginsFrom, JournalsAt, kept_by}
 use Rattle.live_role.specs.Judgement.{AcceptsRole}
@@ -65,8 +65,8 @@ pub record ServesRole {J : Type 0} (at : JournalsAt J) (r : RoleRequest) (t : Tr
   pub ahead : List ℕ
   pub begins : BeginsRole at r t.remaining between store journal ahead
   pub served : Result StoreState StreamRefusal
-  pub all : IfOk served (AnswersAll LiveReplies store ahead stream_limit
+  pub all : IfOk served (AnswersAll AskedReplies store ahead stream_limit
       (serving_flow at.kept t between journal end.journal))
-  pub stops : IfErr served (StopsAnswering LiveReplies store ahead stream_limit
+  pub stops : IfErr served (StopsAnswering AskedReplies store ahead stream_limit
       (serving_flow at.kept t between journal end.journal))
   pub ends : end.ending ≡ serving_ending served

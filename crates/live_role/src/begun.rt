@@ -13,13 +13,13 @@ use super::request::JournalOption;
 use bspl_types::{Admitted, Expanded};
 use kept_lines::{OpenRefusal, RestoreRefusal, restore};
 use list_base::NoMemory;
-use role_server::LiveRole;
+use role_questions::AskedRole;
 use std::alloc::Global;
 
 /// A role that is to be served, and where its lines are kept.
 #[derive(Drop)]
 pub struct Begun<J> {
-    pub role: LiveRole,
+    pub role: AskedRole,
     pub journal: RoleJournal<J>,
 }
 
@@ -76,7 +76,7 @@ pub fn begin_role<F: Journals>(
         protocol.now role) }
     ensures faults { IfOk result (λ begun. faults_by F.Kept.faults begun.journal ≡ 0) }
 {
-    let live = LiveRole::new(alloc, protocol, role)?;
+    let live = AskedRole::new(alloc, protocol, role)?;
     match wanted {
         Some(wanted) => begin_with(alloc, journals, wanted, protocol.expanded(), role, live),
         None => Ok(Begun {
@@ -94,7 +94,7 @@ fn begin_with<F: Journals>(
     wanted: JournalOption<'_>,
     x: &Expanded,
     role: u32,
-    live: LiveRole,
+    live: AskedRole,
 ) -> Result<Begun<F::Kept>, Unbegun>
     requires { live ≡ first_live_store x.now role }
     ensures ok { IfOk result (λ begun. BeginsFrom

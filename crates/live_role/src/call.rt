@@ -16,7 +16,7 @@ use bspl_io::{Sink, Source};
 use kept_lines::{StreamRefusal, answer_stream};
 use list_base::{Bytes, NoMemory};
 use program_frame::{Ending, Prepared, Reply, write_reply};
-use role_server::LiveRole;
+use role_questions::AskedRole;
 use std::alloc::Global;
 use tool_input::Status;
 
@@ -96,7 +96,7 @@ fn usage(alloc: Global) -> Result<Reply<Status>, NoMemory>
 }
 
 /// How the program ends after it has served.
-fn ending_of(served: Result<LiveRole, StreamRefusal>) -> RoleEnding
+fn ending_of(served: Result<AskedRole, StreamRefusal>) -> RoleEnding
     ensures { result ≡ serving_ending served }
 {
     match served {

@@ -1,19 +1,20 @@
 -- A journal with a line that makes no event is refused.
 use Rattle.std.proofs.Common.{List, ℕ}
 use Rattle.kept_lines.specs.Restored.{FailsToRestore}
-use Rattle.role_server.specs.Live.{LiveReplies, first_live_store}
+use Rattle.role_questions.specs.Asked.{AskedReplies}
+use Rattle.role_server.specs.Live.{first_live_store}
 use Rattle.live_role.proofs.BegunLemmas.{names_line, no_event}
 use Rattle.live_role.proofs.begun.begin_with.Goals as goal
 
 pub returns-in-Err-clause-err : goal.returns-in-Err-clause-err
 returns-in-Err-clause-err g c =
     let x = c.args.x.now in
-    let stops : FailsToRestore LiveReplies (first_live_store x c.args.role) (g.F.Journals.found_lines c.in_ok-found.found) c.in-Err.refusal = rw (c.requires, c.lines.ensures) at c.in-Err.ensures.err in
+    let stops : FailsToRestore AskedReplies (first_live_store x c.args.role) (g.F.Journals.found_lines c.in_ok-found.found) c.in-Err.refusal = rw (c.requires, c.lines.ensures) at c.in-Err.ensures.err in
     rw (c.unrestored.ensures, c.as_slice-in-Err.ensures) (no_event x c.args.role (g.F.Journals.found_lines c.in_ok-found.found) _ (record { path = c.args.wanted.path.now; syncs = c.args.wanted.syncs }) c.in_ok-head.head c.in-Err.refusal (record { is_head = c.in_ok-head.ensures; found = rw c.as_slice.ensures at c.in_ok-found.ensures.found }) stops)
 
 pub unrestored-requires : goal.unrestored-requires
 unrestored-requires g c =
     let x = c.args.x.now in
     let lines : List ℕ = g.F.Journals.found_lines c.in_ok-found.found in
-    let stops : FailsToRestore LiveReplies (first_live_store x c.args.role) lines c.in-Err.refusal = rw (c.requires, c.lines.ensures) at c.in-Err.ensures.err in
+    let stops : FailsToRestore AskedReplies (first_live_store x c.args.role) lines c.in-Err.refusal = rw (c.requires, c.lines.ensures) at c.in-Err.ensures.err in
     rw c.lines-in-Err.ensures (names_line x c.args.role lines c.in-Err.refusal stops)
