@@ -9,7 +9,7 @@ use Rattle.local_store.specs.State.{StoreState}
 use Rattle.role_server.specs.Live.{LiveReplies}
 use Rattle.role_server.specs.LiveLaws.{LiveLinesKeepOrStay, LiveRepliesAreOne}
 use Rattle.role_questions.specs.Asked.{AskedReplies, acted, answered, in_vain}
-use Rattle.role_questions.specs.AskedLaws.{AskedLinesKeepOrStay, AskedStatesAreOne}
+use Rattle.role_questions.specs.AskedLaws.{AskedLinesKeepOrStay, AskedOutcomesAreOne, IsOneOutcome}
 
 module _ (live : LiveLinesKeepOrStay) where
   -- a line that is kept is an act's
@@ -47,21 +47,22 @@ comes_to : (lines : List Line) (s : StoreState) (out acts : List ℕ) (end : Sto
 comes_to [] s out acts end is = comes_here s end is.2
 comes_to (line ∷ lines) s out acts end is = comes_after s is.0 end line is.3.reply is.3.is_kept is.3.answer (comes_to lines is.0 is.1 is.2 end is.4)
 
--- a line is kept or not, and one store comes after it
+-- a line has one outcome, but for the text of an answer
 module _ (live : LiveRepliesAreOne) (s : StoreState) (consistent : IsConsistent s) (now : StoreState) (to : ComesTo s now) (line : Line) (text other : List ℕ) (is_kept also_kept : Bool) (next also : StoreState) where
-  same_once : AskedReplies now line text is_kept next → AskedReplies now line other also_kept also → (is_kept ≡ also_kept) × (next ≡ also)
-  same_once (acted none is) (acted never are) =
-      let same = live s consistent to.0 to.1 to.2 now to.3 line text other is_kept also_kept next also is are in (same.1, same.2)
-  same_once (acted none is) (answered q puts are kept same) = absurd (none puts.asked puts.puts)
-  same_once (acted none is) (in_vain vain are kept same) = absurd (none vain.asked vain.puts)
-  same_once (answered q puts is kept same) (acted none are) = absurd (none puts.asked puts.puts)
-  same_once (in_vain vain is kept same) (acted none are) = absurd (none vain.asked vain.puts)
-  same_once (answered q puts is kept same) (answered r also_puts are stays equal) = (kept ∙ sym stays, same ∙ sym equal)
-  same_once (answered q puts is kept same) (in_vain vain are stays equal) = (kept ∙ sym stays, same ∙ sym equal)
-  same_once (in_vain vain is kept same) (answered r also_puts are stays equal) = (kept ∙ sym stays, same ∙ sym equal)
-  same_once (in_vain vain is kept same) (in_vain also_vain are stays equal) = (kept ∙ sym stays, same ∙ sym equal)
+  one_outcome : AskedReplies now line text is_kept next → AskedReplies now line other also_kept also → IsOneOutcome now line text other is_kept also_kept next also
+  one_outcome (acted none is) (acted never are) =
+      let same = live s consistent to.0 to.1 to.2 now to.3 line text other is_kept also_kept next also is are in
+      record { kept = same.1; store = same.2; reply = λ _. same.0 }
+  one_outcome (acted none is) (answered q puts are kept same) = absurd (none puts.asked puts.puts)
+  one_outcome (acted none is) (in_vain vain are kept same) = absurd (none vain.asked vain.puts)
+  one_outcome (answered q puts is kept same) (acted none are) = absurd (none puts.asked puts.puts)
+  one_outcome (in_vain vain is kept same) (acted none are) = absurd (none vain.asked vain.puts)
+  one_outcome (answered q puts is kept same) (answered r also_puts are stays equal) = record { kept = kept ∙ sym stays; store = same ∙ sym equal; reply = λ none. absurd (none q puts) }
+  one_outcome (answered q puts is kept same) (in_vain vain are stays equal) = record { kept = kept ∙ sym stays; store = same ∙ sym equal; reply = λ none. absurd (none q puts) }
+  one_outcome (in_vain vain is kept same) (answered r also_puts are stays equal) = record { kept = kept ∙ sym stays; store = same ∙ sym equal; reply = λ none. absurd (none r also_puts) }
+  one_outcome (in_vain vain is kept same) (in_vain also_vain are stays equal) = record { kept = kept ∙ sym stays; store = same ∙ sym equal; reply = λ _. is ∙ sym are }
 
 -- wherever lines lead
-pub asked_states : LiveRepliesAreOne → AskedStatesAreOne
-asked_states live s lines out acts now consistent there line text other is_kept also_kept next also is are =
-    same_once live s consistent now (comes_to lines s out acts now there) line text other is_kept also_kept next also is are
+pub asked_outcomes : LiveRepliesAreOne → AskedOutcomesAreOne
+asked_outcomes live s lines out acts now consistent there line text other is_kept also_kept next also is are =
+    one_outcome live s consistent now (comes_to lines s out acts now there) line text other is_kept also_kept next also is are

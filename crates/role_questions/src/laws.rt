@@ -1,4 +1,4 @@
-ghost use Rattle.role_questions.specs.AskedLaws.{AskedLinesKeepOrStay, AskedStatesAreOne};
+ghost use Rattle.role_questions.specs.AskedLaws.{AskedLinesKeepOrStay, AskedOutcomesAreOne};
 ghost use Rattle.role_questions.specs.Laws.{FormsAreEnabled, LinePutsOneQuestion};
 ghost use Rattle.role_questions.specs.Laws.{QuestionIsNoRequest};
 
@@ -20,10 +20,10 @@ pub fn question_is_one()
     spells_once();
 }
 
-/// A law: a line of an asked role is always kept or never, and one store comes after it, whatever
-/// it puts. A line that is kept has its LF, and each other leaves the store.
+/// A law: a line of an asked role is always kept or never, and one store comes after it. Its reply
+/// is one too, if it is no answer. A line that is kept has its LF, and each other leaves the store.
 pub fn asked_replies_are_determined()
-    ensures states { AskedStatesAreOne }
+    ensures outcomes { AskedOutcomesAreOne }
     ensures keeps { AskedLinesKeepOrStay }
 {
     // law: a line of a live role has one outcome

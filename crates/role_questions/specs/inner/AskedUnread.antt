@@ -32,5 +32,6 @@ unread_puts line (inr lacks) asked puts =
     (Contains-push puts.body 10) refl)
 
 -- so it is refused as by a live role
-pub asked_unread : LeavesUnread AskedReplies (λ (s : StoreState). reply_text s.protocol (Refused F1))
+pub asked_unread :
+    LeavesUnread AskedReplies (λ (s : StoreState). reply_text s.protocol (Refused F1))
 asked_unread s line unread = acted (unread_puts line unread) (live_unread s line unread)
