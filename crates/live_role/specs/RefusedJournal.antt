@@ -1,7 +1,7 @@
 -- When a journal is refused, and the line in which that is reported.
 use Rattle.std.specs.Prelude.{◌≡◌, ◌⊎◌, ℕ, ◌+◌, ◌==◌, List, ◌++◌, codes, length}
 use Rattle.std.specs.Fmt.{decimal}
-use Rattle.std.specs.declared.io.error.Error.{Error}
+use Rattle.std.specs.declared.io.Error.{Error}
 use Rattle.std.specs.List.{filter}
 use Rattle.bspl_types.specs.declared.expanded.Expanded.{Expanded}
 use Rattle.kept_lines.specs.declared.open_refusal.OpenRefusal.{OpenRefusal}

@@ -20,6 +20,7 @@ pub trait Journals {
 
     // The head, and the lines behind it.
     ghost found_head: { Self.Found → List ℕ };
+
     ghost found_lines: { Self.Found → List ℕ };
 
     // What is kept is synced, or is not.
