@@ -47,6 +47,7 @@ pub trait Journals {
 
 /// The journals in files.
 impl Journals for HostRuntime {
+    ghost use Rattle.std.specs.Prelude.{◌≡◌};
     ghost use Rattle.kept_lines.specs.Text.{AreTextLines};
 
     type Found = OpenedJournal;
