@@ -1,7 +1,5 @@
 """Files that are no journal of the role, and files that cannot be written."""
 import os
-import resource
-import signal
 import subprocess
 
 from .role import ROLE, TEXT, WIRE, Ended, Role, head, kept, rfq
@@ -90,13 +88,10 @@ def full(folder, numbers):
     """A file that may not grow: the line is not answered, the status is 8, and the next start has what was answered."""
     journal = made(folder, numbers)
     lines = kept(journal)
-
-    def limit():
-        signal.signal(signal.SIGXFSZ, signal.SIG_IGN)
-        resource.setrlimit(resource.RLIMIT_FSIZE, (len(head("S")) + len(b"".join(lines)) + 10,) * 2)
-
+    most = len(head("S")) + len(b"".join(lines)) + 10
+    limited = ["sh", "-c", 'trap "" XFSZ; exec prlimit "$0" "$@"', f"--fsize={most}"]
     given = TEXT + b"\n" + WIRE + rfq(next(numbers))
-    found = ends([ROLE, "Purchase", "S", "--journal", str(journal)], given, preexec_fn=limit)
+    found = ends([*limited, ROLE, "Purchase", "S", "--journal", str(journal)], given)
     if found != (8, b""):
         yield f"a file that may not grow: {found}, and not the status 8"
     role = Role("S", journal)
