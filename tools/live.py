@@ -15,6 +15,7 @@ import threading
 from pathlib import Path
 
 from faults import PING
+from repository import TOP
 from rows import rows, without_evidence
 
 # how long the reply to a line may take
@@ -151,6 +152,24 @@ def wrong_restart(paths):
     return None
 
 
+def wrong_tutorial(path):
+    """The lines and replies of the tutorial's last section: a buyer asks, sends, is killed, and still knows it."""
+    page = (TOP / "docs/TUTORIAL.md").read_text().rpartition("\n## ")[2]
+    asked, replied = (block.encode().splitlines(keepends=True) for block in re.findall(r"```json\n(.*?)```", page, re.S))
+    question, known = (line.encode() + b"\n" for line in re.findall(r"`(\{.known.*?)`", page))
+    opening = (TOP / "examples/Purchase.bspl").read_bytes() + WIRE
+    with tempfile.TemporaryDirectory() as folder:
+        args = ["Purchase", "B", "--journal", str(Path(folder) / "B.journal")]
+        buyer = Role(path, args)
+        found = [buyer.reply_to(opening + asked[0]), *map(buyer.reply_to, asked[1:])]
+        buyer.process.kill()
+        buyer.process.wait()
+        buyer = Role(path, args)
+        found += [buyer.reply_to(opening + question), buyer.end()]
+    wanted = [*replied, known, (0, b"")]
+    return None if found == wanted else f"bspl_role, the tutorial: {found}, and not {wanted}"
+
+
 def is_on_whole_lines(row):
     """Whether the row's lines and replies can be paired: a role line, and a reply for each line after it."""
     text, found, wire = row.given.partition(WIRE)
@@ -194,4 +213,5 @@ def trials(paths):
     yield lambda: wrong_cut_input(path)
     yield lambda: wrong_cut_output(path)
     yield lambda: wrong_restart(paths)
+    yield lambda: wrong_tutorial(path)
     yield from endings(path, all_rows)
