@@ -43,7 +43,7 @@ def at_random(folder, kills, numbers):
         except Ended:
             yield f"kill {count}: the role does not start again"
             return
-        timer = threading.Timer(chance.uniform(0, 0.02), role.process.kill)
+        timer = threading.Timer(chance.uniform(0, 0.05), role.process.kill)
         timer.start()
         asked_until_killed(role, chance, numbers, answered)
         timer.join()

@@ -7,7 +7,7 @@ import time
 from collections import deque
 from pathlib import Path
 
-from .role import BSPL, IDLE, TEXT, TOP, Ended, Role, emit, head, kept, receive
+from .role import BSPL, TEXT, TOP, Ended, Role, emit, head, kept, receive
 
 sys.path.insert(0, str(TOP / "examples/agents"))
 import history  # noqa: E402
@@ -116,6 +116,7 @@ def played(folder, purchases, seconds=300):
     yield from game.wrong
     if game.ended < purchases:
         yield f"only {game.ended} of {purchases} purchases ended"
-    if b"consistent" not in audited(game.players).splitlines()[-1:] and b"\nconsistent" not in audited(game.players):
-        yield f"the audit of the journals: {audited(game.players)[:200]}"
+    answer = audited(game.players)
+    if not answer.startswith(b"consistent\n"):
+        yield f"the audit of the journals: {answer[:200]}"
     print(f"{game.ended} purchases ended in {took:.1f} s, with {turn} kills", flush=True)
