@@ -11,9 +11,10 @@ Purchase is a fresh receipt under a key of its own. Of each line of the table th
   first over the last should be at least 3.
 - PIPED (400000) lines at once: lines a second with a journal and without one, and the ratio, which should be at least
   0.7; and rows a second of SQLite in transactions of 400 rows.
-- a start over a journal of EVENTS (1000000) events: seconds and megabytes, which should be at most 4 and 300.
-- ALONE questions `enabled` over a tenth of those events, each asked when the one before has its reply: the median and
-  the slowest hundredth, in microseconds. The median should be at most 100.
+- a start over a journal of EVENTS (1000000) events, four under a key: seconds and megabytes, which should be at most 4
+  and 300.
+- ALONE questions `enabled` of that role, each asked when the one before has its reply: the median and the slowest
+  hundredth, in microseconds. The median should be at most 100.
 
 BSPL_ROLE names the program (crates/bspl_role/out/bspl_role).
 """
@@ -42,6 +43,14 @@ def rfq(n):
     values = {"ID": str(n), "item": '"fig"'}
     asked = {"receive": {"message": "rfq", "number": n, "stamp": n, "values": values}}
     return json.dumps(asked, separators=(",", ":")).encode() + b"\n"
+
+
+def four(n):
+    """The lines of four events under the key of the number."""
+    values = {"ID": str(n), "item": '"fig"', "price": "40", "address": '"Hill"', "response": '"yes"'}
+    accept = {"receive": {"message": "accept", "number": n, "stamp": n, "values": values}}
+    quote, ship = ({"emit": {"key": [str(n)], "message": name, "outs": outs}} for name, outs in (("quote", ["40"]), ("ship", [])))
+    return rfq(n) + b"".join(json.dumps(asked, separators=(",", ":")).encode() + b"\n" for asked in (quote, accept, ship))
 
 
 def enabled(n):
@@ -143,15 +152,15 @@ def start_table(folder):
     journal, given = folder / "events", folder / "events.lines"
     with given.open("wb") as lines:
         lines.write(OPENING)
-        for n in range(EVENTS):
-            lines.write(rfq(n))
+        for n in range(EVENTS // 4):
+            lines.write(four(n))
     once([ROLE, "Purchase", "S", "--journal", str(journal), "--no-sync"], given)
     run = min((once([ROLE, "Purchase", "S", "--journal", str(journal)], OPENING) for _ in range(RUNS)), key=lambda it: it.seconds)
     print(f"a start with {EVENTS} events: {run.seconds:.2f} s (at most 4), {run.megabytes:.0f} MB (at most 300); "
           f"{journal.stat().st_size / EVENTS:.0f} bytes of journal an event", flush=True)
     role = Alone(["--journal", str(journal)])
     role.seconds(enabled(0))
-    took = sorted(1e6 * role.seconds(enabled(7 * n % EVENTS)) for n in range(ALONE))
+    took = sorted(1e6 * role.seconds(enabled(7 * n % (EVENTS // 4))) for n in range(ALONE))
     role.end()
     print(f"enabled, alone: median {statistics.median(took):.0f} us (at most 100), slowest hundredth {took[-ALONE // 100]:.0f} us")
 
