@@ -20,7 +20,7 @@ from rows import rows, without_evidence
 
 # how long the reply to a line may take
 SECONDS = 1
-# how long a role may take to end by itself, on a machine that is at work
+# how long a role may take to end by itself, or to open and sync a journal, on a machine that is at work
 END_SECONDS = 20
 WIRE = b"%% wire\n"
 # the opening of a role of Ping, a line for it, and the reply
@@ -47,12 +47,12 @@ class Role:
             self.lines.put(line)
         self.lines.put(b"")
 
-    def reply_to(self, line):
+    def reply_to(self, line, seconds=SECONDS):
         """Writes the line, and gives the next line of the role; no bytes at the end, or if none came in time."""
         self.process.stdin.write(line)
         self.process.stdin.flush()
         try:
-            return self.lines.get(timeout=SECONDS)
+            return self.lines.get(timeout=seconds)
         except queue.Empty:
             return b""
 
@@ -137,11 +137,11 @@ def wrong_restart(paths):
         journal = Path(folder) / "A.journal"
         args = ["Ping", "A", "--journal", str(journal)]
         first = Role(paths["bspl_role"], args)
-        found = [first.reply_to(OPENING + EMIT), first.reply_to(EMIT)]
+        found = [first.reply_to(OPENING + EMIT, END_SECONDS), first.reply_to(EMIT, END_SECONDS)]
         first.process.kill()
         first.process.wait()
         again = Role(paths["bspl_role"], args)
-        found += [again.reply_to(OPENING + EMIT), *again.end()]
+        found += [again.reply_to(OPENING + EMIT, END_SECONDS), *again.end()]
         text = journal.read_bytes().split(b"\0", 1)[0]
         served = subprocess.run([paths["bspl"], "serve", "Ping"], input=text, stdout=subprocess.PIPE, check=False)
     wanted = [SENT, blocked, blocked, 0, b""]
@@ -161,11 +161,12 @@ def wrong_tutorial(path):
     with tempfile.TemporaryDirectory() as folder:
         args = ["Purchase", "B", "--journal", str(Path(folder) / "B.journal")]
         buyer = Role(path, args)
-        found = [buyer.reply_to(opening + asked[0]), *map(buyer.reply_to, asked[1:])]
+        found = [buyer.reply_to(opening + asked[0], END_SECONDS)]
+        found += [buyer.reply_to(line, END_SECONDS) for line in asked[1:]]
         buyer.process.kill()
         buyer.process.wait()
         buyer = Role(path, args)
-        found += [buyer.reply_to(opening + question), buyer.end()]
+        found += [buyer.reply_to(opening + question, END_SECONDS), buyer.end()]
     wanted = [*replied, known, (0, b"")]
     return None if found == wanted else f"bspl_role, the tutorial: {found}, and not {wanted}"
 
